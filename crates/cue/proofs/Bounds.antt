@@ -1,0 +1,353 @@
+-- How large results are, in multiples of the limit L on entries. A star entry adds up fewer than n rules, the rest adds up along the
+-- definitions. With six triggers at most: powers k L, star 5L, d 6L, r −6L to L, Δ −3L to 8L, w −15L to L, candidates before the
+-- shift −21L to 7L, lines −28L to 0.
+use mathlib.Core.Path.{_≡_, refl, sym, subst}
+use mathlib.Core.Logic.{inl, inr}
+use mathlib.Core.List.{List}
+use Prim.Native.Nat.{ℕ, zero, suc, _+_, _*_, _^_, _≤_, _<_}
+use native.Mathlib.Omega.{arith}
+use native.Mathlib.Nat.{mul-le-mul-right}
+use lib.IntN.{ℤ, pos, negsuc}
+use Rattle.maxplus.specs.Whole.{up, dn, _+z_, neg}
+use Rattle.maxplus.specs.Entry.{E, absent, num, _≼_, _⊗_, _⊕_, inv, unit, val}
+use Rattle.maxplus.specs.Finite.{In}
+use Rattle.maxplus.specs.Tables.{sup, supL, mv, mm, idm, power, star, NoGain, normal}
+use Rattle.maxplus.specs.Line.{Line, at}
+use Rattle.maxplus.proofs.WholeLaws.{up-add, up-neg}
+use Rattle.maxplus.proofs.EntryLaws.{_▸_, ≼-anti, ≼-of, ≼-back, ⊕-or, ⊗-absent, ⊗-nothing, num-⊗, inv-num, absent-not, num-inj}
+use Rattle.maxplus.proofs.SupLaws.{sup-ub, sup-at, supL-ub, supL-at}
+use Rattle.maxplus.proofs.TableLaws.{idm-or}
+use Rattle.maxplus.proofs.LineLaws.{at-line}
+use Rattle.cue.specs.Meaning.{Tables, timing, overdue}
+use Rattle.cue.specs.Method.{Selection, through, pullE, pull, mark, leastE, least, ask, selections, need, seed, ray, candidate}
+use Rattle.cue.specs.Method.{candidates, lines}
+use Rattle.cue.proofs.Deviation.{overdue-at, pull-is, due-pull, mv-through, mark-keeps}
+use Rattle.cue.proofs.Candidates.{candidate-of, candidates-normal, selection-trigger, selection-panel, need-mark, ray-overdue}
+use Rattle.cue.proofs.Extreme.{in-lines}
+
+-- −k ≤ a, and a ≤ k, where a is there
+pub record Above (k : ℕ) (a : E) : Type 0 where
+  pub above : (z : ℤ) → a ≡ num z → dn z ≤ k + up z
+
+pub record Below (k : ℕ) (a : E) : Type 0 where
+  pub below : (z : ℤ) → a ≡ num z → up z ≤ k + dn z
+
+pub record Within (k l : ℕ) (a : E) : Type 0 where
+  pub low : Above k a
+  pub high : Below l a
+
+above-num : {k : ℕ} (z : ℤ) → dn z ≤ k + up z → Above k (num z)
+above-num {k} z h = record { above = λ y e. subst (λ y. dn y ≤ k + up y) (num-inj e) h }
+
+below-num : {k : ℕ} (z : ℤ) → up z ≤ k + dn z → Below k (num z)
+below-num {k} z h = record { below = λ y e. subst (λ y. up y ≤ k + dn y) (num-inj e) h }
+
+above-absent : (k : ℕ) → Above k absent
+above-absent k = record { above = λ z e. absurd (absent-not e) }
+
+below-absent : (k : ℕ) → Below k absent
+below-absent k = record { below = λ z e. absurd (absent-not e) }
+
+pub above-more : {k l : ℕ} {a : E} → k ≤ l → Above k a → Above l a
+above-more h b = record { above = λ z e. let t = b .above z e in omega arith }
+
+pub below-more : {k l : ℕ} {a : E} → k ≤ l → Below k a → Below l a
+below-more h b = record { below = λ z e. let t = b .below z e in omega arith }
+
+above-⊗ : {k l : ℕ} (a b : E) → Above k a → Above l b → Above (k + l) (a ⊗ b)
+above-⊗ {k} {l} absent b h i = rw ⊗-nothing (above-absent _)
+above-⊗ {k} {l} (num a) absent h i = rw ⊗-absent (above-absent _)
+above-⊗ {k} {l} (num a) (num b) h i = rw num-⊗ (above-num (a +z b) (omega (arith, h .above a refl, i .above b refl, up-add a b)))
+
+below-⊗ : {k l : ℕ} (a b : E) → Below k a → Below l b → Below (k + l) (a ⊗ b)
+below-⊗ {k} {l} absent b h i = rw ⊗-nothing (below-absent _)
+below-⊗ {k} {l} (num a) absent h i = rw ⊗-absent (below-absent _)
+below-⊗ {k} {l} (num a) (num b) h i = rw num-⊗ (below-num (a +z b) (omega (arith, h .below a refl, i .below b refl, up-add a b)))
+
+above-inv : {k : ℕ} (a : E) → Below k a → Above k (inv a)
+above-inv absent h = unfold inv in above-absent _
+above-inv (num a) h = rw inv-num (above-num (neg a) (omega (arith, h .below a refl, up-neg a)))
+
+below-inv : {k : ℕ} (a : E) → Above k a → Below k (inv a)
+below-inv absent h = unfold inv in below-absent _
+below-inv (num a) h = rw inv-num (below-num (neg a) (omega (arith, h .above a refl, up-neg a)))
+
+above-neg : {k : ℕ} (a : ℤ) → Below k (num a) → Above k (num (neg a))
+above-neg a h = above-num (neg a) (omega (arith, h .below a refl, up-neg a))
+
+below-neg : {k : ℕ} (a : ℤ) → Above k (num a) → Below k (num (neg a))
+below-neg a h = below-num (neg a) (omega (arith, h .above a refl, up-neg a))
+
+above-val : {k : ℕ} (a : E) → Above k a → Above k (num (val a))
+unfolding val
+above-val absent h = above-num (pos 0) (omega arith)
+above-val (num a) h = h
+
+below-val : {k : ℕ} (a : E) → Below k a → Below k (num (val a))
+unfolding val
+below-val absent h = below-num (pos 0) (omega arith)
+below-val (num a) h = h
+
+-- what is above something that is above −k is above −k
+above-≼ : {k : ℕ} {z : ℤ} (a : E) → num z ≼ a → Above k (num z) → Above k a
+above-≼ absent h b = absurd (h .un)
+above-≼ {k} {z} (num a) h b = let l = h .un in above-num a (omega (arith, l, b .above z refl))
+
+-- a largest is one of its parts
+above-sup : (n : ℕ) {k : ℕ} (f : ℕ → E) → ((j : ℕ) → j < n → Above k (f j)) → Above k (sup n f)
+above-sup n f h = record { above = λ z e. let (j, hj, r) = sup-at n f (≼-back e) in h j hj .above z (≼-anti (sup-ub n f j hj ▸ ≼-of e) r) }
+
+below-sup : (n : ℕ) {k : ℕ} (f : ℕ → E) → ((j : ℕ) → j < n → Below k (f j)) → Below k (sup n f)
+below-sup n f h = record { below = λ z e. let (j, hj, r) = sup-at n f (≼-back e) in h j hj .below z (≼-anti (sup-ub n f j hj ▸ ≼-of e) r) }
+
+above-supL : {A : Type 0} (l : List A) {k : ℕ} (f : A → E) → ((a : A) → In a l → Above k (f a)) → Above k (supL l f)
+above-supL l f h = record {
+  above = λ z e. let (a, ha, r) = supL-at l f (≼-back e) in
+      h a ha .above z (≼-anti (supL-ub l f a ha ▸ ≼-of e) r);
+}
+
+above-⊕ : {k : ℕ} (a b : E) → Above k a → Above k b → Above k (a ⊕ b)
+above-⊕ a b h i = elim (⊕-or a b) [ inl e ↦ rw e h | inr e ↦ rw e i ]
+
+idm-above : (i j : ℕ) → Above 0 (idm i j)
+idm-above i j = elim (idm-or i j) [ inl e ↦ rw e (above-num (pos 0) (omega arith)) | inr e ↦ rw e (above-absent 0) ]
+
+idm-below : (i j : ℕ) → Below 0 (idm i j)
+idm-below i j = elim (idm-or i j) [ inl e ↦ rw e (below-num (pos 0) (omega arith)) | inr e ↦ rw e (below-absent 0) ]
+
+times-le : (k m L : ℕ) → k ≤ m → k * L ≤ m * L
+times-le k m L h = mul-le-mul-right L h
+
+-- every entry that is there lies from −L to L
+pub record Limited (n : ℕ) (L : ℕ) (P : Tables) : Type 0 where
+  pub lags : (i j : ℕ) → i < P .panels → j < n → Within L L (P .lag i j)
+  pub floors : (i : ℕ) → i < P .panels → Within L L (P .floor i)
+  pub dues : (j : ℕ) → j < n → Within L L (num (P .due j))
+  pub afters : (i j : ℕ) → i < n → j < n → Within L L (P .after i j)
+
+-- at most m + 1 triggers; N below is m + 1
+module _ (n m L : ℕ) (P : Tables) (l : Limited n L P) (few : n ≤ suc m) where
+  open Tables P using (panels, lag, floor, due, after)
+
+  -- before any check of circles: a power adds up that many entries
+  pub power-within : (k i j : ℕ) → i < n → j < n → Within (k * L) (k * L) (power n after k i j)
+  unfolding power mm
+  power-within zero i j hi hj = record { low = above-more (omega arith) (idm-above i j); high = below-more (omega arith) (idm-below i j) }
+  power-within (suc k) i j hi hj =
+      record {
+        low = above-sup n _ (λ h hh. above-more (omega arith)
+            (above-⊗ (after i h) (power n after k h j) (l .afters i h hi hh .low) (power-within k h j hh hj .low)));
+        high = below-sup n _ (λ h hh. below-more (omega arith)
+            (below-⊗ (after i h) (power n after k h j) (l .afters i h hi hh .high) (power-within k h j hh hj .high)));
+      }
+
+  pub star-within : (i j : ℕ) → i < n → j < n → Within (m * L) (m * L) (star n after i j)
+  unfolding star
+  star-within i j hi hj =
+      record {
+        low = above-sup n _ (λ k hk. above-more (times-le k m L (omega arith)) (power-within k i j hi hj .low));
+        high = below-sup n _ (λ k hk. below-more (times-le k m L (omega arith)) (power-within k i j hi hj .high));
+      }
+
+  pub through-within : (i j : ℕ) → i < panels → j < n → Within (m * L + L) (m * L + L) (through n P i j)
+  unfolding through mm
+  through-within i j hi hj =
+      record {
+        low = above-sup n _ (λ k hk. above-more (omega arith)
+            (above-⊗ (lag i k) (star n after k j) (l .lags i k hi hk .low) (star-within k j hk hj .low)));
+        high = below-sup n _ (λ k hk. below-more (omega arith)
+            (below-⊗ (lag i k) (star n after k j) (l .lags i k hi hk .high) (star-within k j hk hj .high)));
+      }
+
+  -- r = −pull, from −NL to L
+  pub pull-within : (j : ℕ) → j < n → Within L (m * L + L) (num (pull n P j))
+  pull-within j hj =
+      record {
+        low = above-≼ (num (pull n P j)) (due-pull n P j hj) (above-neg (due j) (l .dues j hj .high));
+        high = subst (λ a. Below (m * L + L) a) (pull-is n P j hj)
+            (unfold pullE overdue in below-sup n _
+            (λ i hi. below-⊗ (star n after i j) (num (neg (due i))) (star-within i j hi hj .high) (below-neg (due i) (l .dues i hi .low))));
+      }
+
+  module _ (np : NoGain n after) where
+    mark-landing : (i : ℕ) → i < panels → Within (m * L + 2 * L) (2 * L) (mv n (through n P) (timing (mark n P)) i)
+    mark-landing i hi = rw (← mv-through n P (timing (mark n P)) (mark-keeps n P np) i) (unfold mv in (
+        record {
+          low = above-sup n _ (λ j hj. above-more (omega arith)
+              (above-⊗ (lag i j) (num (neg (pull n P j))) (l .lags i j hi hj .low) (above-neg (pull n P j) (pull-within j hj .high))));
+          high = below-sup n _ (λ j hj. below-more (omega arith)
+              (below-⊗ (lag i j) (num (neg (pull n P j))) (l .lags i j hi hj .high) (below-neg (pull n P j) (pull-within j hj .low))));
+        }))
+
+    -- Δ, from −3L to (N + 2)L
+    pub least-within : Within (3 * L) (m * L + 3 * L) (num (least n P))
+    unfolding least leastE
+    least-within =
+        record {
+          low = above-val _ (above-sup panels _
+              (λ i hi. above-more (omega arith)
+              (above-⊗ (floor i) (inv (mv n (through n P) (timing (mark n P)) i)) (l .floors i hi .low)
+              (above-inv _ (mark-landing i hi .high)))));
+          high = below-val _ (below-sup panels _
+              (λ i hi. below-more (omega arith)
+              (below-⊗ (floor i) (inv (mv n (through n P) (timing (mark n P)) i)) (l .floors i hi .high)
+              (below-inv _ (mark-landing i hi .low)))));
+        }
+
+    abbrev D : ℤ
+    D = least n P
+
+    module _ (s : Selection) (hs : In s (selections n P D)) where
+      -- w, from −(2N + 3)L to L
+      pub need-within : (t : ℕ) → t < n → Within (2 * (m * L) + 5 * L) L (need n P D s t)
+      need-within t ht =
+          record {
+            low = unfold need in above-supL s _
+                (λ f q. above-more (omega arith)
+                (above-⊗ (idm (f .1) t) (ask n P D (f .0) ⊗ inv (through n P (f .0) (f .1))) (idm-above (f .1) t)
+                (fixing (f .0) (f .1) (fixed-panels f q) (fixed-trigger f q))));
+            high = up-to (need n P D s t) (pull n P t) (need-mark n P D s hs t) (pull-within t ht .low);
+          }
+        where
+          fixed-panels : (f : ℕ × ℕ) → In f s → f .0 < panels
+          fixed-panels f q = selection-panel n P D s hs (f .0) (f .1) q
+
+          fixed-trigger : (f : ℕ × ℕ) → In f s → f .1 < n
+          fixed-trigger f q = selection-trigger n P D s hs (f .0) (f .1) q
+
+          fixing : (i j : ℕ) → i < panels → j < n → Above (2 * (m * L) + 5 * L) (ask n P D i ⊗ inv (through n P i j))
+          fixing i j hi hj = above-more (omega arith)
+              (above-⊗ (ask n P D i) (inv (through n P i j))
+              (above-⊗ (floor i) (num (neg D)) (l .floors i hi .low) (above-neg D (least-within .high)))
+              (above-inv _ (through-within i j hi hj .high)))
+
+          up-to : (w : E) (r : ℤ) → w ⊗ num r ≼ unit → Above L (num r) → Below L w
+          up-to absent r h b = below-absent _
+          up-to (num w) r h b = let k = (rw num-⊗ at h) .un in below-num w (omega (arith, k, up-add w r, b .above r refl))
+
+      -- candidates before the shift, from −(3N + 3)L to (N + 1)L
+      pub ray-within : (t i : ℕ) → t < n → i < n → Within (3 * (m * L) + 6 * L) (m * L + 2 * L) (ray n P D s t i)
+      ray-within t i ht hi =
+          record {
+            low = unfold ray mv in above-sup n _
+                (λ j hj. above-more (omega arith)
+                (above-⊗ (star n after i j) (seed n P D s t j) (star-within i j hi hj .low) (seed-above j hj)));
+            high = up-to (ray n P D s t i) (due i) (overdue-at n due (ray n P D s t) i hi ▸
+                ray-overdue n P D s hs t) (l .dues i hi .high) (pull-within t ht .high);
+          }
+        where
+          seed-above : (j : ℕ) → j < n → Above (2 * (m * L) + 6 * L) (seed n P D s t j)
+          seed-above j hj = unfold seed in
+              above-⊕ (idm t j) (need n P D s j ⊗ num (pull n P t)) (above-more (omega arith) (idm-above t j))
+              (above-more (omega arith) (above-⊗ (need n P D s j) (num (pull n P t)) (need-within j hj .low) (pull-within t ht .low)))
+
+          up-to : (x : E) (q : ℤ) {g : ℤ} → x ⊗ num (neg q) ≼ num g → Below L (num q) → Below (m * L + L) (num g) → Below (m * L + 2 * L) x
+          up-to absent q h a b = below-absent _
+          up-to (num x) q {g} h a b = let k = (rw num-⊗ at h) .un in
+              below-num x (omega (arith, k, up-neg q, up-add x (neg q), a .below q refl, b .below g refl))
+
+    -- every candidate, and so every line, from −(4N + 4)L to 0
+    pub candidate-within : (c : Line n) → In c (candidates n P D) → (i : ℕ) → i < n → Within (4 * (m * L) + 8 * L) 0 (at n c i)
+    candidate-within c hc i hi =
+        let (t, s, ht, hs, e) = candidate-of n P D c hc in
+        record {
+          low = subst (λ c. Above (4 * (m * L) + 8 * L) (at n c i)) (sym e) (low t s ht hs);
+          high = high (at n c i) (candidates-normal n P D c hc .low i hi);
+        }
+      where
+        low : (t : ℕ) (s : Selection) → t < n → In s (selections n P D) → Above (4 * (m * L) + 8 * L) (at n (candidate n P D s t) i)
+        low t s ht hs = unfold candidate in (rw (at-line n (normal n (ray n P D s t)) i hi) (unfold normal in
+            above-more (omega arith) (above-⊗ (inv (sup n (ray n P D s t))) (ray n P D s t i)
+            (above-inv _ (below-sup n _ (λ j hj. ray-within s hs t j ht hj .high))) (ray-within s hs t i ht hi .low))))
+
+        high : (a : E) → a ≼ unit → Below 0 a
+        high absent h = below-absent _
+        high (num a) h = let k = h .un in below-num a (omega arith)
+
+    pub line-within : (c : Line n) → In c (lines n P) → (i : ℕ) → i < n → Within (4 * (m * L) + 8 * L) 0 (at n c i)
+    line-within c hc = candidate-within c (in-lines n P c .0 hc .0)
+
+-- ---- at most six triggers
+within-more : {k l k' l' : ℕ} {a : E} → k ≤ k' → l ≤ l' → Within k l a → Within k' l' a
+within-more h i w = record { low = above-more h (w .low); high = below-more i (w .high) }
+
+module _ (n L : ℕ) (P : Tables) (l : Limited n L P) (six : n ≤ 6) where
+  open Tables P using (panels, lag, floor, due, after)
+
+  pub star-six : (i j : ℕ) → i < n → j < n → Within (5 * L) (5 * L) (star n after i j)
+  star-six = star-within n 5 L P l six
+
+  pub through-six : (i j : ℕ) → i < panels → j < n → Within (6 * L) (6 * L) (through n P i j)
+  through-six i j hi hj = within-more (omega arith) (omega arith) (through-within n 5 L P l six i j hi hj)
+
+  pub pull-six : (j : ℕ) → j < n → Within (1 * L) (6 * L) (num (pull n P j))
+  pull-six j hj = within-more (omega arith) (omega arith) (pull-within n 5 L P l six j hj)
+
+  pub mark-six : (j : ℕ) → j < n → Within (6 * L) (1 * L) (num (mark n P j))
+  mark-six j hj = let w = pull-six j hj in record { low = above-neg (pull n P j) (w .high); high = below-neg (pull n P j) (w .low) }
+
+  module _ (np : NoGain n after) where
+    pub least-six : Within (3 * L) (8 * L) (num (least n P))
+    least-six = within-more (omega arith) (omega arith) (least-within n 5 L P l six np)
+
+    pub need-six : (s : Selection) → In s (selections n P (least n P)) → (t : ℕ) → t < n → Within (15 * L) (1 * L) (need n P (least n P) s t)
+    need-six s hs t ht = within-more (omega arith) (omega arith) (need-within n 5 L P l six np s hs t ht)
+
+    pub ray-six : (s : Selection) → In s (selections n P (least n P)) → (t i : ℕ) → t < n → i < n →
+        Within (21 * L) (7 * L) (ray n P (least n P) s t i)
+    ray-six s hs t i ht hi = within-more (omega arith) (omega arith) (ray-within n 5 L P l six np s hs t i ht hi)
+
+    pub line-six : (c : Line n) → In c (lines n P) → (i : ℕ) → i < n → Within (28 * L) (0 * L) (at n c i)
+    line-six c hc i hi = within-more (omega arith) (omega arith) (line-within n 5 L P l six np c hc i hi)
+
+-- each finite result of the method, with how far down and how far up it goes, in limits: K k l a says of a that −k to l holds it
+pub record Results (K : ℕ → ℕ → E → Type 0) (n : ℕ) (P : Tables) : Type 0 where
+  pub powers : (k i j : ℕ) → k ≤ 6 → i < n → j < n → K k k (power n (P .after) k i j)
+  pub stars : (i j : ℕ) → i < n → j < n → K 5 5 (star n (P .after) i j)
+  pub throughs : (i j : ℕ) → i < P .panels → j < n → K 6 6 (through n P i j)
+  pub marks : (j : ℕ) → j < n → K 6 1 (num (mark n P j))
+  pub deviation : K 3 8 (num (least n P))
+  pub needs : (s : Selection) → In s (selections n P (least n P)) → (t : ℕ) → t < n → K 15 1 (need n P (least n P) s t)
+  pub rays : (s : Selection) → In s (selections n P (least n P)) → (t i : ℕ) → t < n → i < n → K 21 7 (ray n P (least n P) s t i)
+  pub components : (c : Line n) → In c (lines n P) → (i : ℕ) → i < n → K 28 0 (at n c i)
+
+abbrev pub Limits : ℕ → ℕ → ℕ → E → Type 0
+Limits L k l a = Within (k * L) (l * L) a
+
+pub results-six : (n : ℕ) (P : Tables) → NoGain n (P .after) → (L : ℕ) → Limited n L P → n ≤ 6 → Results (Limits L) n P
+results-six n P np L l six =
+    record {
+      powers = λ k i j hk hi hj. power-within n 5 L P l six k i j hi hj;
+      stars = star-six n L P l six;
+      throughs = through-six n L P l six;
+      marks = mark-six n L P l six;
+      deviation = least-six n L P l six np;
+      needs = need-six n L P l six np;
+      rays = ray-six n L P l six np;
+      components = line-six n L P l six np;
+    }
+
+-- ---- signed 32 bits: −2³¹ < z < 2³¹, so that the least such number is free to stand for absent
+pub record Signed32 (a : E) : Type 0 where
+  pub fits : (z : ℤ) → a ≡ num z → (up z < 2 ^ 31) × (dn z < 2 ^ 31)
+
+signed32 : (k l : ℕ) {a : E} → k ≤ 28 → l ≤ 28 → Limits 100000 k l a → Signed32 a
+signed32 k l {a} hk hl w = record { fits = λ z e. go z (w .low .above z e) (w .high .below z e) }
+  where
+    go : (z : ℤ) → dn z ≤ k * 100000 + up z → up z ≤ l * 100000 + dn z → (up z < 2 ^ 31) × (dn z < 2 ^ 31)
+    go (pos z) h i = (omega arith, omega arith)
+    go (negsuc z) h i = (omega arith, omega arith)
+
+pub results-32 : (n : ℕ) (P : Tables) → NoGain n (P .after) → Limited n 100000 P → n ≤ 6 → Results (λ k l. Signed32) n P
+results-32 n P np l six =
+    let r = results-six n P np 100000 l six in
+    record {
+      powers = λ k i j hk hi hj. signed32 k k (omega arith) (omega arith) (r .powers k i j hk hi hj);
+      stars = λ i j hi hj. signed32 5 5 (omega arith) (omega arith) (r .stars i j hi hj);
+      throughs = λ i j hi hj. signed32 6 6 (omega arith) (omega arith) (r .throughs i j hi hj);
+      marks = λ j hj. signed32 6 1 (omega arith) (omega arith) (r .marks j hj);
+      deviation = signed32 3 8 (omega arith) (omega arith) (r .deviation);
+      needs = λ s hs t ht. signed32 15 1 (omega arith) (omega arith) (r .needs s hs t ht);
+      rays = λ s hs t i ht hi. signed32 21 7 (omega arith) (omega arith) (r .rays s hs t i ht hi);
+      components = λ c hc i hi. signed32 28 0 (omega arith) (omega arith) (r .components c hc i hi);
+    }

@@ -1,0 +1,74 @@
+-- Three small sheets, computed from the definitions: what they give is what a changed definition would not.
+use mathlib.Core.Path.{_≡_, refl}
+use mathlib.Core.List.{List, [], _∷_}
+use Prim.Native.Nat.{ℕ, zero, suc}
+use native.Mathlib.Decide.{decLe}
+use lib.IntN.{ℤ, pos, negsuc}
+use lib.ListN.{length}
+use Rattle.maxplus.specs.Whole.{_+z_, neg, maxz}
+use Rattle.maxplus.specs.Entry.{E, absent, num, _⊗_, _⊕_, inv, unit, val}
+use Rattle.maxplus.specs.Finite.{each, mapL, sum}
+use Rattle.maxplus.specs.Tables.{sup, supL, Vec, Mat, mv, mm, idm, power, star, normal}
+use Rattle.maxplus.specs.Line.{Line, at, line}
+use Rattle.maxplus.specs.Sorted.{put, sift}
+use Rattle.maxplus.proofs.WholeLaws.{z-dec}
+use Rattle.maxplus.proofs.EntryLaws.{≼-dec, present-dec}
+use Rattle.maxplus.proofs.FiniteLaws.{all-or, all-dec, any-dec, dec-×, dec-¬, dec-→}
+use Rattle.maxplus.proofs.LineLaws.{ltE-cmp, ltL-cmp, strict, same?}
+use Rattle.maxplus.proofs.CombinationLaws.{under-dec, met?, asked?, combination?}
+use Rattle.generators.specs.Minimal.{others, needed?, minimal}
+use Rattle.cue.specs.Meaning.{Tables, overdue}
+use Rattle.cue.specs.Method.{through, pullE, pull, leastE, least, floor-panels, serves-as-well, cut, walk, fixings, kept, kept-byte}
+use Rattle.cue.specs.Method.{selections, steps, need, seed, ray, candidate, candidates, lines}
+
+-- row 1, 2, … of entries; what is not written is absent
+abbrev row : List E → Vec
+row [] i = absent
+row (a ∷ l) zero = a
+row (a ∷ l) (suc i) = row l i
+
+abbrev table : List (List E) → Mat
+table [] i = λ j. absent
+table (r ∷ t) zero = row r
+table (r ∷ t) (suc i) = table t i
+
+-- lags, floors and after rules; every due mark is 0
+abbrev sheet : List (List E) → List E → List (List E) → Tables
+sheet a p b = record { panels = length a; lag = table a; floor = row p; due = λ j. pos 0; after = table b }
+
+-- Δ, each panel's kept triggers, steps, the number of selections, the lines
+abbrev Shown : ℕ → Type 0
+Shown n = ℤ × List ℕ × ℕ × ℕ × List (Line n)
+
+abbrev shown : (n : ℕ) → Tables → Shown n
+shown n P = (
+  least n P,
+  each (P .panels) (λ i. kept-byte n P (least n P) i ∷ []),
+  steps n P (least n P),
+  length (selections n P (least n P)),
+  lines n P,
+)
+
+abbrev zero-lag : E
+zero-lag = num (pos 0)
+
+-- two panels that ask the same of two equal triggers: a trigger that serves the second as well as the first is taken for both
+abbrev alike : Tables
+alike = sheet ((zero-lag ∷ zero-lag ∷ []) ∷ (zero-lag ∷ zero-lag ∷ []) ∷ []) (zero-lag ∷ zero-lag ∷ []) []
+
+-- panel 2 has no floor
+abbrev one-floor : Tables
+one-floor = sheet ((zero-lag ∷ absent ∷ []) ∷ (absent ∷ zero-lag ∷ []) ∷ []) (zero-lag ∷ absent ∷ []) []
+
+-- trigger 1 comes 1 after trigger 2, and only trigger 2 reaches the panel: the rays of both triggers are one line
+abbrev followed : Tables
+followed = sheet ((absent ∷ zero-lag ∷ []) ∷ []) (zero-lag ∷ []) ((absent ∷ num (pos 1) ∷ []) ∷ [])
+
+computed : (shown 2 alike ≡ (pos 0, 3 ∷ 3 ∷ [], 4, 2, (absent, (unit, tt)) ∷ (unit, (absent, tt)) ∷ [])) ×
+    (shown 2 one-floor ≡ (pos 0, 1 ∷ 0 ∷ [], 1, 1, (unit, (absent, tt)) ∷ (unit, (unit, tt)) ∷ [])) ×
+    (shown 2 followed ≡ (pos 1, 2 ∷ [], 1, 1, (unit, (num (negsuc 0), tt)) ∷ []))
+unfolding least leastE through pull pullE overdue kept kept-byte floor-panels serves-as-well cut walk fixings selections steps need seed ray
+    candidate candidates lines minimal needed? others combination? asked? met? under-dec normal star power idm mm mv sup supL each mapL sum
+    at line put sift strict same? ltE-cmp ltL-cmp ≼-dec z-dec present-dec all-or all-dec any-dec dec-× dec-→ dec-¬ decLe _⊗_ _⊕_ inv val
+    maxz _+z_ neg
+computed = (refl, refl, refl)

@@ -1,0 +1,3 @@
+-- One cue in one house: what is meant, and the method that finds it.
+pub mod Meaning
+pub mod Method

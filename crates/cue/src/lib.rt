@@ -1,0 +1,1 @@
+// Demands 2 and 3 as theorems about the definitions; no function runs here.

@@ -1,0 +1,2 @@
+-- The shortest list of lines with the same combinations.
+pub mod Minimal

@@ -1,0 +1,118 @@
+-- Decisions below a bound and over a list; who is in a list that is built.
+use mathlib.Core.Path.{_≡_, refl, ap}
+use mathlib.Core.Logic.{_⊎_, inl, inr}
+use mathlib.Core.List.{List, [], _∷_, _++_}
+use mathlib.Core.Bool.{decide}
+use Prim.Native.Nat.{ℕ, zero, suc, _<_}
+use native.Mathlib.Omega.{arith}
+use native.Mathlib.Decide.{ℕ-discrete}
+use lib.Dec.{T}
+use Rattle.maxplus.specs.Finite.{In, each, mapL}
+
+-- ---- decisions below a bound
+unfoldable pub all-or : (P : ℕ → Type 0) → ((k : ℕ) → Dec (P k)) → (n : ℕ) → ((k : ℕ) → k < n → P k) ⊎ ((k : ℕ) × (k < n) × ¬ (P k))
+all-or P d zero = inl (λ k h. let e : ⊥ = omega arith in absurd e)
+all-or P d (suc n) = go (all-or P d n) (d n)
+  where
+    go : ((k : ℕ) → k < n → P k) ⊎ ((k : ℕ) × (k < n) × ¬ (P k)) → Dec (P n) →
+        ((k : ℕ) → k < suc n → P k) ⊎ ((k : ℕ) × (k < suc n) × ¬ (P k))
+    go (inr t) e = inr (t .0, omega arith, t .2)
+    go (inl f) (no e) = inr (n, omega arith, e)
+    go (inl f) (yes e) = inl (λ k h. elim (ℕ-discrete k n) [ yes r ↦ rw r e | no r ↦ f k (omega arith) ])
+
+unfoldable pub all-dec : (P : ℕ → Type 0) → ((k : ℕ) → Dec (P k)) → (n : ℕ) → Dec ((k : ℕ) → k < n → P k)
+all-dec P d n = elim (all-or P d n) [ inl f ↦ yes f | inr t ↦ no (λ f. t .2 (f (t .0) (t .1))) ]
+
+-- some member of a list
+unfoldable pub any-dec : {A : Type 0} (P : A → Type 0) → ((a : A) → Dec (P a)) → (l : List A) → Dec ((a : A) × In a l × P a)
+any-dec P d [] = no (λ t. absurd (t .1))
+any-dec {A} P d (b ∷ l) = go (any-dec P d l) (d b)
+  where
+    go : Dec ((a : A) × In a l × P a) → Dec (P b) → Dec ((a : A) × In a (b ∷ l) × P a)
+    go (yes t) e = yes (t .0, inr (t .1), t .2)
+    go (no f) (yes e) = yes (b, inl refl, e)
+    go (no f) (no e) = no (λ t. elim (t .1) [ inl r ↦ e (rw r at (t .2)) | inr r ↦ f (t .0, r, t .2) ])
+
+-- ---- decisions of compound statements
+unfoldable pub dec-× : {P Q : Type 0} → Dec P → Dec Q → Dec (P × Q)
+dec-× (yes a) (yes b) = yes (a, b)
+dec-× (yes a) (no b) = no (λ t. b (t .1))
+dec-× (no a) b = no (λ t. a (t .0))
+
+unfoldable pub dec-¬ : {P : Type 0} → Dec P → Dec (¬ P)
+dec-¬ (yes a) = no (λ f. f a)
+dec-¬ (no a) = yes a
+
+unfoldable pub dec-⊎ : {P Q : Type 0} → Dec P → Dec Q → Dec (P ⊎ Q)
+dec-⊎ (yes a) b = yes (inl a)
+dec-⊎ (no a) (yes b) = yes (inr b)
+dec-⊎ (no a) (no b) = no (λ t. elim t [ inl p ↦ a p | inr q ↦ b q ])
+
+unfoldable pub dec-→ : {P Q : Type 0} → Dec P → Dec Q → Dec (P → Q)
+dec-→ (yes a) (yes b) = yes (λ p. b)
+dec-→ (yes a) (no b) = no (λ f. b (f a))
+dec-→ (no a) b = yes (λ p. absurd (a p))
+
+-- some number below a bound
+unfoldable pub some-dec : (P : ℕ → Type 0) → ((k : ℕ) → Dec (P k)) → (n : ℕ) → Dec ((k : ℕ) × (k < n) × P k)
+some-dec P d n = go (all-or (λ k. ¬ (P k)) (λ k. dec-¬ (d k)) n)
+  where
+    go : ((k : ℕ) → k < n → ¬ (P k)) ⊎ ((k : ℕ) × (k < n) × ¬ (¬ (P k))) → Dec ((k : ℕ) × (k < n) × P k)
+    go (inl f) = no (λ t. f (t .0) (t .1) (t .2))
+    go (inr (k, hk, nn)) = elim (d k) [ yes p ↦ yes (k, hk, p) | no p ↦ absurd (nn p) ]
+
+-- a decision as a test
+pub decide-yes : {P : Type 0} (d : Dec P) → T (decide d) → P
+unfolding decide
+decide-yes (yes p) t = p
+decide-yes (no p) t = absurd t
+
+pub decide-of : {P : Type 0} (d : Dec P) → P → T (decide d)
+unfolding decide
+decide-of (yes p) q = tt
+decide-of (no p) q = absurd (p q)
+
+-- ---- who is in a list
+module _ {A : Type 0} where
+  pub in-left : (l m : List A) (a : A) → In a l → In a (l ++ m)
+  in-left (b ∷ l) m a (inl e) = inl e
+  in-left (b ∷ l) m a (inr h) = inr (in-left l m a h)
+
+  pub in-right : (l m : List A) (a : A) → In a m → In a (l ++ m)
+  in-right [] m a h = h
+  in-right (b ∷ l) m a h = inr (in-right l m a h)
+
+  pub in-app : (l m : List A) (a : A) → In a (l ++ m) → In a l ⊎ In a m
+  in-app [] m a h = inr h
+  in-app (b ∷ l) m a (inl e) = inl (inl e)
+  in-app (b ∷ l) m a (inr h) = elim (in-app l m a h) [ inl k ↦ inl (inr k) | inr k ↦ inr k ]
+
+  pub in-each : (n : ℕ) (f : ℕ → List A) (a : A) (j : ℕ) → j < n → In a (f j) → In a (each n f)
+  unfolding each
+  in-each zero f a j h k = let e : ⊥ = omega arith in absurd e
+  in-each (suc n) f a j h k = go (in-each n f a j) (ℕ-discrete j n)
+    where
+      go : (j < n → In a (f j) → In a (each n f)) → Dec (j ≡ n) → In a (each n f ++ f n)
+      go ih (yes e) = in-right (each n f) (f n) a (rw e at k)
+      go ih (no e) = in-left (each n f) (f n) a (ih (omega arith) k)
+
+  pub each-in : (n : ℕ) (f : ℕ → List A) (a : A) → In a (each n f) → (j : ℕ) × (j < n) × In a (f j)
+  unfolding each
+  each-in zero f a h = absurd h
+  each-in (suc n) f a h = go (each-in n f a) (in-app (each n f) (f n) a h)
+    where
+      go : (In a (each n f) → (j : ℕ) × (j < n) × In a (f j)) → In a (each n f) ⊎ In a (f n) → (j : ℕ) × (j < suc n) × In a (f j)
+      go ih (inl k) = let t = ih k in (t .0, omega arith, t .2)
+      go ih (inr k) = (n, omega arith, k)
+
+module _ {A C : Type 0} where
+  pub in-map : (f : A → C) (l : List A) (a : A) → In a l → In (f a) (mapL f l)
+  unfolding mapL
+  in-map f (b ∷ l) a (inl e) = inl (ap f e)
+  in-map f (b ∷ l) a (inr h) = inr (in-map f l a h)
+
+  pub map-in : (f : A → C) (l : List A) (c : C) → In c (mapL f l) → (a : A) × In a l × (c ≡ f a)
+  unfolding mapL
+  map-in f [] c h = absurd h
+  map-in f (b ∷ l) c (inl e) = (b, inl refl, e)
+  map-in f (b ∷ l) c (inr h) = let t = map-in f l c h in (t .0, inr (t .1), t .2)

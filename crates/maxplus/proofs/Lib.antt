@@ -1,0 +1,11 @@
+-- Laws of max-plus algebra, in the order in which one file builds on another.
+pub mod WholeLaws
+pub mod EntryLaws
+pub mod FiniteLaws
+pub mod SupLaws
+pub mod TableLaws
+pub mod SortedLaws
+pub mod LineLaws
+pub mod CombinationLaws
+pub mod Pigeon
+pub mod StarLaws

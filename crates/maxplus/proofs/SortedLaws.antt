@@ -1,0 +1,149 @@
+-- Laws of lists in strict order: two with the same members are equal; who is in a sifted list; listing one member after the other.
+use mathlib.Core.Path.{_≡_, refl, ap₂, sym, _∙_}
+use mathlib.Core.Logic.{_⊎_, inl, inr, _↔_}
+use mathlib.Core.List.{List, [], _∷_}
+use Rattle.maxplus.specs.Finite.{In}
+use Rattle.maxplus.specs.Sorted.{Cmp, less, same, more, Strict, Sorted, put, sift}
+
+module _ {A : Type 0} (lt : A → A → Type 0) (S : Strict lt) where
+  pub sorted-eq : (l m : List A) → Sorted lt S l → Sorted lt S m → ((a : A) → In a l → In a m) → ((a : A) → In a m → In a l) → l ≡ m
+  sorted-eq [] [] s t f g = refl
+  sorted-eq [] (b ∷ m) s t f g = absurd (g b (inl refl))
+  sorted-eq (a ∷ l) [] s t f g = absurd (f a (inl refl))
+  sorted-eq (a ∷ l) (b ∷ m) s t f g =
+      ap₂ _∷_ head (sorted-eq l m (s .1) (t .1) (λ c h. down c h (f c (inr h))) (λ c h. up c h (g c (inr h))))
+    where
+      head′ : (a ≡ b) ⊎ In a m → (b ≡ a) ⊎ In b l → a ≡ b
+      head′ (inl e) q = e
+      head′ (inr h) (inl e) = sym e
+      head′ (inr h) (inr k) = absurd (S .irrefl a (S .trans a b a (s .0 b k) (t .0 a h)))
+
+      head : a ≡ b
+      head = head′ (f a (inl refl)) (g b (inl refl))
+
+      down : (c : A) → In c l → (c ≡ b) ⊎ In c m → In c m
+      down c h (inl e) = absurd (S .irrefl a (rw (e ∙ sym head) at (s .0 c h)))
+      down c h (inr k) = k
+
+      up : (c : A) → In c m → (c ≡ a) ⊎ In c l → In c l
+      up c h (inl e) = absurd (S .irrefl b (rw (e ∙ head) at (t .0 c h)))
+      up c h (inr k) = k
+
+  pub put-in : (a : A) (l : List A) (c : A) → In c (put lt S a l) → (c ≡ a) ⊎ In c l
+  unfolding put
+  put-in a [] c h = h
+  put-in a (b ∷ l) c h = go (put-in a l c) (S .cmp a b) h
+    where
+      go : (In c (put lt S a l) → (c ≡ a) ⊎ In c l) → (k : Cmp lt a b) →
+          In c (elim k [ less h ↦ a ∷ b ∷ l | same h ↦ b ∷ l | more h ↦ b ∷ put lt S a l ]) → (c ≡ a) ⊎ In c (b ∷ l)
+      go ih (less k) h = h
+      go ih (same k) h = inr h
+      go ih (more k) (inl e) = inr (inl e)
+      go ih (more k) (inr q) = elim (ih q) [ inl e ↦ inl e | inr e ↦ inr (inr e) ]
+
+  pub in-put : (a : A) (l : List A) (c : A) → (c ≡ a) ⊎ In c l → In c (put lt S a l)
+  unfolding put
+  in-put a [] c h = h
+  in-put a (b ∷ l) c h = go (in-put a l c) (S .cmp a b) h
+    where
+      go : ((c ≡ a) ⊎ In c l → In c (put lt S a l)) → (k : Cmp lt a b) → (c ≡ a) ⊎ In c (b ∷ l) →
+          In c (elim k [ less h ↦ a ∷ b ∷ l | same h ↦ b ∷ l | more h ↦ b ∷ put lt S a l ])
+      go ih (less k) h = h
+      go ih (same k) (inl e) = inl (e ∙ k)
+      go ih (same k) (inr h) = h
+      go ih (more k) (inl e) = inr (ih (inl e))
+      go ih (more k) (inr (inl e)) = inl e
+      go ih (more k) (inr (inr e)) = inr (ih (inr e))
+
+  pub put-sorted : (a : A) (l : List A) → Sorted lt S l → Sorted lt S (put lt S a l)
+  unfolding put
+  put-sorted a [] s = (λ b h. absurd h, tt)
+  put-sorted a (b ∷ l) s = go (put-sorted a l (s .1)) (S .cmp a b)
+    where
+      go : Sorted lt S (put lt S a l) → (k : Cmp lt a b) → Sorted lt S (elim k [ less h ↦ a ∷ b ∷ l | same h ↦ b ∷ l | more h ↦ b ∷ put lt S a l ])
+      go ih (less k) = (λ c h. elim h [ inl e ↦ rw e k | inr q ↦ S .trans a b c k (s .0 c q) ], s)
+      go ih (same k) = s
+      go ih (more k) = (λ c h. elim (put-in a l c h) [ inl e ↦ rw e k | inr q ↦ s .0 c q ], ih)
+
+  pub sift-sorted : {P : A → Type 0} (d : (a : A) → Dec (P a)) (l : List A) → Sorted lt S (sift lt S d l)
+  unfolding sift
+  sift-sorted d [] = tt
+  sift-sorted {P} d (a ∷ l) = go (sift-sorted d l) (d a)
+    where
+      go : Sorted lt S (sift lt S d l) → (k : Dec (P a)) → Sorted lt S (elim k [ yes h ↦ put lt S a (sift lt S d l) | no h ↦ sift lt S d l ])
+      go ih (yes h) = put-sorted a (sift lt S d l) ih
+      go ih (no h) = ih
+
+  pub sift-in : {P : A → Type 0} (d : (a : A) → Dec (P a)) (l : List A) (c : A) → In c (sift lt S d l) → In c l × P c
+  unfolding sift
+  sift-in d [] c h = absurd h
+  sift-in {P} d (a ∷ l) c h = go (sift-in d l c) (d a) h
+    where
+      go : (In c (sift lt S d l) → In c l × P c) → (k : Dec (P a)) → In c (elim k [ yes h ↦ put lt S a (sift lt S d l) | no h ↦ sift lt S d l ]) →
+          In c (a ∷ l) × P c
+      go ih (yes k) h = elim (put-in a (sift lt S d l) c h) [ inl e ↦ (inl e, rw e k) | inr q ↦ (inr (ih q .0), ih q .1) ]
+      go ih (no k) h = (inr (ih h .0), ih h .1)
+
+  pub in-sift : {P : A → Type 0} (d : (a : A) → Dec (P a)) (l : List A) (c : A) → In c l → P c → In c (sift lt S d l)
+  unfolding sift
+  in-sift d [] c h p = h
+  in-sift {P} d (a ∷ l) c h p = go (λ h. in-sift d l c h p) (d a) h
+    where
+      go : (In c l → In c (sift lt S d l)) → (k : Dec (P a)) → (c ≡ a) ⊎ In c l → In c (elim k [ yes h ↦ put lt S a (sift lt S d l) | no h ↦ sift lt S d l ])
+      go ih (yes k) (inl e) = in-put a _ c (inl e)
+      go ih (yes k) (inr q) = in-put a _ c (inr (ih q))
+      go ih (no k) (inl e) = absurd (k (rw e at p))
+      go ih (no k) (inr q) = ih q
+
+  -- ---- listing by "the least one above the last": what is left to list, and what finding the least does to it
+  unfoldable pub gt? : (a b : A) → Dec (lt a b)
+  gt? a b = elim (S .cmp a b) [
+    | less h ↦ yes h
+    | same e ↦ no (λ h. S .irrefl b (rw e at h))
+    | more h ↦ no
+        (λ k. S .irrefl a (S .trans a b a k h))
+  ]
+
+  unfoldable pub above : A → List A → List A
+  above a l = sift lt S (gt? a) l
+
+  pub in-above : (a : A) (l : List A) (b : A) → In b (above a l) ↔ (In b l × lt a b)
+  unfolding above
+  in-above a l b = (λ h. sift-in (gt? a) l b h, λ h. in-sift (gt? a) l b (h .0) (h .1))
+
+  pub above-sorted : (a : A) (l : List A) → Sorted lt S (above a l)
+  unfolding above
+  above-sorted a l = sift-sorted (gt? a) l
+
+  -- a list in order whose least member is b goes on with what is above b
+  first-then : (r l : List A) (b : A) → Sorted lt S r → ((c : A) → In c r → In c l) → ((c : A) → In c l → lt b c → In c r) → In b r →
+      ((c : A) → In c r → ¬ (lt c b)) → r ≡ b ∷ above b l
+  first-then [] l b s f g h least = absurd h
+  first-then (c ∷ r) l b s f g h least = ap₂ _∷_ (sym e) (sorted-eq r (above b l) (s .1) (above-sorted b l)
+      (λ d k. in-above b l d .1 (f d (inr k), rw e (s .0 d k)))
+      (λ d k. let q = in-above b l d .0 k in tail d (q .1) (g d (q .0) (q .1))))
+    where
+      e : b ≡ c
+      e = elim h [ inl q ↦ q | inr q ↦ absurd (least c (inl refl) (s .0 b q)) ]
+
+      tail : (d : A) → lt b d → (d ≡ c) ⊎ In d r → In d r
+      tail d k (inl q) = absurd (S .irrefl b (rw (q ∙ sym e) at k))
+      tail d k (inr q) = q
+
+  -- the least member of all begins the list
+  pub least-begins : (l : List A) → Sorted lt S l → (b : A) → In b l → ((c : A) → In c l → ¬ (lt c b)) → l ≡ b ∷ above b l
+  least-begins l s b h least = first-then l l b s (λ c k. k) (λ c k q. k) h least
+
+  -- the least member above a comes next
+  pub least-next : (a : A) (l : List A) (b : A) → In b l → lt a b → ((c : A) → In c l → lt a c → ¬ (lt c b)) → above a l ≡ b ∷ above b l
+  least-next a l b h k least = first-then (above a l) l b (above-sorted a l) (λ c q. in-above a l c .0 q .0)
+      (λ c q r. in-above a l c .1 (q, S .trans a b c k r)) (in-above a l b .1 (h, k))
+      (λ c q. let t = in-above a l c .0 q in least c (t .0) (t .1))
+
+  -- and the end
+  pub none-next : (a : A) (l : List A) → ((c : A) → In c l → ¬ (lt a c)) → above a l ≡ []
+  none-next a l f = go (above a l) (λ c h. let t = in-above a l c .0 h in f c (t .0) (t .1))
+    where
+      go : (r : List A) → ((c : A) → In c r → ⊥) → r ≡ []
+      go [] g = refl
+      go (c ∷ r) g = absurd (g c (inl refl))

@@ -1,0 +1,8 @@
+-- Max-plus algebra: sums are largest values, products are sums. It knows nothing of cues.
+pub mod Whole
+pub mod Entry
+pub mod Finite
+pub mod Tables
+pub mod Line
+pub mod Sorted
+pub mod Combination

@@ -1,0 +1,1 @@
+// Max-plus algebra as definitions (specs/) and laws (proofs/); no function runs here.

@@ -1,0 +1,6 @@
+-- Laws of reading, from an item to the whole sheet.
+pub mod ItemLaws
+pub mod LiteralLaws
+pub mod FaultLaws
+pub mod RowsLaws
+pub mod SheetLaws

@@ -1,0 +1,42 @@
+-- What reading answers: the tables of a good sheet as words, or the refusal's number and nothing else.
+use mathlib.Core.List.{List, [], _∷_}
+use mathlib.Core.Bool.{cond}
+use Prim.Native.Nat.{ℕ}
+use lib.Dec.{ltb}
+use Rattle.maxplus.specs.Entry.{E, absent, num}
+use Rattle.maxplus.specs.Finite.{each}
+use Rattle.maxplus.specs.Tables.{Vec, Mat}
+use Rattle.words.specs.Words.{word}
+use Rattle.sheet.specs.Sheet.{Got, got, refused, Sheet}
+use Rattle.sheet.specs.declared.Row.{Row}
+use Rattle.sheet.specs.declared.Reading.{Reading}
+
+-- "Tables fit a square table of six by six": six words of a vector, six rows of a table
+unfoldable pub strip : Vec → List ℕ
+strip x = each 6 (λ j. word (x j) ∷ [])
+
+unfoldable pub grid : Mat → List Row
+grid A = each 6 (λ i. (record { at = strip (A i) }) ∷ [])
+
+abbrev pub blank : Vec
+blank j = absent
+
+-- "A refusal returns its number and no other result": every other field is 0.
+abbrev pub answer : Got Sheet → Reading
+answer (got t s) =
+    record {
+      refusal = 0;
+      sheet = record {
+        panels = t .panels;
+        triggers = t .triggers;
+        lag = grid (t .lag);
+        floor = strip (t .floor);
+        due = strip (λ j. cond (ltb j (t .triggers)) (num (t .due j)) absent);
+        after = grid (t .after);
+      };
+    }
+answer (refused k) =
+    record {
+      refusal = k;
+      sheet = record { panels = 0; triggers = 0; lag = grid (λ i. blank); floor = strip blank; due = strip blank; after = grid (λ i. blank) };
+    }

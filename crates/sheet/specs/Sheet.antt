@@ -1,0 +1,171 @@
+-- From a sheet's bytes to its tables, or to the refusal of the first fault met (document 01, "The sheet" and "Reading").
+use mathlib.Core.List.{List, [], _∷_}
+use mathlib.Core.Bool.{Bool, false, cond, not, _&&_, _||_}
+use Prim.Native.Nat.{ℕ, zero, suc, _+_, _-_, _*_}
+use lib.Dec.{leb, ltb, eqb}
+use lib.ListN.{length}
+use lib.IntN.{ℤ, pos}
+use Rattle.maxplus.specs.Whole.{up, dn, neg}
+use Rattle.maxplus.specs.Entry.{E, absent, num, val, present?}
+use Rattle.maxplus.specs.Tables.{Vec, Mat}
+use Rattle.sheet.specs.Text.{bytes}
+
+-- What a part of the sheet gives: a value and the bytes behind it, or a refusal's number.
+pub data Got (A : Type 0) : Type 0 where
+  got : A → List ℕ → Got A
+  refused : ℕ → Got A
+
+-- "The first fault met ends the reading."
+infixr 10 _>>=_
+abbrev pub _>>=_ : {A B : Type 0} → Got A → (A → List ℕ → Got B) → Got B
+got a s >>= f = f a s
+refused k >>= f = refused k
+
+-- "the key bytes exactly as shown", and likewise a comma or LF; anything else is 2
+unfoldable pub literal : List ℕ → List ℕ → Got (Unit {0})
+literal [] s = got tt s
+literal (b ∷ k) [] = refused 2
+literal (b ∷ k) (c ∷ s) = cond (eqb c b) (literal k s) (refused 2)
+
+-- digits 0 to 9, and 1 to 9
+abbrev pub digit : ℕ → Bool
+digit b = leb 48 b && leb b 57
+
+abbrev pub leading : ℕ → Bool
+leading b = leb 49 b && leb b 57
+
+-- the value of the digits at the front, read on from v, and what stands behind them
+unfoldable pub value : ℕ → List ℕ → ℕ
+value v [] = v
+value v (b ∷ s) = cond (digit b) (value (v * 10 + (b - 48)) s) v
+
+unfoldable pub behind : List ℕ → List ℕ
+behind [] = []
+behind (b ∷ s) = cond (digit b) (behind s) (b ∷ s)
+
+-- "A number is 0, or an optional minus, a digit 1 to 9 and any digits. Absent is a lone minus (byte 2D hexadecimal)."
+unfoldable pub signed : List ℕ → Got E
+signed [] = got absent []
+signed (b ∷ s) = cond (leading b) (got (num (neg (pos (value (b - 48) s)))) (behind s)) (got absent (b ∷ s))
+
+unfoldable pub item : List ℕ → Got E
+item [] = refused 2
+item (b ∷ s) =
+    cond (eqb b 0x30) (got (num (pos 0)) s)
+    (cond (eqb b 0x2D) (signed s)
+    (cond (leading b) (got (num (pos (value (b - 48) s))) (behind s)) (refused 2)))
+
+-- "items split by one comma", "LF after every line"
+abbrev pub ending : ℕ → List ℕ
+ending zero = bytes "\n"
+ending (suc k) = bytes ","
+
+-- an item that k more of its line follow, with the byte behind it
+unfoldable pub ended : ℕ → List ℕ → Got E
+ended k s = item s >>= λ e s. literal (ending k) s >>= λ _ s. got e s
+
+unfoldable pub items : ℕ → List ℕ → Got (List E)
+items zero s = got [] s
+items (suc k) s = ended k s >>= λ e s. items k s >>= λ es s. got (e ∷ es) s
+
+-- what a line's entries may be: a size, an entry of a table or of the floor line, a due mark
+pub data Rule : Type 0 where
+  size : Rule
+  entry : Rule
+  mark : Rule
+
+-- "decimal whole numbers from −100,000 to 100,000"
+abbrev pub limit : ℕ
+limit = 100000
+
+abbrev pub out-of-range : E → Bool
+out-of-range absent = false
+out-of-range (num z) = ltb limit (up z) || ltb limit (dn z)
+
+-- "a size not 1 to 6"
+abbrev pub no-size : E → Bool
+no-size absent = false
+no-size (num z) = ltb 6 (up z) || eqb (up z) 0
+
+abbrev pub absent? : E → Bool
+absent? e = not (present? e)
+
+-- some member of a list passes a test; all do
+module _ {A : Type 0} where
+  unfoldable pub any : (A → Bool) → List A → Bool
+  any f [] = false
+  any f (a ∷ l) = f a || any f l
+
+  abbrev pub all : (A → Bool) → List A → Bool
+  all f l = not (any (λ a. not (f a)) l)
+
+-- "in one line 2 before 3 before 4 before 5. 2: … an absent size. 3: a size not 1 to 6. 4: an entry out of range. 5: an absent due mark."
+unfoldable pub checked : Rule → List E → List ℕ → Got (List E)
+checked size es s = cond (any absent? es) (refused 2) (cond (any no-size es) (refused 3) (got es s))
+checked entry es s = cond (any out-of-range es) (refused 4) (got es s)
+checked mark es s = cond (any out-of-range es) (refused 4) (cond (any absent? es) (refused 5) (got es s))
+
+-- a line of k items, and several lines with one key, in rows
+unfoldable pub line : List ℕ → Rule → ℕ → List ℕ → Got (List E)
+line key r k s = literal key s >>= λ _ s. items k s >>= λ es s. checked r es s
+
+unfoldable pub rows : List ℕ → Rule → ℕ → ℕ → List ℕ → Got (List (List E))
+rows key r zero k s = got [] s
+rows key r (suc i) k s = line key r k s >>= λ es s. rows key r i k s >>= λ t s. got (es ∷ t) s
+
+-- the i-th of a list of entries, counted from 0, absent past the last; "the i-th lag or after line is row i"
+unfoldable pub row : List E → Vec
+row [] j = absent
+row (e ∷ es) zero = e
+row (e ∷ es) (suc j) = row es j
+
+unfoldable pub table : List (List E) → Mat
+table [] i = row []
+table (es ∷ t) zero = row es
+table (es ∷ t) (suc i) = table t i
+
+pub record Sheet : Type 0 where
+  pub panels : ℕ
+  pub triggers : ℕ
+  pub lag : Mat
+  pub floor : Vec
+  pub due : ℕ → ℤ
+  pub after : Mat
+
+-- a size line's one number
+abbrev pub count : List E → ℕ
+count es = up (val (row es 0))
+
+-- "After the lines: bytes left over are 2; then 6: a panel with no lag; then 7: no floor at all."
+abbrev pub finished : List (List E) → List E → Sheet → List ℕ → Got Sheet
+finished lag floor t (b ∷ s) = refused 2
+finished lag floor t [] = cond (any (all absent?) lag) (refused 6) (cond (all absent? floor) (refused 7) (got t []))
+
+-- "Lines in order: panels, triggers, m lines lag, floor, due, n lines after. A lag, due or after line has n items, the floor line m, a size
+-- line one"
+unfoldable pub tables : ℕ → ℕ → List ℕ → Got Sheet
+tables m n s =
+    rows (bytes "lag=") entry m n s >>= λ lag s.
+    line (bytes "floor=") entry m s >>= λ floor s.
+    line (bytes "due=") mark n s >>= λ due s.
+    rows (bytes "after=") entry n n s >>= λ after s.
+    finished lag floor
+    (record {
+      panels = m;
+      triggers = n;
+      lag = table lag;
+      floor = row floor;
+      due = λ j. val (row due j);
+      after = table after;
+    })
+    s
+
+unfoldable pub lines : List ℕ → Got Sheet
+lines s =
+    line (bytes "panels=") size 1 s >>= λ p s.
+    line (bytes "triggers=") size 1 s >>= λ q s.
+    tables (count p) (count q) s
+
+-- "1: over 2,048 bytes. Then line by line"
+unfoldable pub read : List ℕ → Got Sheet
+read s = cond (ltb 2048 (length s)) (refused 1) (lines s)

@@ -1,0 +1,2 @@
+-- How a program holds an entry.
+pub mod Words

@@ -1,0 +1,21 @@
+-- An entry in an unsigned word: 0 is absent, bias + z is the number z, so the order of words is the order of entries.
+use Prim.Native.Nat.{ℕ, zero, suc, _+_, _-_}
+use lib.IntN.{subℕ}
+use Rattle.maxplus.specs.Whole.{up, dn}
+use Rattle.maxplus.specs.Entry.{E, absent, num}
+
+abbrev pub bias : ℕ
+bias = 0x100_0000_0000
+
+-- no number that is stored is further from 0
+abbrev pub far : ℕ
+far = 0x40_0000_0000
+
+unfoldable pub word : E → ℕ
+word absent = 0
+word (num z) = bias + up z - dn z
+
+-- the entry that a word stands for
+unfoldable pub entry : ℕ → E
+entry zero = absent
+entry (suc v) = num (subℕ (suc v) bias)
