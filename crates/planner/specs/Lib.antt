@@ -1,0 +1,3 @@
+-- What the operations of document 01 return and leave in the lent space, and what the planning program writes.
+pub mod Outcome
+pub mod Text

@@ -1,0 +1,1 @@
+// The operations of document 01. Their definitions are in specs/.
