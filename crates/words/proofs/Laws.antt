@@ -1,12 +1,20 @@
--- Laws of words: the word of a number, by its magnitude.
-use mathlib.Core.Path.{_≡_}
-use Prim.Native.Nat.{ℕ, zero, suc, _+_, _-_, _≤_}
+-- Laws of words: the word of a number, the order of words, and each operation on words as one on entries.
+use mathlib.Core.Path.{_≡_, refl, ap, sym, _∙_}
+use mathlib.Core.Logic.{inl, inr}
+use mathlib.Core.Bool.{Bool, true, false, not}
+use Prim.Native.Nat.{ℕ, zero, suc, _+_, _-_, _≤_, _<_}
 use native.Mathlib.Omega.{arith}
-use lib.IntN.{ℤ, pos}
-use Rattle.maxplus.specs.Whole.{neg}
-use Rattle.maxplus.specs.Entry.{num}
-use Rattle.words.specs.Words.{bias, word, far}
+use lib.Dec.{leb, eqb, eqb·suc-zero}
+use lib.IntN.{ℤ, pos, subℕ}
+use borrow.Author.Tests.{leb-true, leb-false}
+use Rattle.maxplus.specs.Whole.{up, dn, _≤z_, _+z_, neg}
+use Rattle.maxplus.specs.Entry.{E, absent, num, _≼_, leqE, _⊗_, _⊕_, inv, present?}
+use Rattle.maxplus.proofs.WholeLaws.{z-eq, up-sub, up-add, up-neg}
+use Rattle.maxplus.proofs.EntryLaws.{≼-refl, ≼-anti, ≼-absent, ≼-of, ⊕-l, ⊕-r, ⊕-lub, ⊕-or, ⊗-absent, ⊗-nothing, ⊗-nums}
+use Rattle.maxplus.proofs.EntryLaws.{num-⊗, inv-num, num-inj, absent-not, leqE-yes, leqE-of}
+use Rattle.words.specs.Words.{bias, word, entry, far, Close}
 
+-- ---- the word of a number, by its magnitude
 pub word-pos : (m : ℕ) → bias + m ≡ word (num (pos m))
 unfolding word
 word-pos m = omega arith
@@ -15,3 +23,130 @@ pub word-neg : (m : ℕ) → bias - m ≡ word (num (neg (pos m)))
 unfolding word neg
 word-neg zero = omega arith
 word-neg (suc m) = omega arith
+
+-- ---- words and entries, one for one
+abbrev away : ℕ → ℤ
+away v = subℕ v bias
+
+pub word-entry : (v : ℕ) → word (entry v) ≡ v
+unfolding word entry
+word-entry zero = refl
+word-entry (suc v) = omega (arith, up-sub (suc v) bias)
+
+pub entry-word : (e : E) → ((z : ℤ) → e ≡ num z → dn z ≤ far + up z) → entry (word e) ≡ e
+unfolding word entry
+entry-word absent h = refl
+entry-word (num z) h = go (bias + up z - dn z) (let k = h z refl in omega arith) refl
+  where
+    go : (v : ℕ) → 0 < v → bias + up z - dn z ≡ v → entry v ≡ num z
+    go zero p e = let x : ⊥ = omega arith in absurd x
+    go (suc v) p e = ap num (z-eq _ _ (let k = h z refl in omega (arith, up-sub (suc v) bias)))
+
+pub entry-inj : {a b : ℕ} → entry a ≡ entry b → a ≡ b
+entry-inj {a} {b} e = sym (word-entry a) ∙ ap word e ∙ word-entry b
+
+pub entry-zero : entry 0 ≡ absent
+unfolding entry
+entry-zero = refl
+
+-- ---- the order of words is the order of entries
+entry-mono : (a b : ℕ) → a ≤ b → entry a ≼ entry b
+unfolding entry
+entry-mono zero b h = ≼-absent _
+entry-mono (suc a) zero h = let e : ⊥ = omega arith in absurd e
+entry-mono (suc a) (suc b) h = omega (arith, up-sub (suc a) bias, up-sub (suc b) bias)
+
+entry-reflects : (a b : ℕ) → entry a ≼ entry b → a ≤ b
+unfolding entry
+entry-reflects zero b h = omega arith
+entry-reflects (suc a) zero h = absurd (h .un)
+entry-reflects (suc a) (suc b) h = omega (arith, up-sub (suc a) bias, up-sub (suc b) bias)
+
+pub word-order : (a b : ℕ) → leb a b ≡ leqE (entry a) (entry b)
+word-order a b = go (leb a b) (leqE (entry a) (entry b)) refl refl
+  where
+    go : (s t : Bool) → leb a b ≡ s → leqE (entry a) (entry b) ≡ t → s ≡ t
+    go true true e f = refl
+    go false false e f = refl
+    go true false e f = absurd (rw f at (leqE-of _ _ (entry-mono a b (leb-true a b e))))
+    go false true e f = let h = entry-reflects a b (leqE-yes _ _ (rw f tt)) in let x : ⊥ = omega (arith, leb-false a b e) in absurd x
+
+pub word-present : (a : ℕ) → not (eqb a 0) ≡ present? (entry a)
+unfolding entry
+word-present zero = refl
+word-present (suc a) = rw eqb·suc-zero refl
+
+-- ---- the larger, the sum and the sign turned
+pub larger-low : (a b : ℕ) → a ≤ b → entry b ≡ entry a ⊕ entry b
+larger-low a b h = ≼-anti (⊕-r _ _) (⊕-lub (entry-mono a b h) (≼-refl _))
+
+pub larger-high : (a b : ℕ) → b ≤ a → entry a ≡ entry a ⊕ entry b
+larger-high a b h = ≼-anti (⊕-l _ _) (⊕-lub (≼-refl _) (entry-mono b a h))
+
+pub plus-none : (a b : ℕ) → a ≡ 0 → entry 0 ≡ entry a ⊗ entry b
+plus-none a b e = rw (e, entry-zero, ⊗-nothing)
+
+pub plus-none-r : (a b : ℕ) → b ≡ 0 → entry 0 ≡ entry a ⊗ entry b
+plus-none-r a b e = rw (e, entry-zero, ⊗-absent)
+
+pub plus-is : (a b : ℕ) → 0 < a → 0 < b → bias < a + b → entry (a + b - bias) ≡ entry a ⊗ entry b
+unfolding entry
+plus-is zero b p q h = let x : ⊥ = omega arith in absurd x
+plus-is (suc a) zero p q h = let x : ⊥ = omega arith in absurd x
+plus-is (suc a) (suc b) p q h = rw (num-⊗, (let e : suc a + suc b - bias ≡ suc (a + suc b - bias) = omega arith in e))
+    (ap num (z-eq _ _ (omega (
+      arith,
+      up-add (away (suc a)) (away (suc b)),
+      up-sub (suc a) bias,
+      up-sub (suc b) bias,
+      up-sub (suc (a + suc b - bias)) bias,
+    ))))
+
+pub negated-none : (a : ℕ) → a ≡ 0 → entry 0 ≡ inv (entry a)
+unfolding inv
+negated-none a e = rw (e, entry-zero)
+
+pub negated-is : (a : ℕ) → 0 < a → a < bias + bias → entry (bias + bias - a) ≡ inv (entry a)
+unfolding entry
+negated-is zero p h = let x : ⊥ = omega arith in absurd x
+negated-is (suc a) p h = rw (inv-num, (let e : bias + bias - suc a ≡ suc (bias + bias - suc (suc a)) = omega arith in e))
+    (ap num (z-eq _ _ (omega (arith, up-neg (away (suc a)), up-sub (suc a) bias, up-sub (suc (bias + bias - suc (suc a))) bias))))
+
+-- ---- how far a word is from the word of 0
+pub close-none : (c : ℕ) → Close c 0
+close-none c = record { high = omega arith; low = λ h. let x : ⊥ = omega arith in absurd x }
+
+pub close-more : {c d v : ℕ} → c ≤ d → Close c v → Close d v
+close-more h k = record { high = let p = k .high in omega arith; low = λ q. let p = k .low q in omega arith }
+
+-- a word is close exactly when its number is from −c to c
+pub close-of : (c v : ℕ) → ((z : ℤ) → entry v ≡ num z → (dn z ≤ c + up z) × (up z ≤ c + dn z)) → Close c v
+unfolding entry
+close-of c zero h = close-none c
+close-of c (suc v) h = let k = h (away (suc v)) refl in let s = up-sub (suc v) bias in record { high = omega arith; low = λ q. omega arith }
+
+pub of-close : (c v : ℕ) → Close c v → (z : ℤ) → entry v ≡ num z → (dn z ≤ c + up z) × (up z ≤ c + dn z)
+unfolding entry
+of-close c zero h z e = absurd (absent-not e)
+of-close c (suc v) h z e = rw (← num-inj e)
+    (let s = up-sub (suc v) bias in let p = h .high in let q = h .low (omega arith) in (omega arith, omega arith))
+
+pub close-larger : {c : ℕ} (a b r : ℕ) → entry r ≡ entry a ⊕ entry b → Close c a → Close c b → Close c r
+close-larger a b r e h k = elim (⊕-or (entry a) (entry b)) [ inl f ↦ rw (entry-inj (e ∙ f)) h | inr f ↦ rw (entry-inj (e ∙ f)) k ]
+
+pub close-plus : {c d : ℕ} (a b r : ℕ) → entry r ≡ entry a ⊗ entry b → Close c a → Close d b → Close (c + d) r
+close-plus {c} {d} a b r e h k = close-of (c + d) r (λ z f. go z (⊗-nums (entry a) (entry b) (≼-of (sym f ∙ e))) (sym f ∙ e))
+  where
+    go : (z : ℤ) → (x y : ℤ) × (entry a ≡ num x) × (entry b ≡ num y) × (z ≤z x +z y) → num z ≡ entry a ⊗ entry b →
+        (dn z ≤ c + d + up z) × (up z ≤ c + d + dn z)
+    go z (x, y, ea, eb, l) f =
+        let g : z ≡ x +z y = num-inj (f ∙ rw (ea, eb, num-⊗)) in
+        let p = of-close c a h x ea in let q = of-close d b k y eb in let s = up-add x y in
+        rw g (omega arith, omega arith)
+
+pub close-negated : {c : ℕ} (a r : ℕ) → entry r ≡ inv (entry a) → Close c a → Close c r
+close-negated {c} a r e h = close-of c r (λ z f. go z (entry a) refl (sym e ∙ f))
+  where
+    go : (z : ℤ) (x : E) → entry a ≡ x → inv x ≡ num z → (dn z ≤ c + up z) × (up z ≤ c + dn z)
+    go z absent ea f = absurd (absent-not {z = z} (unfold inv in f))
+    go z (num x) ea f = rw (num-inj (sym f ∙ inv-num x)) (let p = of-close c a h x ea in let s = up-neg x in (omega arith, omega arith))

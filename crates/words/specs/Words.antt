@@ -1,5 +1,5 @@
 -- An entry in an unsigned word: 0 is absent, bias + z is the number z, so the order of words is the order of entries.
-use Prim.Native.Nat.{ℕ, zero, suc, _+_, _-_}
+use Prim.Native.Nat.{ℕ, zero, suc, _+_, _-_, _≤_, _<_}
 use lib.IntN.{subℕ}
 use Rattle.maxplus.specs.Whole.{up, dn}
 use Rattle.maxplus.specs.Entry.{E, absent, num}
@@ -19,3 +19,11 @@ word (num z) = bias + up z - dn z
 unfoldable pub entry : ℕ → E
 entry zero = absent
 entry (suc v) = num (subℕ (suc v) bias)
+
+-- a word of absent, or of a number from −c to c
+pub record Close (c v : ℕ) : Type 0 where
+  pub high : v ≤ bias + c
+  pub low : 0 < v → bias ≤ v + c
+
+abbrev pub Near : ℕ → Type 0
+Near v = Close far v

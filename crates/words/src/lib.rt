@@ -3,8 +3,8 @@ ghost use mathlib.Core.Path.{_≡_};
 ghost use Prim.Native.Nat.{_≤_};
 ghost use lib.IntN.{pos};
 ghost use Rattle.maxplus.specs.Whole.{neg};
-ghost use Rattle.maxplus.specs.Entry.{num};
-ghost use Rattle.words.specs.Words.{word, far};
+ghost use Rattle.maxplus.specs.Entry.{num, _⊗_, _⊕_, inv, present?};
+ghost use Rattle.words.specs.Words.{word, entry, far, Near};
 
 // The word of the number 0.
 pub const BIAS: u64 = 0x100_0000_0000;
@@ -23,4 +23,40 @@ pub fn negative(m: u64) -> u64
     ensures { λ r. ⌜ r ≡ word (num (neg (pos m))) ⌝ }
 {
     BIAS - m
+}
+
+// There is a number.
+pub fn present(a: u64) -> bool
+    ensures { λ r. ⌜ r ≡ present? (entry a) ⌝ }
+{
+    a != 0
+}
+
+// The larger of two entries.
+pub fn larger(a: u64, b: u64) -> u64
+    ensures { λ r. ⌜ entry r ≡ entry a ⊕ entry b ⌝ }
+{
+    if a < b { b } else { a }
+}
+
+// The sum of two entries.
+pub fn plus(a: u64, b: u64) -> u64
+    requires { ⌜ Near a × Near b ⌝ }
+    ensures { λ r. ⌜ entry r ≡ entry a ⊗ entry b ⌝ }
+{
+    if a == 0 {
+        return 0;
+    }
+    if b == 0 {
+        return 0;
+    }
+    a + b - BIAS
+}
+
+// The entry with its sign turned.
+pub fn negated(a: u64) -> u64
+    requires { ⌜ Near a ⌝ }
+    ensures { λ r. ⌜ entry r ≡ inv (entry a) ⌝ }
+{
+    if a == 0 { 0 } else { BIAS + BIAS - a }
 }
