@@ -1,7 +1,7 @@
 -- From sheet to lines (document 01, steps 2 to 7; step 1's star is maxplus's), in its order. P is a sheet's tables, n its triggers.
 use mathlib.Core.List.{List, [], _∷_}
 use mathlib.Core.Bool.{Bool, cond, _&&_}
-use Prim.Native.Nat.{ℕ, suc, _+_, _^_}
+use Prim.Native.Nat.{ℕ, suc, _^_}
 use lib.Dec.{eqb}
 use lib.IntN.{ℤ}
 use Rattle.maxplus.specs.Whole.{neg}

@@ -12,7 +12,7 @@ use Rattle.maxplus.specs.Whole.{_+z_, neg, maxz}
 use Rattle.maxplus.specs.Entry.{E, absent, num, _⊗_, _⊕_, inv, val}
 use Rattle.maxplus.specs.Finite.{each, mapL, sum}
 use Rattle.maxplus.specs.Tables.{sup, supL, mv, mm, idm, power, star, normal}
-use Rattle.maxplus.specs.Line.{Line, at, line}
+use Rattle.maxplus.specs.Line.{at, line}
 use Rattle.maxplus.specs.Sorted.{put, sift}
 use Rattle.maxplus.proofs.WholeLaws.{z-dec}
 use Rattle.maxplus.proofs.EntryLaws.{≼-dec, present-dec}

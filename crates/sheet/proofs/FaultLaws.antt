@@ -12,13 +12,13 @@ use lib.IntN.{ℤ, pos, negsuc}
 use lib.ListN.{length, drop, getD, drop-of-length-le}
 use Rattle.maxplus.specs.Whole.{up, dn}
 use Rattle.maxplus.specs.Entry.{E, absent, num}
-use Rattle.maxplus.specs.Finite.{In, each, mapL}
-use Rattle.maxplus.specs.Tables.{Vec}
+use Rattle.maxplus.specs.Finite.{In, mapL}
 use Rattle.words.specs.Words.{bias, word}
 use Rattle.sheet.specs.Sheet as sheet
 use Rattle.sheet.specs.Sheet.{got, refused, limit, absent?, no-size, out-of-range, any, checked, row}
 use Rattle.sheet.specs.Reading.{strip}
 use Rattle.sheet.specs.Inner.{beyond, clip, verdict, earlier-of, words-of, fault-of, FaultIs}
+use Rattle.sheet.proofs.PlaceLaws.{strip-at}
 
 -- a clipped number's word by the number's two parts, of which one is 0
 parts : (w : ℕ) (z : ℤ) → w ≡ word (clip (num z)) → (w + min (dn z) beyond ≡ bias + min (up z) beyond) × (min (up z) (dn z) ≡ 0)
@@ -151,17 +151,6 @@ checked-least sheet.entry es s =
     rw (any-none es) at e
 checked-least sheet.mark es s = checked-kind 3 4 (omega arith) out-of-range absent? es s
 
--- a row's word at a place
-pub strip-at : (x : Vec) (k : ℕ) → k < 6 → getD (strip x) k 0 ≡ word (x k)
-unfolding strip each
-strip-at x zero h = refl
-strip-at x (suc zero) h = refl
-strip-at x (suc (suc zero)) h = refl
-strip-at x (suc (suc (suc zero))) h = refl
-strip-at x (suc (suc (suc (suc zero)))) h = refl
-strip-at x (suc (suc (suc (suc (suc zero))))) h = refl
-strip-at x (suc (suc (suc (suc (suc (suc k)))))) h = absurd (omega arith)
-
 pub row-clip : (es : List E) (k : ℕ) → row (mapL clip es) k ≡ clip (row es k)
 unfolding row mapL
 row-clip [] k = refl
@@ -209,7 +198,7 @@ module _ {r : sheet.Rule} {ws : List ℕ} {count : ℕ} where
         checked-least r es s ∙ ap (λ n. verdict n es s) (sym e)
 
 -- the entries of a line without fault
-none-or : (t u : Bool) → t || u ≡ false → (t ≡ false) × (u ≡ false)
+pub none-or : (t u : Bool) → t || u ≡ false → (t ≡ false) × (u ≡ false)
 none-or true u e = (e, cc)
 none-or false u e = (refl, e)
 

@@ -1,4 +1,5 @@
 -- Laws of reading, from an item to the whole sheet.
+pub mod PlaceLaws
 pub mod ItemLaws
 pub mod LiteralLaws
 pub mod FaultLaws

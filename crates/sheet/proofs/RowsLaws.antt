@@ -5,18 +5,16 @@ use mathlib.Core.List.{List, [], _∷_, _++_, append-assoc, append-nil}
 use mathlib.Core.Bool.{Bool, true, false, not}
 use Prim.Native.Nat.{ℕ, zero, suc, _+_, _-_, _≤_, _<_}
 use native.Mathlib.Omega.{arith}
-use native.Mathlib.Decide.{ℕ-discrete}
 use lib.ListN.{length, drop, set, length-append}
-use lib.Seq.{set-append-left, set-append-seam}
-use Rattle.maxplus.specs.Entry.{E, absent}
-use Rattle.maxplus.specs.Finite.{In, each, mapL}
-use Rattle.maxplus.specs.Tables.{Vec, Mat}
+use Rattle.maxplus.specs.Entry.{E}
+use Rattle.maxplus.specs.Finite.{In, mapL}
 use Rattle.words.specs.Words.{word}
 use Rattle.sheet.specs.Sheet.{Got, got, refused, _>>=_, literal, ended, items, Rule, checked, line, rows, row, table}
 use Rattle.sheet.specs.Reading.{strip, grid}
 use Rattle.sheet.specs.Inner.{clip, LiteralAt, verdict, words-of, Read, RowsAre}
 use Rattle.sheet.specs.declared.Row.{Row}
 use Rattle.sheet.specs.declared.rows.Rows.{Rows}
+use Rattle.sheet.proofs.PlaceLaws.{each-set}
 
 module _ {A : Type 0} where
   -- what was read, in front of what is left
@@ -31,32 +29,6 @@ module _ {A : Type 0} where
   pub onto-nil : (g : Got (List A)) → onto [] g ≡ g
   onto-nil (got u s) = refl
   onto-nil (refused k) = refl
-
-  -- a list of n places, with another value at place k
-  pub length-each : (n : ℕ) (f : ℕ → A) → length (each n (λ j. f j ∷ [])) ≡ n
-  unfolding each
-  length-each zero f = refl
-  length-each (suc n) f = let h = length-each n f in simp length-append (omega arith)
-
-  each-same : (n : ℕ) (f g : ℕ → A) → ((j : ℕ) → j < n → f j ≡ g j) → each n (λ j. f j ∷ []) ≡ each n (λ j. g j ∷ [])
-  unfolding each
-  each-same zero f g h = refl
-  each-same (suc n) f g h = ap₂ _++_ (each-same n f g (λ j q. h j (omega arith))) (ap (λ a. a ∷ []) (h n (omega arith)))
-
-  pub each-set : (n k : ℕ) (f g : ℕ → A) (a : A) → k < n → a ≡ g k → ((j : ℕ) → j < n → ¬ (j ≡ k) → f j ≡ g j) →
-      set (each n (λ j. f j ∷ [])) k a ≡ each n (λ j. g j ∷ [])
-  unfolding each
-  each-set zero k f g a q e h = let x : ⊥ = omega arith in absurd x
-  each-set (suc n) k f g a q e h = go (λ p. each-set n k f g a p e (λ j p x. h j (omega arith) x)) (ℕ-discrete k n)
-    where
-      go : (k < n → set (each n (λ j. f j ∷ [])) k a ≡ each n (λ j. g j ∷ [])) → Dec (k ≡ n) →
-          set (each n (λ j. f j ∷ []) ++ (f n ∷ [])) k a ≡ each n (λ j. g j ∷ []) ++ (g n ∷ [])
-      go ih (yes r) = ap (λ i. set (each n (λ j. f j ∷ []) ++ (f n ∷ [])) i a) (r ∙ sym (length-each n f))
-          ∙ set-append-seam (each n (λ j. f j ∷ [])) (f n) [] a
-          ∙ ap₂ (λ l b. l ++ (b ∷ [])) (each-same n f g (λ j p. h j (omega arith) (λ x. let y : ⊥ = omega arith in y))) (e ∙ ap g r)
-      go ih (no r) = set-append-left (each n (λ j. f j ∷ [])) (f n ∷ []) k a (let p = length-each n f in omega arith)
-          ∙ ap₂ (λ l b. l ++ (b ∷ [])) (ih (omega arith))
-          (h n (omega arith) (λ x. r (sym x)))
 
 -- one entry more, at its place
 row-last : (es : List E) (e : E) → row (es ++ e ∷ []) (length es) ≡ e

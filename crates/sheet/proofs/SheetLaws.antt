@@ -1,20 +1,19 @@
 -- Laws of the whole sheet: what rows that were read say of its tables, and how the parts of the reading follow one another.
-use mathlib.Core.Path.{_≡_, refl, ap, ap₂, sym, subst, _∙_}
-use mathlib.Core.Logic.{_⊎_, inl, inr}
-use mathlib.Core.List.{List, [], _∷_, _++_}
-use mathlib.Core.Bool.{Bool, true, false, cond, not, _&&_, _||_}
-use Prim.Native.Nat.{ℕ, zero, suc, _+_, _-_, _≤_, _<_}
+use mathlib.Core.Path.{_≡_, refl, ap, sym, subst, _∙_}
+use mathlib.Core.Logic.{inl, inr}
+use mathlib.Core.List.{List, [], _∷_}
+use mathlib.Core.Bool.{Bool, true, false, cond, not, _||_}
+use Prim.Native.Nat.{ℕ, zero, suc, _+_, _≤_, _<_}
 use native.Mathlib.Omega.{arith}
 use native.Mathlib.Decide.{decLt}
-use borrow.Author.Tests.{lt-ltb, le-ltb, ltb-false, eqb-false}
-use lib.Dec.{ltb, eqb}
-use lib.ListN.{length, drop, getD, List·getD-append, drop-of-length-le}
-use lib.Seq.{getD-append-seam, drop-cons}
-use lib.IntN.{ℤ, pos, negsuc}
+use borrow.Author.Tests.{lt-ltb, le-ltb, ltb-false}
+use lib.Dec.{ltb}
+use lib.ListN.{length, drop, getD, drop-of-length-le}
+use lib.Seq.{drop-cons}
+use lib.IntN.{pos, negsuc}
 use Rattle.maxplus.specs.Whole.{up, dn}
-use Rattle.maxplus.specs.Entry.{E, absent, num, val, present?}
-use Rattle.maxplus.specs.Finite.{In, each}
-use Rattle.maxplus.specs.Tables.{Vec, Mat}
+use Rattle.maxplus.specs.Entry.{E, absent, num, val}
+use Rattle.maxplus.specs.Finite.{In}
 use Rattle.words.specs.Words.{bias, word}
 use Rattle.sheet.specs.Text.{bytes}
 use Rattle.sheet.specs.Sheet.{Got, got, refused, _>>=_, Rule, size, entry, mark, limit, out-of-range, no-size, absent?, any, all, checked, line, rows, row, table, Sheet, count, finished, tables, lines, read}
@@ -23,7 +22,8 @@ use Rattle.sheet.specs.Inner.{Read, RowsAre, SizeIs, EmptyWords, good-of
 use Rattle.sheet.specs.declared.SizeLine.{SizeLine}
 use Rattle.sheet.specs.declared.Row.{Row}
 use Rattle.sheet.specs.declared.rows.Rows.{Rows}
-use Rattle.sheet.proofs.RowsLaws.{length-each}
+use Rattle.sheet.proofs.PlaceLaws.{strip-at, grid-at, strip-eq}
+use Rattle.sheet.proofs.FaultLaws.{none-or}
 
 -- ---- what an answer of read_rows says
 module _ (r : Rule) (s : List ℕ) (lines n : ℕ) (R : Rows) where
@@ -68,35 +68,6 @@ module _ (key : List ℕ) (r : Rule) (n : ℕ) (x : List ℕ) where
       (es : List E) × (t ≡ es ∷ []) × (line key r n x ≡ got es y)
   line-got t y e = one-got (line key r n x) t y (sym (rows-one key r n x) ∙ e)
 
--- ---- a place of a strip and of a grid
-each-at : {A : Type 0} (n k : ℕ) (f : ℕ → A) (d : A) → k < n → getD (each n (λ j. f j ∷ [])) k d ≡ f k
-unfolding each
-each-at zero k f d h = let e : ⊥ = omega arith in absurd e
-each-at (suc n) k f d h = go (λ q. each-at n k f d q) (decLt k n)
-  where
-    go : (k < n → getD (each n (λ j. f j ∷ [])) k d ≡ f k) → Dec (k < n) → getD (each n (λ j. f j ∷ []) ++ (f n ∷ [])) k d ≡ f k
-    go ih (yes q) = List·getD-append (each n (λ j. f j ∷ [])) (f n ∷ []) d k (let p = length-each n f in omega arith) ∙ ih q
-    go ih (no q) = let e : k ≡ n = omega arith in
-        ap (λ i. getD (each n (λ j. f j ∷ []) ++ (f n ∷ [])) i d) (e ∙ sym (length-each n f))
-        ∙ getD-append-seam (each n (λ j. f j ∷ [])) (f n) [] d ∙ ap f (sym e)
-
-pub strip-at : (v : Vec) (j : ℕ) → j < 6 → getD (strip v) j 0 ≡ word (v j)
-unfolding strip
-strip-at v j h = each-at 6 j (λ j. word (v j)) 0 h
-
-pub grid-at : (A : Mat) (i : ℕ) (d : Row) → i < 6 → getD (grid A) i d ≡ record { at = strip (A i) }
-unfolding grid
-grid-at A i d h = each-at 6 i (λ i. record { at = strip (A i) }) d h
-
-each-eq : {A : Type 0} (n : ℕ) (f g : ℕ → A) → ((j : ℕ) → f j ≡ g j) → each n (λ j. f j ∷ []) ≡ each n (λ j. g j ∷ [])
-unfolding each
-each-eq zero f g h = refl
-each-eq (suc n) f g h = ap₂ _++_ (each-eq n f g h) (ap (λ a. a ∷ []) (h n))
-
-pub strip-eq : (v w : Vec) → ((j : ℕ) → v j ≡ w j) → strip v ≡ strip w
-unfolding strip
-strip-eq v w h = each-eq 6 (λ j. word (v j)) (λ j. word (w j)) (λ j. ap word (h j))
-
 -- ---- lines without fault
 cond-got : {A : Type 0} (b : Bool) (k : ℕ) (g : Got A) (a : A) (s : List ℕ) → cond b (refused k) g ≡ got a s → (b ≡ false) × (g ≡ got a s)
 cond-got true k g a s e = absurd (let z : _≡_ {A = ℕ} 0 1 = cc in omega arith)
@@ -117,10 +88,6 @@ size-good es s e = let p = cond-got (any absent? es) 2 _ es s e in (p .0, cond-g
 true-not-false : true ≡ false → ⊥
 true-not-false e = let z : _≡_ {A = ℕ} 0 1 = cc in omega arith
 
-or-false : (a b : Bool) → (a || b) ≡ false → (a ≡ false) × (b ≡ false)
-or-false true b e = absurd (true-not-false e)
-or-false false b e = (refl, e)
-
 -- a good size line has one number, 1 to 6
 not-absent : any absent? (absent ∷ []) ≡ false → ⊥
 unfolding any
@@ -136,7 +103,7 @@ not-zero e = true-not-false e
 
 at-most-six : (m : ℕ) → any no-size (num (pos (suc m)) ∷ []) ≡ false → suc m ≤ 6
 unfolding any
-at-most-six m e = ltb-false 6 (suc m) (or-false _ _ (or-false _ _ e .0) .0)
+at-most-six m e = ltb-false 6 (suc m) (none-or _ _ (none-or _ _ e .0) .0)
 
 pub one-size : (es : List E) → length es ≡ 1 → (s : List ℕ) → checked size es s ≡ got es s → (m : ℕ) × (es ≡ num (pos (suc m)) ∷ []) × (suc m ≤ 6)
 one-size [] h s g = absurd (let e : ⊥ = omega arith in e)
@@ -150,7 +117,7 @@ one-size (num (pos (suc m)) ∷ []) h s g = (m, refl, at-most-six m (size-good (
 word-near : (e : E) → out-of-range e ≡ false → word e ≡ 0 → absent? e ≡ true
 unfolding word
 word-near absent h w = refl
-word-near (num z) h w = let b = ltb-false limit (dn z) (or-false (ltb limit (up z)) _ h .1) in let e : ⊥ = omega arith in absurd e
+word-near (num z) h w = let b = ltb-false limit (dn z) (none-or (ltb limit (up z)) _ h .1) in let e : ⊥ = omega arith in absurd e
 
 abbrev there : E → Bool
 there e = not (absent? e)
@@ -161,7 +128,7 @@ unfolding any row
 row-empty [] n h g w = refl
 row-empty (e ∷ es) zero h g w = let x : ⊥ = omega arith in absurd x
 row-empty (e ∷ es) (suc n) h g w =
-    let p = or-false (out-of-range e) _ g in
+    let p = none-or (out-of-range e) _ g in
     rw (word-near e (p .0) (w 0 (omega arith))) (row-empty es n (omega arith) (p .1) (λ j q. w (suc j) (omega arith)))
 
 or-true : (a b : Bool) → b ≡ true → (a || b) ≡ true

@@ -3,7 +3,7 @@ use mathlib.Core.List.{List, [], _∷_}
 use mathlib.Core.Bool.{cond}
 use Prim.Native.Nat.{ℕ}
 use lib.Dec.{ltb}
-use Rattle.maxplus.specs.Entry.{E, absent, num}
+use Rattle.maxplus.specs.Entry.{absent, num}
 use Rattle.maxplus.specs.Finite.{each}
 use Rattle.maxplus.specs.Tables.{Vec, Mat}
 use Rattle.words.specs.Words.{word}

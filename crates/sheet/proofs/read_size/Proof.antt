@@ -1,12 +1,11 @@
 -- `sheet::read_size` meets its contract. Assumes nothing.
-use Prim.Native.Nat.{ℕ, suc, _+_, _-_, _≤_}
-use mathlib.Core.Path.{_≡_, refl, ap, sym, _∙_}
+use mathlib.Core.Path.{refl}
 use mathlib.Core.List.{[]}
 use native.Mathlib.Omega.{arith}
 use borrow.Author.Needs.{needs}
 use lib.ListN.{drop}
 use Rattle.maxplus.specs.Entry.{val}
-use Rattle.sheet.specs.Sheet.{size, rows, row}
+use Rattle.sheet.specs.Sheet.{size, row}
 use Rattle.sheet.proofs.SheetLaws.{was-refused, line-refused, SizeRead, size-read}
 use Rattle.sheet.proofs.read_size.Statement.{statement}
 use Rattle.sheet.proofs.read_size.Tie as tie

@@ -1,13 +1,11 @@
 -- `sheet::read_tables` meets its contract: each part of the reading gives what its definition gives. Assumes nothing.
-use Prim.Native.Nat.{ℕ, _≤_}
-use mathlib.Core.Path.{_≡_, refl, ap, sym, subst, _∙_}
-use mathlib.Core.Bool.{Bool, true, false}
+use mathlib.Core.Path.{_≡_, ap, sym, _∙_}
 use mathlib.Core.List.{[], _∷_}
 use native.Mathlib.Omega.{arith}
 use borrow.Author.Needs.{needs}
 use lib.ListN.{drop}
 use Rattle.sheet.specs.Text.{bytes}
-use Rattle.sheet.specs.Sheet.{refused, entry, mark, any, all, absent?, rows, tables}
+use Rattle.sheet.specs.Sheet.{refused, entry, mark, any, all, absent?, rows}
 use Rattle.sheet.specs.Reading.{answer}
 use Rattle.sheet.proofs.SheetLaws.{was-refused, was-read, Rest, line-refused, tables-lag, tables-floor, tables-due, tables-after, TablesRead, tables-read, tables-left, tables-no-lag, tables-no-floor, tables-good, line-got}
 use Rattle.sheet.proofs.read_tables.Statement.{statement}

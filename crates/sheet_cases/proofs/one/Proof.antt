@@ -1,6 +1,5 @@
 -- `sheet_cases::one` is safe and ends. Assumes nothing.
-use Prim.Native.Nat.{_≤_, _-_, _<_}
-use native.Mathlib.Omega.{arith}
+use Prim.Native.Nat.{_≤_, _-_}
 use borrow.Author.Needs.{needs}
 use lib.ListN.{length}
 use Rattle.sheet_cases.proofs.one.Statement.{statement}

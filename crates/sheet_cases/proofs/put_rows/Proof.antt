@@ -1,8 +1,6 @@
 -- `sheet_cases::put_rows` is safe and ends. Assumes nothing.
-use Prim.Native.Nat.{_≤_, _-_, _<_}
-use native.Mathlib.Omega.{arith}
+use Prim.Native.Nat.{_≤_, _-_}
 use borrow.Author.Needs.{needs}
-use lib.ListN.{length}
 use Rattle.sheet_cases.proofs.put_rows.Statement.{statement}
 use Rattle.sheet_cases.proofs.put_rows.Tie as tie
 

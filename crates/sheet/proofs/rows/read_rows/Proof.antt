@@ -1,10 +1,9 @@
-use Prim.Native.Nat.{ℕ, _+_, _-_, _≤_, _<_}
-use mathlib.Core.Path.{_≡_, refl, ap, sym, subst, _∙_}
-use mathlib.Core.Bool.{true, false}
+use Prim.Native.Nat.{ℕ, _+_, _-_}
+use mathlib.Core.Path.{_≡_, refl, sym, subst, _∙_}
+use mathlib.Core.Bool.{true}
 use native.Mathlib.Omega.{arith}
-use borrow.Author.Needs.{needs}
 use mathlib.Core.List.{List, []}
-use lib.ListN.{length, drop, set}
+use lib.ListN.{drop, set}
 use Rattle.maxplus.specs.Finite.{each, mapL}
 use Rattle.words.specs.Words.{word}
 use Rattle.sheet.specs.Sheet.{got, refused, ended, checked, line, row, table}
