@@ -1,33 +1,39 @@
 -- Document 01's cases marked P as one table, computed from the definitions: the sheet, the words lent, what planning returns, and the
 -- words afterwards. The text of the whole case beside it.
 use mathlib.Core.Path.{_≡_, refl}
+use mathlib.Core.Bool.{true, false, cond, decide}
 use mathlib.Core.List.{List, [], _∷_, _++_}
-use Prim.Native.Nat.{ℕ}
+use Prim.Native.Nat.{ℕ, _<_}
+use Prim.Native.Nat as nat
+use native.Mathlib.Omega.{arith}
+use lib.Dec.{eqb, lit<}
 use Prim.Native.String.{String}
 use Prim.Native.String as string
 use native.Mathlib.Decide.{decLe}
 use lib.IntN.{ℤ, pos, negsuc}
 use lib.ListN.{replicate}
 use Rattle.maxplus.specs.Whole.{_+z_, neg, maxz}
-use Rattle.maxplus.specs.Entry.{E, absent, num, _⊗_, _⊕_, inv, val}
+use Rattle.maxplus.specs.Entry.{E, absent, num, _⊗_, _⊕_, inv, val, Present}
 use Rattle.maxplus.specs.Finite.{each, mapL, sum}
-use Rattle.maxplus.specs.Tables.{sup, supL, mv, mm, idm, power, star, normal}
+use Rattle.maxplus.specs.Tables.{sup, supL, mv, mm, idm, power, star, NoGain, normal}
 use Rattle.maxplus.specs.Line.{at, line}
 use Rattle.maxplus.specs.Sorted.{put, sift}
 use Rattle.maxplus.proofs.WholeLaws.{z-dec}
-use Rattle.maxplus.proofs.EntryLaws.{≼-dec, present-dec}
-use Rattle.maxplus.proofs.FiniteLaws.{all-or, all-dec, any-dec, dec-×, dec-¬, dec-→}
+use Rattle.maxplus.proofs.EntryLaws.{≼-dec, present-dec, same-entry?}
+use Rattle.maxplus.proofs.FiniteLaws.{all-or, all-dec, any-dec, dec-×, dec-¬, dec-→, decide-yes, decide-of}
 use Rattle.maxplus.proofs.LineLaws.{ltE-cmp, ltL-cmp, strict, same?}
 use Rattle.maxplus.proofs.CombinationLaws.{under-dec, met?, asked?, combination?}
 use Rattle.maxplus.proofs.StarLaws.{gain-or, no-gain?}
 use Rattle.generators.specs.Minimal.{others, needed?, minimal}
-use Rattle.cue.specs.Meaning.{overdue}
+use Rattle.cue.specs.Meaning.{Tables, Keeps, overdue, shortfall, deviation, Readable}
 use Rattle.cue.specs.Method.{through, pullE, pull, leastE, least, floor-panels, serves-as-well, cut, walk, fixings, kept, kept-byte, kept-count}
 use Rattle.cue.specs.Method.{selections, steps, need, seed, ray, candidate, candidates, lines}
+use Rattle.cue.proofs.Order.{keeps?}
+use Rattle.cue.proofs.Deviation.{tightest?}
 use Rattle.sheet.specs.Text.{bytes}
 use Rattle.sheet.specs.Sheet.{literal, value, behind, signed, item, ended, items, any, checked, rows, row, table, tables, read}
 use Rattle.sheet.specs.Sheet as sheet
-use Rattle.planner.specs.Outcome.{Outcome, planned, full, refused, orderly, line-words, list-words, planning, space-after, keeping}
+use Rattle.planner.specs.Outcome.{Outcome, planned, full, refused, orderly, line-words, list-words, planning, space-after, keeping, answer, Testing}
 use Rattle.planner.specs.Outcome.{kept as kept-table}
 use Rattle.planner.specs.Text.{digits, joined, line-texts, text, program-text}
 
@@ -112,3 +118,44 @@ texts-hold = refl
 pub kept-holds : keeping (bytes whole-case) ≡ kept-table (pos 2) ((1, 1) ∷ (3, 2) ∷ []) 2 1
 unfolding keeping kept-byte kept-count orderly line-words list-words read sheet.lines sheet.line rows tables checked any ended items item signed value behind literal row table bytes least leastE steps selections lines minimal needed? others combination? asked? met? under-dec fixings walk kept cut serves-as-well floor-panels through pull pullE overdue need seed ray candidate candidates no-gain? gain-or mm mv star power idm normal sup supL at line put sift each mapL sum val inv _⊗_ _⊕_ maxz _+z_ neg decLe z-dec ≼-dec present-dec all-or all-dec any-dec dec-× dec-¬ dec-→ ltE-cmp ltL-cmp strict same?
 kept-holds = refl
+
+-- ---- "in the whole case, times 0,0 and 0,1 are tightest; 0,2 is not"
+abbrev whole : Tables
+whole =
+    record {
+      panels = 2;
+      lag = table ((num (pos 2) ∷ zero ∷ []) ∷ (num (pos 4) ∷ num (pos 1) ∷ []) ∷ []);
+      floor = row (num (pos 5) ∷ num (pos 2) ∷ []);
+      due = λ j. val (row (num (pos 1) ∷ num (pos 2) ∷ []) j);
+      after = table ((absent ∷ absent ∷ []) ∷ (absent ∷ absent ∷ []) ∷ []);
+    }
+
+whole-readable : Readable 2 whole
+unfolding row table
+whole-readable =
+    record {
+      trigger = lit< tt;
+      floored = (0, lit< tt, (pos 5, refl));
+      lagged = lagged;
+    }
+  where
+    lagged : (i : ℕ) → i < 2 → (j : ℕ) × (j < 2) × Present (whole .lag i j)
+    lagged nat.zero h = (0, lit< tt, (pos 2, refl))
+    lagged (nat.suc nat.zero) h = (0, lit< tt, (pos 4, refl))
+    lagged (nat.suc (nat.suc i)) h = absurd (let e : ⊥ = omega arith in e)
+
+whole-ordered : NoGain 2 (whole .after)
+unfolding read sheet.lines sheet.line rows tables checked any ended items item signed value behind literal row table bytes least leastE steps selections lines minimal needed? others combination? asked? met? under-dec fixings walk kept cut serves-as-well floor-panels through pull pullE overdue need seed ray candidate candidates no-gain? gain-or mm mv star power idm normal sup supL at line put sift each mapL sum val inv _⊗_ _⊕_ maxz _+z_ neg decLe z-dec ≼-dec present-dec all-or all-dec any-dec dec-× dec-¬ dec-→ ltE-cmp ltL-cmp strict same? decide
+whole-ordered = decide-yes (no-gain? 2 (whole .after)) tt
+
+abbrev second : ℕ → ℕ → ℤ
+second b j = cond (eqb j 1) (pos b) (pos 0)
+
+pub times-hold : Testing (bytes whole-case) 2 (second 0) (answer true) × Testing (bytes whole-case) 2 (second 1) (answer true) ×
+    Testing (bytes whole-case) 2 (second 2) (answer false)
+unfolding Testing tightest? keeps? Keeps same-entry? deviation shortfall read sheet.lines sheet.line rows tables checked any ended items item signed value behind literal row table bytes least leastE steps selections lines minimal needed? others combination? asked? met? under-dec fixings walk kept cut serves-as-well floor-panels through pull pullE overdue need seed ray candidate candidates no-gain? gain-or mm mv star power idm normal sup supL at line put sift each mapL sum val inv _⊗_ _⊕_ maxz _+z_ neg decLe z-dec ≼-dec present-dec all-or all-dec any-dec dec-× dec-¬ dec-→ ltE-cmp ltL-cmp strict same? decide
+times-hold = (
+  decide-yes (tightest? 2 whole whole-readable whole-ordered (second 0)) tt,
+  decide-yes (tightest? 2 whole whole-readable whole-ordered (second 1)) tt,
+  λ t. decide-of (tightest? 2 whole whole-readable whole-ordered (second 2)) t,
+)
