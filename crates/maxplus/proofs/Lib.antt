@@ -5,6 +5,7 @@ pub mod FiniteLaws
 pub mod SupLaws
 pub mod TableLaws
 pub mod SortedLaws
+pub mod GatherLaws
 pub mod LineLaws
 pub mod CombinationLaws
 pub mod Pigeon
