@@ -1,3 +1,4 @@
 -- One cue in one house: what is meant, and the method that finds it.
 pub mod Meaning
 pub mod Method
+pub mod Written

@@ -33,7 +33,8 @@ use Rattle.cue.proofs.Deviation.{tightest?}
 use Rattle.sheet.specs.Text.{bytes}
 use Rattle.sheet.specs.Sheet.{literal, value, behind, signed, item, ended, items, any, checked, rows, row, table, tables, read}
 use Rattle.sheet.specs.Sheet as sheet
-use Rattle.planner.specs.Outcome.{Outcome, planned, full, refused, orderly, line-words, list-words, planning, space-after, keeping, answer, Testing}
+use Rattle.cue.specs.Written.{line-words, list-words}
+use Rattle.planner.specs.Outcome.{Outcome, planned, full, refused, orderly, planning, space-after, keeping, answer, Testing}
 use Rattle.planner.specs.Outcome.{kept as kept-table}
 use Rattle.planner.specs.Text.{digits, joined, line-texts, text, program-text}
 

@@ -4,15 +4,15 @@ use mathlib.Core.List.{List, [], _∷_, _++_}
 use mathlib.Core.Bool.{Bool, true, false, cond, not, _||_}
 use Prim.Native.Nat.{ℕ, _*_, _/_}
 use lib.Dec.{leb, ltb, eqb}
-use lib.IntN.{ℤ, pos, negsuc}
+use lib.IntN.{ℤ}
 use lib.ListN.{length, drop}
 use Rattle.maxplus.specs.Whole.{up, dn}
-use Rattle.maxplus.specs.Entry.{E, absent, num}
 use Rattle.maxplus.specs.Finite.{each}
-use Rattle.maxplus.specs.Line.{Line, at}
+use Rattle.maxplus.specs.Line.{Line}
 use Rattle.maxplus.proofs.StarLaws.{no-gain?}
 use Rattle.cue.specs.Meaning.{Tables, Tightest}
 use Rattle.cue.specs.Method.{least, kept-byte, kept-count, steps, selections, lines}
+use Rattle.cue.specs.Written.{list-words}
 use Rattle.sheet.specs.Sheet.{Got, got, Sheet, _>>=_, any, read}
 use Rattle.sheet.specs.Sheet as sheet
 
@@ -55,19 +55,6 @@ plan-of room (got t r) =
     let D = least n P in
     let L = lines n P in
     cond (leb (length L) room) (planned n D (steps n P D) (length (selections n P D)) L) (full (length L))
-
--- "seven signed 32-bit words, absent being the least such number; words too few for a line hold none"
-abbrev pub signed : E → ℤ
-signed absent = negsuc 0x7fff_ffff
-signed (num z) = z
-
--- "a line carries its count of triggers and its six components, the unused ones absent"
-unfoldable pub line-words : (n : ℕ) → Line n → List ℤ
-line-words n c = pos n ∷ each 6 (λ i. signed (at n c i) ∷ [])
-
-unfoldable pub list-words : (n : ℕ) → List (Line n) → List ℤ
-list-words n [] = []
-list-words n (c ∷ L) = line-words n c ++ list-words n L
 
 unfoldable pub planning : List ℕ → List ℤ → Outcome
 planning s space = plan-of (length space / 7) (orderly s)

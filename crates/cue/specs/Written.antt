@@ -1,0 +1,20 @@
+-- How a list stands in the lent space (document 01, step 7).
+use mathlib.Core.List.{List, [], _∷_, _++_}
+use Prim.Native.Nat.{ℕ}
+use lib.IntN.{ℤ, pos, negsuc}
+use Rattle.maxplus.specs.Entry.{E, absent, num}
+use Rattle.maxplus.specs.Finite.{each}
+use Rattle.maxplus.specs.Line.{Line, at}
+
+-- "In the lent space these are seven signed 32-bit words, absent being the least such number"
+abbrev pub signed : E → ℤ
+signed absent = negsuc 0x7fff_ffff
+signed (num z) = z
+
+-- "a line carries its count of triggers and its six components, the unused ones absent"
+unfoldable pub line-words : (n : ℕ) → Line n → List ℤ
+line-words n c = pos n ∷ each 6 (λ i. signed (at n c i) ∷ [])
+
+unfoldable pub list-words : (n : ℕ) → List (Line n) → List ℤ
+list-words n [] = []
+list-words n (c ∷ L) = line-words n c ++ list-words n L
