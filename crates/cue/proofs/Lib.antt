@@ -8,6 +8,7 @@ pub mod Extreme
 pub mod LocalTest
 pub mod Closure
 pub mod Bounds
+pub mod WrittenLaws
 pub mod Weights
 pub mod TwoSheets
 pub mod Demands

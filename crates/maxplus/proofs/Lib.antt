@@ -2,6 +2,7 @@
 pub mod WholeLaws
 pub mod EntryLaws
 pub mod FiniteLaws
+pub mod EachLaws
 pub mod SupLaws
 pub mod TableLaws
 pub mod SortedLaws

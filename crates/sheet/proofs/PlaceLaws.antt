@@ -1,55 +1,13 @@
--- A list by its places: what stands at one, another value at one, and two that agree at all; so for six words and for six rows.
-use mathlib.Core.Path.{_≡_, refl, ap, ap₂, sym, _∙_}
-use mathlib.Core.List.{[], _∷_, _++_}
-use Prim.Native.Nat.{ℕ, zero, suc, _<_}
-use native.Mathlib.Omega.{arith}
-use native.Mathlib.Decide.{ℕ-discrete, decLt}
-use lib.ListN.{length, getD, set, length-append, List·getD-append}
-use lib.Seq.{getD-append-seam, set-append-left, set-append-seam}
-use Rattle.maxplus.specs.Finite.{each}
+-- Six words of a vector and six rows of a table, by their places.
+use mathlib.Core.Path.{_≡_, ap}
+use mathlib.Core.List.{_∷_}
+use Prim.Native.Nat.{ℕ, _<_}
+use lib.ListN.{getD}
 use Rattle.maxplus.specs.Tables.{Vec, Mat}
+use Rattle.maxplus.proofs.EachLaws.{each-same, each-at}
 use Rattle.words.specs.Words.{word}
 use Rattle.sheet.specs.Reading.{strip, grid}
 use Rattle.sheet.specs.declared.Row.{Row}
-
-module _ {A : Type 0} where
-  -- a list of n places, with another value at place k
-  pub length-each : (n : ℕ) (f : ℕ → A) → length (each n (λ j. f j ∷ [])) ≡ n
-  unfolding each
-  length-each zero f = refl
-  length-each (suc n) f = let h = length-each n f in simp length-append (omega arith)
-
-  pub each-same : (n : ℕ) (f g : ℕ → A) → ((j : ℕ) → j < n → f j ≡ g j) → each n (λ j. f j ∷ []) ≡ each n (λ j. g j ∷ [])
-  unfolding each
-  each-same zero f g h = refl
-  each-same (suc n) f g h = ap₂ _++_ (each-same n f g (λ j q. h j (omega arith))) (ap (λ a. a ∷ []) (h n (omega arith)))
-
-  pub each-set : (n k : ℕ) (f g : ℕ → A) (a : A) → k < n → a ≡ g k → ((j : ℕ) → j < n → ¬ (j ≡ k) → f j ≡ g j) →
-      set (each n (λ j. f j ∷ [])) k a ≡ each n (λ j. g j ∷ [])
-  unfolding each
-  each-set zero k f g a q e h = let x : ⊥ = omega arith in absurd x
-  each-set (suc n) k f g a q e h = go (λ p. each-set n k f g a p e (λ j p x. h j (omega arith) x)) (ℕ-discrete k n)
-    where
-      go : (k < n → set (each n (λ j. f j ∷ [])) k a ≡ each n (λ j. g j ∷ [])) → Dec (k ≡ n) →
-          set (each n (λ j. f j ∷ []) ++ (f n ∷ [])) k a ≡ each n (λ j. g j ∷ []) ++ (g n ∷ [])
-      go ih (yes r) = ap (λ i. set (each n (λ j. f j ∷ []) ++ (f n ∷ [])) i a) (r ∙ sym (length-each n f))
-          ∙ set-append-seam (each n (λ j. f j ∷ [])) (f n) [] a
-          ∙ ap₂ (λ l b. l ++ (b ∷ [])) (each-same n f g (λ j p. h j (omega arith) (λ x. let y : ⊥ = omega arith in y))) (e ∙ ap g r)
-      go ih (no r) = set-append-left (each n (λ j. f j ∷ [])) (f n ∷ []) k a (let p = length-each n f in omega arith)
-          ∙ ap₂ (λ l b. l ++ (b ∷ [])) (ih (omega arith))
-          (h n (omega arith) (λ x. r (sym x)))
-
--- ---- a place of a strip and of a grid
-each-at : {A : Type 0} (n k : ℕ) (f : ℕ → A) (d : A) → k < n → getD (each n (λ j. f j ∷ [])) k d ≡ f k
-unfolding each
-each-at zero k f d h = let e : ⊥ = omega arith in absurd e
-each-at (suc n) k f d h = go (λ q. each-at n k f d q) (decLt k n)
-  where
-    go : (k < n → getD (each n (λ j. f j ∷ [])) k d ≡ f k) → Dec (k < n) → getD (each n (λ j. f j ∷ []) ++ (f n ∷ [])) k d ≡ f k
-    go ih (yes q) = List·getD-append (each n (λ j. f j ∷ [])) (f n ∷ []) d k (let p = length-each n f in omega arith) ∙ ih q
-    go ih (no q) = let e : k ≡ n = omega arith in
-        ap (λ i. getD (each n (λ j. f j ∷ []) ++ (f n ∷ [])) i d) (e ∙ sym (length-each n f))
-        ∙ getD-append-seam (each n (λ j. f j ∷ [])) (f n) [] d ∙ ap f (sym e)
 
 pub strip-at : (v : Vec) (j : ℕ) → j < 6 → getD (strip v) j 0 ≡ word (v j)
 unfolding strip

@@ -8,13 +8,13 @@ use native.Mathlib.Omega.{arith}
 use lib.ListN.{length, drop, set, length-append}
 use Rattle.maxplus.specs.Entry.{E}
 use Rattle.maxplus.specs.Finite.{In, mapL}
+use Rattle.maxplus.proofs.EachLaws.{each-set}
 use Rattle.words.specs.Words.{word}
 use Rattle.sheet.specs.Sheet.{Got, got, refused, _>>=_, literal, ended, items, Rule, checked, line, rows, row, table}
 use Rattle.sheet.specs.Reading.{strip, grid}
 use Rattle.sheet.specs.Inner.{clip, LiteralAt, verdict, words-of, Read, RowsAre}
 use Rattle.sheet.specs.declared.Row.{Row}
 use Rattle.sheet.specs.declared.rows.Rows.{Rows}
-use Rattle.sheet.proofs.PlaceLaws.{each-set}
 
 module _ {A : Type 0} where
   -- what was read, in front of what is left

@@ -1,0 +1,85 @@
+-- One law for each way that the walk goes on: what it may be asked, what falls, and what it gives.
+-- What falls is eight times the events pending, plus the depth, or 7 where a panel has just been fixed.
+use mathlib.Core.Path.{_≡_, ap}
+use mathlib.Core.List.{List, _++_, append-nil}
+use Prim.Native.Nat.{ℕ, suc, _+_, _*_, _<_}
+use native.Mathlib.Omega.{arith}
+use lib.ListN.{length, getD, take}
+use lib.Count.{trailingZeros}
+use Rattle.walk.specs.Trace.{maskAt}
+use Rattle.walk.specs.State.{Ready, FixedReady, Gives, Descends, marks, pending, fixed}
+use Rattle.walk.specs.declared.Walk.{Walk}
+use Rattle.walk.specs.declared.Stepped.{Stepped}
+use Rattle.walk.specs.declared.Outcome.the-variants.{Selection, End}
+use Rattle.walk.proofs.Stack.{untried, fixAt, down, up, mark-more, pending-fix, pending-up, fixed-down, fixed-whole, pending-none}
+use Rattle.walk.proofs.Stack.{sound-fix, sound-down, sound-up}
+
+pub under : {a b t : ℕ} → b ≡ t → a < b → a < t
+under e h = omega arith
+
+module _ {kept : List ℕ} {gains : List (List ℕ)} {f : ℕ} {w : Walk} where
+  -- a call of `descending` after a fixing
+  module _ (y : Ready kept gains f w) (h : ¬ (untried w ≡ 0)) {j : ℕ} (e : j ≡ trailingZeros 8 (untried w)) where
+    some : 0 < untried w
+    some = omega (arith, h)
+
+    fix-length : length (pending kept gains f w) ≡ suc (length (fixed kept gains f (fixAt j w)))
+    fix-length = ap length (pending-fix kept gains f w (y .sound) j some e)
+
+    pub fix-less : 8 * length (fixed kept gains f (fixAt j w)) + 7 < 8 * length (pending kept gains f w) + w .depth
+    fix-less = omega (arith, fix-length)
+
+    pub fix-ready : FixedReady kept gains f (fixAt j w)
+    fix-ready = record { sound = sound-fix f w (y .sound) j some e; masks = y .masks; room = omega (arith, fix-length, y .room) }
+
+    pub fix-gives : (r : Stepped) → Descends kept gains f (fixAt j w) r →
+        Gives kept gains f (marks (w .fixings) ++ pending kept gains f w) r
+    fix-gives r s = rw (pending-fix kept gains f w (y .sound) j some e, mark-more (w .fixings) (fixed kept gains f (fixAt j w))) s
+
+  -- a call of `trying` at the panel above
+  module _ (y : Ready kept gains f w) (d : ¬ (w .depth ≡ 0)) (h : untried w ≡ 0) where
+    up-same : pending kept gains f w ≡ pending kept gains f (up w)
+    up-same = pending-up kept gains f w (y .sound) (omega (arith, d)) h
+
+    pub up-less : 8 * length (pending kept gains f (up w)) + up w .depth < 8 * length (pending kept gains f w) + w .depth
+    up-less = omega (arith, d, ap length up-same)
+
+    pub up-ready : Ready kept gains f (up w)
+    up-ready = record { sound = sound-up f w (y .sound); masks = y .masks; room = omega (arith, ap length up-same, y .room) }
+
+    pub up-gives : (r : Stepped) → Gives kept gains f (marks (w .fixings) ++ pending kept gains f (up w)) r →
+        Gives kept gains f (marks (w .fixings) ++ pending kept gains f w) r
+    up-gives r s = rw up-same s
+
+  -- a call of `trying` at the panel below
+  module _ (y : FixedReady kept gains f w) (d : ¬ (w .depth + 1 ≡ f)) {m : ℕ}
+      (k : m ≡ maskAt kept gains (take (w .depth + 1) (w .picks))) where
+    further : w .depth + 1 < f
+    further = omega (arith, d, y .sound .deep)
+
+    down-same : fixed kept gains f w ≡ pending kept gains f (down m w)
+    down-same = fixed-down kept gains f w (y .sound) m further k
+
+    pub down-less : 8 * length (pending kept gains f (down m w)) + down m w .depth < 8 * length (fixed kept gains f w) + 7
+    down-less = omega (arith, ap length down-same, y .sound .few)
+
+    pub down-ready : m < 64 → Ready kept gains f (down m w)
+    down-ready n = record {
+      sound = sound-down f w (y .sound) m further n;
+      masks = y .masks;
+      room = omega (arith, ap length down-same, y .room);
+    }
+
+    pub down-gives : (r : Stepped) → Gives kept gains f (marks (w .fixings) ++ pending kept gains f (down m w)) r →
+        Descends kept gains f w r
+    down-gives r s = rw down-same s
+
+  -- a whole selection, and the end
+  pub whole-gives : FixedReady kept gains f w → w .depth + 1 ≡ f → Descends kept gains f w (record { next = w; outcome = Selection })
+  whole-gives y e = record { sound = y .sound; given = rw (fixed-whole kept gains f w (y .sound) e) }
+
+  pub end-gives : Ready kept gains f w → w .depth ≡ 0 → untried w ≡ 0 →
+      Gives kept gains f (marks (w .fixings) ++ pending kept gains f w) (record { next = w; outcome = End })
+  end-gives y e h =
+      let g : getD (w .left) 0 0 ≡ 0 = rw e at h in
+      record { sound = y .sound; given = (rw (pending-none kept gains f w (y .sound) e g) (append-nil (marks (w .fixings))), (e, g)) }

@@ -1,0 +1,117 @@
+-- The whole walk: that cutting at once and cutting late come to the same, how long it is at most, and how it starts.
+use mathlib.Core.Path.{_≡_, refl, sym, ap, ap₂, fun-ext, _∙_}
+use mathlib.Core.Bool.{Bool, true, false, cond}
+use mathlib.Core.List.{List, [], _∷_, _++_, append-nil}
+use Prim.Native.Nat.{ℕ, zero, suc, _+_, _-_, _*_, _<_, _≤_}
+use native.Mathlib.Omega.{arith}
+use native.Mathlib.Nat.{suc-mul}
+use lib.Dec.{leb, leb→le}
+use lib.ListN.{length, getD, replicate, length-append}
+use Rattle.walk.specs.Trace.{Event, fixing, bit, bitsFrom, members, forEach, cut, serves, narrow, maskAt, run, walkFrom, walkOf}
+use Rattle.walk.specs.State.{Masks, Ready, level, stack, pending, startOf}
+use Rattle.walk.proofs.Small.{all-at, set-below}
+
+forEach-same : (js : List ℕ) (g h : ℕ → List Event) → ((j : ℕ) → g j ≡ h j) → forEach js g ≡ forEach js h
+unfolding forEach
+forEach-same [] g h e = refl
+forEach-same (j ∷ js) g h e = ap₂ _++_ (e j) (forEach-same js g h e)
+
+-- ---- cutting late: the masks after the fixings q are the kept ones narrowed by q, one after the other. So it is the same whether a fixing
+-- cuts every later mask at once, or a level's mask is cut by all the fixings above it when the level is come to.
+narrow-more : (gains : List (List ℕ)) (k j : ℕ) (q : List ℕ) (i m : ℕ) →
+    narrow gains k (q ++ j ∷ []) i m ≡ cut j (serves gains (i + length q) j k) (narrow gains k q i m)
+unfolding narrow
+narrow-more gains k j [] i m = let e : i + 0 ≡ i = omega arith in rw e
+narrow-more gains k j (x ∷ q) i m =
+    let e : i + suc (length q) ≡ suc i + length q = omega arith in
+    rw e (narrow-more gains k j q (suc i) (cut x (serves gains i x k) m))
+
+module _ (kept : List ℕ) (gains : List (List ℕ)) where
+  -- the masks after the fixings q
+  abbrev left : List ℕ → ℕ → ℕ
+  left q k = narrow gains k q 0 (getD kept k 0)
+
+  left-more : (q : List ℕ) (j : ℕ) →
+      _≡_ {A = ℕ → ℕ} (λ k. cut j (serves gains (length q) j k) (left q k)) (left (q ++ j ∷ []))
+  left-more q j = fun-ext (λ k. let e : 0 + length q ≡ length q = omega arith in sym (rw e at (narrow-more gains k j q 0 (getD kept k 0))))
+
+  late : (l : ℕ) (q : List ℕ) → walkFrom gains l (length q) (left q) q ≡ run kept gains l q
+  unfolding walkFrom run maskAt
+  late zero q = refl
+  late (suc l) q = forEach-same (members (left q (length q))) _ _ (λ j. ap (λ (es : List Event). fixing ∷ es)
+      (let e : length (q ++ j ∷ []) ≡ suc (length q) = length-append q (j ∷ []) ∙ omega arith in
+      rw (left-more q j, ← e) (late l (q ++ j ∷ []))))
+
+  walk-run : (f : ℕ) → walkOf kept gains f ≡ run kept gains f []
+  unfolding walkOf narrow
+  walk-run f = late f []
+
+-- ---- how many events there are at most
+bits-few : (c j m : ℕ) → length (bitsFrom c j m) ≤ c
+unfolding bitsFrom
+bits-few zero j m = omega arith
+bits-few (suc c) j m = go (bit m j) (bits-few c (suc j) m)
+  where
+    go : (b : Bool) → length (bitsFrom c (suc j) m) ≤ c → length (cond b (j ∷ bitsFrom c (suc j) m) (bitsFrom c (suc j) m)) ≤ suc c
+    go true h = omega arith
+    go false h = omega arith
+
+forEach-few : (c b : ℕ) (js : List ℕ) (g : ℕ → List Event) → length js ≤ c → ((j : ℕ) → length (g j) ≤ b) →
+    length (forEach js g) ≤ c * b
+unfolding forEach
+forEach-few c b [] g h k = omega arith
+forEach-few zero b (j ∷ js) g h k = let e : ⊥ = omega arith in absurd e
+forEach-few (suc c) b (j ∷ js) g h k =
+    let r = forEach-few c b js g (omega arith) k in
+    omega (arith, suc-mul c b, k j, length-append (g j) (forEach js g))
+
+most : ℕ → ℕ
+most zero = 1
+most (suc l) = 6 * suc (most l)
+
+run-few : (kept : List ℕ) (gains : List (List ℕ)) (l : ℕ) (q : List ℕ) → length (run kept gains l q) ≤ most l
+unfolding run most members
+run-few kept gains zero q = omega arith
+run-few kept gains (suc l) q =
+    forEach-few 6 (suc (most l)) (members (maskAt kept gains q)) _ (bits-few 6 0 (maskAt kept gains q))
+    (λ j. let r = run-few kept gains l (q ++ j ∷ []) in omega arith)
+
+most-few : (f : ℕ) → f < 7 → most f ≤ 102642
+unfolding most
+most-few f h = leb→le (most f) 102642 (all-at (λ f. leb (most f) 102642) 7 tt f h)
+
+pub walk-few : (kept : List ℕ) (gains : List (List ℕ)) (f : ℕ) → f ≤ 6 → length (walkOf kept gains f) ≤ 102642
+walk-few kept gains f h = rw (walk-run kept gains f) (omega (arith, run-few kept gains f [], most-few f (omega arith)))
+
+-- ---- the start
+zeros : (b n k : ℕ) → 0 < b → getD (replicate n 0) k 0 < b
+zeros b zero k h = h
+zeros b (suc n) zero h = h
+zeros b (suc n) (suc k) h = zeros b n k h
+
+module _ (kept : List ℕ) (gains : List (List ℕ)) (f : ℕ) (h : 0 < f) where
+  start-run : pending kept gains f (startOf kept) ≡ run kept gains f []
+  unfolding pending stack level run maskAt narrow
+  start-run = go f h
+    where
+      go : (f : ℕ) → 0 < f → pending kept gains f (startOf kept) ≡ run kept gains f []
+      go zero h = let e : ⊥ = omega arith in absurd e
+      go (suc l) h = let e : suc l - (0 + 1) ≡ l = omega arith in rw e (append-nil (level kept gains l (getD kept 0 0) []))
+
+  -- at the start the whole walk is pending
+  pub start-pending : pending kept gains f (startOf kept) ≡ walkOf kept gains f
+  start-pending = start-run ∙ sym (walk-run kept gains f)
+
+  pub start-ready : f ≤ 6 → Masks kept → Ready kept gains f (startOf kept)
+  start-ready k s = record {
+    sound = record {
+      few = k;
+      deep = h;
+      lefts = refl;
+      chosen = refl;
+      small = set-below 64 (replicate 6 0) 0 (getD kept 0 0) (λ i. zeros 64 6 i (omega arith)) (s 0);
+      inside = λ i. zeros 6 6 i (omega arith);
+    };
+    masks = s;
+    room = rw start-pending (omega (arith, walk-few kept gains f k));
+  }

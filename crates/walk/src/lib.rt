@@ -1,0 +1,217 @@
+// The walk of document 01, step 5, over the panels with a floor: level l is the l-th of them, kept[l] the mask of its kept triggers (bit 0
+// for trigger 1), and gains[l][j] a word in whose order d(i,j) − p(i) stands. A walk keeps the untried triggers of each open level and its
+// picks; a panel's mask is narrowed by the picks on the way down, so nothing is ever restored.
+ghost use mathlib.Core.Path.{_≡_};
+ghost use Prim.Native.Nat.{ℕ, _<_, _≤_};
+ghost use lib.Count.{trailingZeros};
+ghost use lib.ListN.{length, getD, take};
+ghost use Rattle.walk.specs.Trace.{bit, cut, maskAt};
+ghost use Rattle.walk.specs.State.{Ready, Steps, FixedReady, Descends, Masks, at, turned, startOf, countsOf};
+
+// What a step gives.
+pub enum Outcome {
+    Selection,
+    End,
+}
+
+// The level that is tried, the fixings so far, and for each open level its untried triggers and its pick.
+pub struct Walk {
+    pub depth: usize,
+    pub fixings: u32,
+    pub left: [u8; 6],
+    pub picks: [u8; 6],
+}
+
+pub struct Stepped {
+    pub next: Walk,
+    pub outcome: Outcome,
+}
+
+// What a turn leaves beside the two arrays that are lent to it.
+pub struct Turn {
+    pub depth: usize,
+    pub fixings: u32,
+    pub outcome: Outcome,
+}
+
+pub struct Counts {
+    pub steps: u32,
+    pub selections: u32,
+}
+
+fn wide(x: u8) -> usize
+    ensures { λ r. ⌜ r ≡ x ⌝ }
+{
+    x as usize
+}
+
+fn has(m: u8, j: usize) -> bool
+    requires { ⌜ j < 8 ⌝ }
+    ensures { λ r. ⌜ r ≡ bit m j ⌝ }
+{
+    (m >> j) % 2 == 1
+}
+
+// The lowest bit: the next trigger to fix.
+fn low(m: u8) -> u8
+    requires { ⌜ (0 < m) × (m < 64) ⌝ }
+    ensures { λ r. ⌜ r ≡ trailingZeros 8 m ⌝ }
+{
+    u8::trailing_zeros(m) as u8
+}
+
+// What fixing trigger j leaves of a later panel's mask m; `serves`: j is there as good as where it was fixed.
+fn cut_by(j: usize, serves: bool, m: u8) -> u8
+    requires { ⌜ j < 6 ⌝ }
+    ensures { λ r. ⌜ r ≡ cut j serves m ⌝ }
+{
+    if has(m, j) {
+        if serves {
+            return 1u8 << j;
+        }
+    }
+    m
+}
+
+// The triggers left to level k after the picks of the levels above it.
+fn narrowed(kept: &[u8; 6], gains: &[[u64; 6]; 6], picks: [u8; 6], k: usize) -> u8
+    requires { ⌜ (k < 6) × ((i : ℕ) → getD picks i 0 < 6) × (length picks ≡ 6) × Masks (now kept) ⌝ }
+    ensures { λ r. ⌜ (r ≡ maskAt (now (kept .entry)) (now (gains .entry)) (take k picks)) × (r < 64) ⌝ }
+{
+    let mut m = kept[k];
+    let mut i: usize = 0;
+    while i < k {
+        let j = wide(picks[i]);
+        let serves = gains[i][j] <= gains[k][j];
+        m = cut_by(j, serves, m);
+        i += 1;
+    }
+    m
+}
+
+// Trying the triggers of the panel at the depth: the next one is fixed; where none is left, the panel above goes on.
+// The arrays are lent: a struct handed on by value at each call is three times as slow.
+fn trying(
+    left: &mut [u8; 6],
+    picks: &mut [u8; 6],
+    depth: usize,
+    fixings: u32,
+    panels: usize,
+    kept: &[u8; 6],
+    gains: &[[u64; 6]; 6],
+) -> Turn
+    requires { ⌜ Ready (now kept) (now gains) panels (at depth fixings (now left) (now picks)) ⌝ }
+    ensures { λ r. ⌜ Steps (now (kept .entry)) (now (gains .entry)) panels (at depth fixings (now (left .entry)) (now (picks .entry)))
+        (turned r (now (left .exit)) (now (picks .exit))) ⌝ }
+{
+    let m = left[depth];
+    if m == 0 {
+        if depth == 0 {
+            let end = Outcome::End;
+            return Turn {
+                depth: depth,
+                fixings: fixings,
+                outcome: end,
+            };
+        }
+        return trying(left, picks, depth - 1, fixings, panels, kept, gains);
+    }
+    picks[depth] = low(m);
+    left[depth] = m & (m - 1);
+    descending(left, picks, depth, fixings + 1, panels, kept, gains)
+}
+
+// Down from a panel that has just been fixed: to the next one, unless the selection is whole.
+fn descending(
+    left: &mut [u8; 6],
+    picks: &mut [u8; 6],
+    depth: usize,
+    fixings: u32,
+    panels: usize,
+    kept: &[u8; 6],
+    gains: &[[u64; 6]; 6],
+) -> Turn
+    requires { ⌜ FixedReady (now kept) (now gains) panels (at depth fixings (now left) (now picks)) ⌝ }
+    ensures { λ r. ⌜ Descends (now (kept .entry)) (now (gains .entry)) panels (at depth fixings (now (left .entry)) (now (picks .entry)))
+        (turned r (now (left .exit)) (now (picks .exit))) ⌝ }
+{
+    if depth + 1 == panels {
+        let selection = Outcome::Selection;
+        return Turn {
+            depth: depth,
+            fixings: fixings,
+            outcome: selection,
+        };
+    }
+    let chosen = *picks;
+    left[depth + 1] = narrowed(kept, gains, chosen, depth + 1);
+    trying(left, picks, depth + 1, fixings, panels, kept, gains)
+}
+
+impl Walk {
+    pub fn start(kept: &[u8; 6]) -> Walk
+        ensures { λ r. ⌜ r ≡ startOf (now (kept .entry)) ⌝ }
+    {
+        let mut left = [0u8; 6];
+        left[0] = kept[0];
+        Walk {
+            depth: 0,
+            fixings: 0,
+            left: left,
+            picks: [0u8; 6],
+        }
+    }
+
+    // The next selection, or the end; after the end the end again, unchanged.
+    pub fn step(self, panels: usize, kept: &[u8; 6], gains: &[[u64; 6]; 6]) -> Stepped
+        requires { ⌜ Ready (now kept) (now gains) panels self ⌝ }
+        ensures { λ r. ⌜ Steps (now (kept .entry)) (now (gains .entry)) panels self r ⌝ }
+    {
+        let mut left = self.left;
+        let mut picks = self.picks;
+        let t = trying(
+            &mut left,
+            &mut picks,
+            self.depth,
+            self.fixings,
+            panels,
+            kept,
+            gains,
+        );
+        let o = t.outcome;
+        Stepped {
+            next: Walk {
+                depth: t.depth,
+                fixings: t.fixings,
+                left: left,
+                picks: picks,
+            },
+            outcome: o,
+        }
+    }
+}
+
+// The fixings and the selections of the whole walk.
+pub fn count(panels: usize, kept: &[u8; 6], gains: &[[u64; 6]; 6]) -> Counts
+    requires { ⌜ (0 < panels) × (panels ≤ 6) × Masks (now kept) ⌝ }
+    ensures { λ r. ⌜ r ≡ countsOf (now (kept .entry)) (now (gains .entry)) panels ⌝ }
+{
+    let mut w = Walk::start(kept);
+    let mut n: u32 = 0;
+    loop {
+        let s = w.step(panels, kept, gains);
+        let o = s.outcome;
+        w = s.next;
+        match o {
+            Outcome::End => {
+                return Counts {
+                    steps: w.fixings,
+                    selections: n,
+                };
+            }
+            Outcome::Selection => {
+                n += 1;
+            }
+        }
+    }
+}
