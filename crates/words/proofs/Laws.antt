@@ -7,10 +7,10 @@ use native.Mathlib.Omega.{arith}
 use lib.Dec.{leb, eqb, eqb·suc-zero}
 use lib.IntN.{ℤ, pos, subℕ}
 use borrow.Author.Tests.{leb-true, leb-false}
-use Rattle.maxplus.specs.Whole.{up, dn, _≤z_, _+z_, neg}
+use Rattle.maxplus.specs.Whole.{up, dn, _+z_, neg}
 use Rattle.maxplus.specs.Entry.{E, absent, num, _≼_, leqE, _⊗_, _⊕_, inv, present?}
 use Rattle.maxplus.proofs.WholeLaws.{z-eq, up-sub, up-add, up-neg}
-use Rattle.maxplus.proofs.EntryLaws.{≼-refl, ≼-anti, ≼-absent, ≼-of, ⊕-l, ⊕-r, ⊕-lub, ⊕-or, ⊗-absent, ⊗-nothing, ⊗-nums}
+use Rattle.maxplus.proofs.EntryLaws.{≼-refl, ≼-anti, ≼-absent, ⊕-l, ⊕-r, ⊕-lub, ⊕-or, ⊗-absent, ⊗-nothing}
 use Rattle.maxplus.proofs.EntryLaws.{num-⊗, inv-num, num-inj, absent-not, leqE-yes, leqE-of}
 use Rattle.words.specs.Words.{bias, word, entry, far, Close}
 
@@ -50,13 +50,13 @@ unfolding entry
 entry-zero = refl
 
 -- ---- the order of words is the order of entries
-entry-mono : (a b : ℕ) → a ≤ b → entry a ≼ entry b
+pub entry-mono : (a b : ℕ) → a ≤ b → entry a ≼ entry b
 unfolding entry
 entry-mono zero b h = ≼-absent _
 entry-mono (suc a) zero h = let e : ⊥ = omega arith in absurd e
 entry-mono (suc a) (suc b) h = omega (arith, up-sub (suc a) bias, up-sub (suc b) bias)
 
-entry-reflects : (a b : ℕ) → entry a ≼ entry b → a ≤ b
+pub entry-reflects : (a b : ℕ) → entry a ≼ entry b → a ≤ b
 unfolding entry
 entry-reflects zero b h = omega arith
 entry-reflects (suc a) zero h = absurd (h .un)
@@ -76,7 +76,7 @@ unfolding entry
 word-present zero = refl
 word-present (suc a) = rw eqb·suc-zero refl
 
--- ---- the larger, the sum and the sign turned
+-- ---- the larger, the sum and the difference
 pub larger-low : (a b : ℕ) → a ≤ b → entry b ≡ entry a ⊕ entry b
 larger-low a b h = ≼-anti (⊕-r _ _) (⊕-lub (entry-mono a b h) (≼-refl _))
 
@@ -102,15 +102,26 @@ plus-is (suc a) (suc b) p q h = rw (num-⊗, (let e : suc a + suc b - bias ≡ s
       up-sub (suc (a + suc b - bias)) bias,
     ))))
 
-pub negated-none : (a : ℕ) → a ≡ 0 → entry 0 ≡ inv (entry a)
-unfolding inv
-negated-none a e = rw (e, entry-zero)
+pub minus-none : (a b : ℕ) → a ≡ 0 → entry 0 ≡ entry a ⊗ inv (entry b)
+minus-none a b e = rw (e, entry-zero, ⊗-nothing)
 
-pub negated-is : (a : ℕ) → 0 < a → a < bias + bias → entry (bias + bias - a) ≡ inv (entry a)
+pub minus-none-r : (a b : ℕ) → b ≡ 0 → entry 0 ≡ entry a ⊗ inv (entry b)
+unfolding inv
+minus-none-r a b e = rw (e, entry-zero, ⊗-absent)
+
+pub minus-is : (a b : ℕ) → 0 < a → 0 < b → b < bias + a → entry (bias + a - b) ≡ entry a ⊗ inv (entry b)
 unfolding entry
-negated-is zero p h = let x : ⊥ = omega arith in absurd x
-negated-is (suc a) p h = rw (inv-num, (let e : bias + bias - suc a ≡ suc (bias + bias - suc (suc a)) = omega arith in e))
-    (ap num (z-eq _ _ (omega (arith, up-neg (away (suc a)), up-sub (suc a) bias, up-sub (suc (bias + bias - suc (suc a))) bias))))
+minus-is zero b p q h = let x : ⊥ = omega arith in absurd x
+minus-is (suc a) zero p q h = let x : ⊥ = omega arith in absurd x
+minus-is (suc a) (suc b) p q h = rw (inv-num, num-⊗, (let e : bias + suc a - suc b ≡ suc (bias + a - suc b) = omega arith in e))
+    (ap num (z-eq _ _ (omega (
+      arith,
+      up-add (away (suc a)) (neg (away (suc b))),
+      up-neg (away (suc b)),
+      up-sub (suc a) bias,
+      up-sub (suc b) bias,
+      up-sub (suc (bias + a - suc b)) bias,
+    ))))
 
 -- ---- how far a word is from the word of 0
 pub close-none : (c : ℕ) → Close c 0
@@ -135,18 +146,19 @@ pub close-larger : {c : ℕ} (a b r : ℕ) → entry r ≡ entry a ⊕ entry b �
 close-larger a b r e h k = elim (⊕-or (entry a) (entry b)) [ inl f ↦ rw (entry-inj (e ∙ f)) h | inr f ↦ rw (entry-inj (e ∙ f)) k ]
 
 pub close-plus : {c d : ℕ} (a b r : ℕ) → entry r ≡ entry a ⊗ entry b → Close c a → Close d b → Close (c + d) r
-close-plus {c} {d} a b r e h k = close-of (c + d) r (λ z f. go z (⊗-nums (entry a) (entry b) (≼-of (sym f ∙ e))) (sym f ∙ e))
+close-plus {c} {d} a b r e h k = close-of (c + d) r (λ z f. go z (entry a) (entry b) refl refl (sym e ∙ f))
   where
-    go : (z : ℤ) → (x y : ℤ) × (entry a ≡ num x) × (entry b ≡ num y) × (z ≤z x +z y) → num z ≡ entry a ⊗ entry b →
-        (dn z ≤ c + d + up z) × (up z ≤ c + d + dn z)
-    go z (x, y, ea, eb, l) f =
-        let g : z ≡ x +z y = num-inj (f ∙ rw (ea, eb, num-⊗)) in
-        let p = of-close c a h x ea in let q = of-close d b k y eb in let s = up-add x y in
-        rw g (omega arith, omega arith)
+    go : (z : ℤ) (x y : E) → entry a ≡ x → entry b ≡ y → x ⊗ y ≡ num z → (dn z ≤ c + d + up z) × (up z ≤ c + d + dn z)
+    go z absent y ea eb f = absurd (absent-not (sym (⊗-nothing y) ∙ f))
+    go z (num x) absent ea eb f = absurd (absent-not (sym (⊗-absent (num x)) ∙ f))
+    go z (num x) (num y) ea eb f = rw (num-inj (sym f ∙ num-⊗ x y))
+        (let p = of-close c a h x ea in let q = of-close d b k y eb in let s = up-add x y in (omega arith, omega arith))
 
-pub close-negated : {c : ℕ} (a r : ℕ) → entry r ≡ inv (entry a) → Close c a → Close c r
-close-negated {c} a r e h = close-of c r (λ z f. go z (entry a) refl (sym e ∙ f))
+pub close-minus : {c d : ℕ} (a b r : ℕ) → entry r ≡ entry a ⊗ inv (entry b) → Close c a → Close d b → Close (c + d) r
+close-minus {c} {d} a b r e h k = close-of (c + d) r (λ z f. go z (entry a) (entry b) refl refl (sym e ∙ f))
   where
-    go : (z : ℤ) (x : E) → entry a ≡ x → inv x ≡ num z → (dn z ≤ c + up z) × (up z ≤ c + dn z)
-    go z absent ea f = absurd (absent-not {z = z} (unfold inv in f))
-    go z (num x) ea f = rw (num-inj (sym f ∙ inv-num x)) (let p = of-close c a h x ea in let s = up-neg x in (omega arith, omega arith))
+    go : (z : ℤ) (x y : E) → entry a ≡ x → entry b ≡ y → x ⊗ inv y ≡ num z → (dn z ≤ c + d + up z) × (up z ≤ c + d + dn z)
+    go z absent y ea eb f = absurd (absent-not (sym (⊗-nothing (inv y)) ∙ f))
+    go z (num x) absent ea eb f = absurd (absent-not {z = z} (unfold inv _⊗_ in f))
+    go z (num x) (num y) ea eb f = rw (num-inj {y = x +z neg y} (sym f ∙ rw (inv-num, num-⊗)))
+        (let p = of-close c a h x ea in let q = of-close d b k y eb in let s = up-add x (neg y) in let t = up-neg y in (omega arith, omega arith))

@@ -53,10 +53,16 @@ pub fn plus(a: u64, b: u64) -> u64
     a + b - BIAS
 }
 
-// The entry with its sign turned.
-pub fn negated(a: u64) -> u64
-    requires { ⌜ Near a ⌝ }
-    ensures { λ r. ⌜ entry r ≡ inv (entry a) ⌝ }
+// The difference of two entries: absent where one of them is.
+pub fn minus(a: u64, b: u64) -> u64
+    requires { ⌜ Near a × Near b ⌝ }
+    ensures { λ r. ⌜ entry r ≡ entry a ⊗ inv (entry b) ⌝ }
 {
-    if a == 0 { 0 } else { BIAS + BIAS - a }
+    if a == 0 {
+        return 0;
+    }
+    if b == 0 {
+        return 0;
+    }
+    BIAS + a - b
 }

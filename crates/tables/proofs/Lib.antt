@@ -1,0 +1,6 @@
+-- Laws of tables as words, in the order in which one file builds on another.
+pub mod Loops
+pub mod SquareLaws
+pub mod OrderLaws
+pub mod StepLaws
+pub mod LevelLaws
