@@ -18,6 +18,7 @@ use Rattle.maxplus.proofs.WholeLaws.{up-add, up-neg}
 use Rattle.maxplus.proofs.EntryLaws.{_▸_, ≼-absent, ≼-of, ≼-back, num-⊗, leqE-yes, leqE-of, absent-not, present?-yes, present?-of}
 use Rattle.maxplus.proofs.FiniteLaws.{in-each, each-in, in-map, map-in}
 use Rattle.maxplus.proofs.SupLaws.{sup-at}
+use Rattle.maxplus.proofs.EachLaws.{map-length}
 use Rattle.cue.specs.Meaning.{Tables, timing, overdue, Readable}
 use Rattle.cue.specs.Method.{Entries, Selection, through, pull, mark, least, floor-panels, serves-as-well, cut, walk, fixings, ask}
 use Rattle.cue.specs.Method.{kept, selections, steps}
@@ -91,15 +92,10 @@ geometric-mono n k (suc f) (suc g) h i = rw (geometric-suc n f, geometric-suc k 
     go q = le-trans (mul-le-mul-right (suc (geometric n f)) h)
         (mul-le-mul-left k (let r : suc (geometric n f) ≤ suc (geometric k g) = omega arith in r))
 
-length-each : {A : Type 0} (n c : ℕ) (f : ℕ → List A) → ((j : ℕ) → length (f j) ≤ c) → length (each n f) ≤ n * c
+each-at-most : {A : Type 0} (n c : ℕ) (f : ℕ → List A) → ((j : ℕ) → length (f j) ≤ c) → length (each n f) ≤ n * c
 unfolding each
-length-each zero c f h = omega arith
-length-each (suc n) c f h = let a = length-each n c f h in let b = h n in simp length-append (omega arith)
-
-length-map : {A C : Type 0} (f : A → C) (l : List A) → length (mapL f l) ≡ length l
-unfolding mapL
-length-map f [] = refl
-length-map f (a ∷ l) = ap suc (length-map f l)
+each-at-most zero c f h = omega arith
+each-at-most (suc n) c f h = let a = each-at-most n c f h in let b = h n in simp length-append (omega arith)
 
 length-onlyIf : {A : Type 0} (b : Bool) (l : List A) → length (onlyIf b l) ≤ length l
 length-onlyIf true l = omega arith
@@ -222,11 +218,11 @@ module _ (n : ℕ) (P : Tables) where
   unfolding walk
   walk-bound [] o = rw pow-zero (omega arith)
   walk-bound (i ∷ is) o = rw (pow-succ' n (length is))
-      (length-each n _ _ (λ j. le-trans (length-onlyIf (o i j) _) (rw length-map (walk-bound is (cut n P i j o)))))
+      (each-at-most n _ _ (λ j. le-trans (length-onlyIf (o i j) _) (rw map-length (walk-bound is (cut n P i j o)))))
 
   pub floor-panels-few : length (floor-panels n P) ≤ panels
   unfolding floor-panels
-  floor-panels-few = let h = length-each panels 1 (λ i. onlyIf (present? (floor i)) (i ∷ []))
+  floor-panels-few = let h = each-at-most panels 1 (λ i. onlyIf (present? (floor i)) (i ∷ []))
       (λ i. length-onlyIf (present? (floor i)) (i ∷ [])) in omega arith
 
   module _ (D : ℤ) where

@@ -1,4 +1,5 @@
--- A list by its places: its length, what stands at one, another value at one, and two that agree at all.
+-- Lists put together from finitely many parts, and mapped: part by part equal; by places, the length, what stands at one, another value
+-- at one.
 use mathlib.Core.Path.{_≡_, refl, ap, ap₂, sym, _∙_}
 use mathlib.Core.List.{[], _∷_, _++_}
 use Prim.Native.Nat.{ℕ, zero, suc, _<_}
@@ -6,7 +7,7 @@ use native.Mathlib.Omega.{arith}
 use native.Mathlib.Decide.{ℕ-discrete, decLt}
 use lib.ListN.{length, getD, set, length-append, List·getD-append}
 use lib.Seq.{getD-append-seam, set-append-left, set-append-seam}
-use Rattle.maxplus.specs.Finite.{each}
+use Rattle.maxplus.specs.Finite.{each, mapL}
 
 module _ {A : Type 0} where
   -- a list of n places, with another value at place k
@@ -15,10 +16,10 @@ module _ {A : Type 0} where
   length-each zero f = refl
   length-each (suc n) f = let h = length-each n f in simp length-append (omega arith)
 
-  pub each-same : (n : ℕ) (f g : ℕ → A) → ((j : ℕ) → j < n → f j ≡ g j) → each n (λ j. f j ∷ []) ≡ each n (λ j. g j ∷ [])
+  pub each-same : (n : ℕ) (g h : ℕ → List A) → ((k : ℕ) → k < n → g k ≡ h k) → each n g ≡ each n h
   unfolding each
-  each-same zero f g h = refl
-  each-same (suc n) f g h = ap₂ _++_ (each-same n f g (λ j q. h j (omega arith))) (ap (λ a. a ∷ []) (h n (omega arith)))
+  each-same zero g h e = refl
+  each-same (suc n) g h e = ap₂ _++_ (each-same n g h (λ k q. e k (omega arith))) (e n (omega arith))
 
   pub each-set : (n k : ℕ) (f g : ℕ → A) (a : A) → k < n → a ≡ g k → ((j : ℕ) → j < n → ¬ (j ≡ k) → f j ≡ g j) →
       set (each n (λ j. f j ∷ [])) k a ≡ each n (λ j. g j ∷ [])
@@ -30,7 +31,7 @@ module _ {A : Type 0} where
           set (each n (λ j. f j ∷ []) ++ (f n ∷ [])) k a ≡ each n (λ j. g j ∷ []) ++ (g n ∷ [])
       go ih (yes r) = ap (λ i. set (each n (λ j. f j ∷ []) ++ (f n ∷ [])) i a) (r ∙ sym (length-each n f))
           ∙ set-append-seam (each n (λ j. f j ∷ [])) (f n) [] a
-          ∙ ap₂ (λ l b. l ++ (b ∷ [])) (each-same n f g (λ j p. h j (omega arith) (λ x. let y : ⊥ = omega arith in y))) (e ∙ ap g r)
+          ∙ ap₂ (λ l b. l ++ (b ∷ [])) (each-same n _ _ (λ j p. ap (λ a. a ∷ []) (h j (omega arith) (λ x. let y : ⊥ = omega arith in y)))) (e ∙ ap g r)
       go ih (no r) = set-append-left (each n (λ j. f j ∷ [])) (f n ∷ []) k a (let p = length-each n f in omega arith)
           ∙ ap₂ (λ l b. l ++ (b ∷ [])) (ih (omega arith))
           (h n (omega arith) (λ x. r (sym x)))
@@ -45,3 +46,24 @@ module _ {A : Type 0} where
       go ih (no q) = let e : k ≡ n = omega arith in
           ap (λ i. getD (each n (λ j. f j ∷ []) ++ (f n ∷ [])) i d) (e ∙ sym (length-each n f))
           ∙ getD-append-seam (each n (λ j. f j ∷ [])) (f n) [] d ∙ ap f (sym e)
+
+module _ {A C : Type 0} (h : A → C) where
+  pub map-append : (a b : List A) → mapL h (a ++ b) ≡ mapL h a ++ mapL h b
+  unfolding mapL
+  map-append [] b = refl
+  map-append (x ∷ a) b = ap (λ (l : List C). h x ∷ l) (map-append a b)
+
+  pub map-each : (n : ℕ) (g : ℕ → List A) → mapL h (each n g) ≡ each n (λ j. mapL h (g j))
+  unfolding each mapL
+  map-each zero g = refl
+  map-each (suc n) g = map-append (each n g) (g n) ∙ ap (λ (l : List C). l ++ mapL h (g n)) (map-each n g)
+
+  pub map-length : (l : List A) → length (mapL h l) ≡ length l
+  unfolding mapL
+  map-length [] = refl
+  map-length (x ∷ l) = ap suc (map-length l)
+
+pub map-twice : {A C : Type 0} (g : A → A) (h k : A → C) → ((a : A) → h (g a) ≡ k a) → (l : List A) → mapL h (mapL g l) ≡ mapL k l
+unfolding mapL
+map-twice g h k e [] = refl
+map-twice g h k e (x ∷ l) = ap₂ _∷_ (e x) (map-twice g h k e l)

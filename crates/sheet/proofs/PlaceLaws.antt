@@ -1,6 +1,6 @@
 -- Six words of a vector and six rows of a table, by their places.
 use mathlib.Core.Path.{_≡_, ap}
-use mathlib.Core.List.{_∷_}
+use mathlib.Core.List.{[], _∷_}
 use Prim.Native.Nat.{ℕ, _<_}
 use lib.ListN.{getD}
 use Rattle.maxplus.specs.Tables.{Vec, Mat}
@@ -19,4 +19,4 @@ grid-at A i d h = each-at 6 i (λ i. record { at = strip (A i) }) d h
 
 pub strip-eq : (v w : Vec) → ((j : ℕ) → v j ≡ w j) → strip v ≡ strip w
 unfolding strip
-strip-eq v w h = each-same 6 (λ j. word (v j)) (λ j. word (w j)) (λ j q. ap word (h j))
+strip-eq v w h = each-same 6 _ _ (λ j q. ap (λ e. word e ∷ []) (h j))

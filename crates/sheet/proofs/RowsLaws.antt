@@ -8,7 +8,7 @@ use native.Mathlib.Omega.{arith}
 use lib.ListN.{length, drop, set, length-append}
 use Rattle.maxplus.specs.Entry.{E}
 use Rattle.maxplus.specs.Finite.{In, mapL}
-use Rattle.maxplus.proofs.EachLaws.{each-set}
+use Rattle.maxplus.proofs.EachLaws.{each-set, map-append, map-length}
 use Rattle.words.specs.Words.{word}
 use Rattle.sheet.specs.Sheet.{Got, got, refused, _>>=_, literal, ended, items, Rule, checked, line, rows, row, table}
 use Rattle.sheet.specs.Reading.{strip, grid}
@@ -57,19 +57,13 @@ table-other (a ∷ t) es (suc i) h = table-other t es i (λ x. h (ap suc x))
 
 map-last : (es : List E) (e : E) → mapL clip (es ++ e ∷ []) ≡ mapL clip es ++ clip e ∷ []
 unfolding mapL
-map-last [] e = refl
-map-last (a ∷ es) e = ap (λ l. clip a ∷ l) (map-last es e)
-
-length-map : (es : List E) → length (mapL clip es) ≡ length es
-unfolding mapL
-length-map [] = refl
-length-map (a ∷ es) = ap suc (length-map es)
+map-last es e = map-append clip es (e ∷ [])
 
 pub words-more : (es : List E) (e : E) (k : ℕ) → length es ≡ k → k < 6 → set (words-of es) k (word (clip e)) ≡ words-of (es ++ e ∷ [])
 unfolding strip
 words-more es e k h q = each-set 6 k _ _ _ q
-    (ap word (sym (row-last (mapL clip es) (clip e)) ∙ ap₂ row (sym (map-last es e)) (length-map es ∙ h)))
-    (λ j p x. ap word (row-other (mapL clip es) (clip e) j (λ y. x (y ∙ length-map es ∙ h)) ∙ ap (λ l. row l j) (sym (map-last es e))))
+    (ap word (sym (row-last (mapL clip es) (clip e)) ∙ ap₂ row (sym (map-last es e)) (map-length clip es ∙ h)))
+    (λ j p x. ap word (row-other (mapL clip es) (clip e) j (λ y. x (y ∙ map-length clip es ∙ h)) ∙ ap (λ l. row l j) (sym (map-last es e))))
 
 pub grid-more : (t : List (List E)) (es : List E) (i : ℕ) → length t ≡ i → i < 6 →
     set (grid (table t)) i (record { at = strip (row es) }) ≡ grid (table (t ++ es ∷ []))

@@ -1,4 +1,4 @@
--- Lists put together from finitely many parts: part by part equal, with empty parts at the end, mapped, and over the members of a mask.
+-- Events put together from finitely many parts: with empty parts at the end, and over the members of a mask.
 use mathlib.Core.Path.{_≡_, refl, sym, ap, ap₂, _∙_}
 use mathlib.Core.Bool.{Bool, true, false, cond, _&&_}
 use mathlib.Core.List.{List, [], _∷_, _++_, append-assoc, append-nil}
@@ -6,17 +6,12 @@ use Prim.Native.Nat.{ℕ, zero, suc, _+_, _-_, _<_, _≤_}
 use native.Mathlib.Omega.{arith}
 use borrow.Author.Tests.{lt-ltb, le-ltb}
 use lib.Dec.{T, ltb}
-use lib.ListN.{length}
-use Rattle.maxplus.specs.Finite.{each, onlyIf, mapL, sum}
+use Rattle.maxplus.specs.Finite.{each, onlyIf, sum}
+use Rattle.maxplus.proofs.EachLaws.{each-same}
 use Rattle.walk.specs.Trace.{Event, bit, bitsFrom, members, forEach, selections, fixings}
 use Rattle.walk.proofs.TraceLaws.{fixings-append, selections-append}
 
 module _ {A : Type 0} where
-  pub each-same : (n : ℕ) (g h : ℕ → List A) → ((k : ℕ) → k < n → g k ≡ h k) → each n g ≡ each n h
-  unfolding each
-  each-same zero g h e = refl
-  each-same (suc n) g h e = ap₂ _++_ (each-same n g h (λ k l. e k (omega arith))) (e n (omega arith))
-
   -- parts that are empty may be left out at the end
   each-longer : (n d : ℕ) (g : ℕ → List A) → ((k : ℕ) → n ≤ k → k < d + n → g k ≡ []) → each (d + n) g ≡ each n g
   unfolding each
@@ -24,27 +19,6 @@ module _ {A : Type 0} where
   each-longer n (suc d) g e =
       let s : suc d + n ≡ suc (d + n) = omega arith in
       rw s (ap₂ _++_ (each-longer n d g (λ k l h. e k l (omega arith))) (e (d + n) (omega arith) (omega arith)) ∙ append-nil (each n g))
-
-module _ {A C : Type 0} (h : A → C) where
-  map-append : (a b : List A) → mapL h (a ++ b) ≡ mapL h a ++ mapL h b
-  unfolding mapL
-  map-append [] b = refl
-  map-append (x ∷ a) b = ap (λ (l : List C). h x ∷ l) (map-append a b)
-
-  pub map-each : (n : ℕ) (g : ℕ → List A) → mapL h (each n g) ≡ each n (λ j. mapL h (g j))
-  unfolding each mapL
-  map-each zero g = refl
-  map-each (suc n) g = map-append (each n g) (g n) ∙ ap (λ (l : List C). l ++ mapL h (g n)) (map-each n g)
-
-  pub map-length : (l : List A) → length (mapL h l) ≡ length l
-  unfolding mapL
-  map-length [] = refl
-  map-length (x ∷ l) = ap suc (map-length l)
-
-pub map-twice : {A C : Type 0} (g : A → A) (h k : A → C) → ((a : A) → h (g a) ≡ k a) → (l : List A) → mapL h (mapL g l) ≡ mapL k l
-unfolding mapL
-map-twice g h k e [] = refl
-map-twice g h k e (x ∷ l) = ap₂ _∷_ (e x) (map-twice g h k e l)
 
 -- ---- events
 pub selections-each : (n : ℕ) (g : ℕ → List Event) → selections (each n g) ≡ each n (λ j. selections (g j))

@@ -12,6 +12,7 @@ use lib.ListN.{length, getD, take, drop, drop-of-length-le}
 use lib.Seq.{drop-cons, getD-take, length-take-le}
 use Rattle.maxplus.specs.Finite.{In, each, onlyIf, mapL, countIf}
 use Rattle.maxplus.proofs.FiniteLaws.{in-map}
+use Rattle.maxplus.proofs.EachLaws.{each-same, map-each, map-length, map-twice}
 use Rattle.cue.specs.Meaning.{Tables}
 use Rattle.cue.specs.Method as M
 use Rattle.cue.proofs.Walk.{geometric, steps-bound, cut-within, walk-within}
@@ -24,7 +25,7 @@ use Rattle.walk.specs.declared.Outcome.the-variants.{Selection, End}
 use Rattle.walk.proofs.Bytes.{bit-cut}
 use Rattle.walk.proofs.Whole.{start-pending}
 use Rattle.walk.proofs.Stepping.{remaining, Walked, found-selection, end-selections, walked-in}
-use Rattle.walk.proofs.EachLaws.{each-same, map-each, map-length, map-twice, selections-each, fixings-each, sum-same, members-each}
+use Rattle.walk.proofs.EachLaws.{selections-each, fixings-each, sum-same, members-each}
 
 -- ---- document 01's walk as a list of events
 module _ (n : ℕ) (P : Tables) where
