@@ -34,9 +34,11 @@ use Rattle.sheet.specs.Text.{bytes}
 use Rattle.sheet.specs.Sheet.{literal, value, behind, signed, item, ended, items, any, checked, rows, row, table, tables, read}
 use Rattle.sheet.specs.Sheet as sheet
 use Rattle.cue.specs.Written.{line-words, list-words}
+use Rattle.text.specs.Numerals.{digits}
+use Rattle.text.specs.Texts.{joined, line-texts, plan-text, refusal-text, full-text}
 use Rattle.planner.specs.Outcome.{Outcome, planned, full, refused, orderly, planning, space-after, keeping, answer, Testing}
 use Rattle.planner.specs.Outcome.{kept as kept-table}
-use Rattle.planner.specs.Text.{digits, joined, line-texts, text, program-text}
+use Rattle.planner.specs.Text.{text, program-text}
 
 -- the sheet's text, the words lent, what planning returns, the words afterwards
 abbrev Case : Type 0
@@ -112,7 +114,7 @@ cases-hold = refl
 pub texts-hold : mapL program-text (bytes whole-case ∷ bytes (one-by-one "1") ∷ bytes "" ∷ []) ++ text (full 2) ∷ [] ≡
     bytes "deviation=2\nsteps=2\nselections=1\ncount=2\nline=-1,0\nline=0,-\n" ∷ bytes "refused=8\n" ∷ bytes "refused=2\n" ∷
     bytes "refused=9\ncount=2\n" ∷ []
-unfolding program-text text line-texts joined digits orderly line-words list-words read sheet.lines sheet.line rows tables checked any ended items item signed value behind literal row table bytes least leastE steps selections lines minimal needed? others combination? asked? met? under-dec fixings walk kept cut serves-as-well floor-panels through pull pullE overdue need seed ray candidate candidates no-gain? gain-or mm mv star power idm normal sup supL at line put sift each mapL sum val inv _⊗_ _⊕_ maxz _+z_ neg decLe z-dec ≼-dec present-dec all-or all-dec any-dec dec-× dec-¬ dec-→ ltE-cmp ltL-cmp strict same?
+unfolding program-text text plan-text refusal-text full-text line-texts joined digits orderly line-words list-words read sheet.lines sheet.line rows tables checked any ended items item signed value behind literal row table bytes least leastE steps selections lines minimal needed? others combination? asked? met? under-dec fixings walk kept cut serves-as-well floor-panels through pull pullE overdue need seed ray candidate candidates no-gain? gain-or mm mv star power idm normal sup supL at line put sift each mapL sum val inv _⊗_ _⊕_ maxz _+z_ neg decLe z-dec ≼-dec present-dec all-or all-dec any-dec dec-× dec-¬ dec-→ ltE-cmp ltL-cmp strict same?
 texts-hold = refl
 
 -- the kept table of the whole case

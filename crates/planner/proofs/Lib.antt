@@ -1,1 +1,5 @@
+-- The demands from the bytes to the words, document 01's P cases, and laws of the operations.
+pub mod Demands
 pub mod Cases
+pub mod Preparing
+pub mod KeptLaws

@@ -1,24 +1,21 @@
 -- What each operation returns and leaves in the lent space (document 01, "What each operation may refuse").
 use mathlib.Core.Path.{_≡_}
 use mathlib.Core.List.{List, [], _∷_, _++_}
-use mathlib.Core.Bool.{Bool, true, false, cond, not, _||_}
+use mathlib.Core.Bool.{Bool, true, false, cond, not}
 use Prim.Native.Nat.{ℕ, _*_, _/_}
-use lib.Dec.{leb, ltb, eqb}
+use lib.Dec.{leb, eqb}
 use lib.IntN.{ℤ}
 use lib.ListN.{length, drop}
-use Rattle.maxplus.specs.Whole.{up, dn}
 use Rattle.maxplus.specs.Finite.{each}
 use Rattle.maxplus.specs.Line.{Line}
 use Rattle.maxplus.proofs.StarLaws.{no-gain?}
-use Rattle.cue.specs.Meaning.{Tables, Tightest}
+use Rattle.cue.specs.Meaning.{Tightest}
 use Rattle.cue.specs.Method.{least, kept-byte, kept-count, steps, selections, lines}
 use Rattle.cue.specs.Written.{list-words}
-use Rattle.sheet.specs.Sheet.{Got, got, Sheet, _>>=_, any, read}
+use Rattle.sheet.specs.Sheet.{Got, got, Sheet, _>>=_, read}
 use Rattle.sheet.specs.Sheet as sheet
-
--- the tables of a sheet that was read
-abbrev pub tables-of : Sheet → Tables
-tables-of t = record { panels = t .panels; lag = t .lag; floor = t .floor; due = t .due; after = t .after }
+use Rattle.tables.specs.Cue.{tables-of}
+use Rattle.timing.specs.Times.{some-beyond}
 
 -- "Reading's refusals, then 8: no timing keeps the order."
 unfoldable pub orderly : List ℕ → Got Sheet
@@ -71,12 +68,6 @@ pub data TestOutcome : Type 0 where
   answer : Bool → TestOutcome
   refused : ℕ → TestOutcome
 
-abbrev pub far-limit : ℕ
-far-limit = 1_000_000_000
-
-abbrev pub beyond : ℤ → Bool
-beyond z = ltb far-limit (up z) || ltb far-limit (dn z)
-
 abbrev pub Exactly : Type 0 → TestOutcome → Type 0
 Exactly P (answer true) = P
 Exactly P (answer false) = ¬ P
@@ -86,7 +77,7 @@ abbrev pub Tests : Got Sheet → ℕ → (ℕ → ℤ) → TestOutcome → Type 
 Tests (sheet.refused k) count X r = r ≡ refused k
 Tests (got t s) count X r =
     cond (not (eqb count (t .triggers))) (r ≡ refused 10)
-    (cond (any beyond (each (t .triggers) (λ j. X j ∷ []))) (r ≡ refused 11)
+    (cond (some-beyond (t .triggers) X) (r ≡ refused 11)
     (elim (no-gain? (t .triggers) (t .after)) [ yes h ↦ Exactly (Tightest (t .triggers) (tables-of t) X) r | no h ↦ r ≡ refused 8 ]))
 
 unfoldable pub Testing : List ℕ → ℕ → (ℕ → ℤ) → TestOutcome → Type 0

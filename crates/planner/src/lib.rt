@@ -1,1 +1,2 @@
-// The operations of document 01. Their definitions are in specs/.
+// The operations of document 01, each from a sheet's bytes; what they return is defined in specs/Outcome and specs/Answers.
+pub mod kept;

@@ -5,3 +5,4 @@ pub mod LiteralLaws
 pub mod FaultLaws
 pub mod RowsLaws
 pub mod SheetLaws
+pub mod Refusals

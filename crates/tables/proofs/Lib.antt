@@ -4,3 +4,6 @@ pub mod SquareLaws
 pub mod OrderLaws
 pub mod StepLaws
 pub mod LevelLaws
+pub mod ByteLaws
+pub mod Good
+pub mod Results

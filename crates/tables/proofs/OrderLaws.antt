@@ -21,7 +21,8 @@ use Rattle.tables.proofs.Loops.{largest-none}
 use Rattle.tables.proofs.SquareLaws.{entry-unit, closely-within, meant-within}
 
 -- a product of tables that are held
-pub mm-held : {m n : ℕ} {A B : Mat} {a b r : List (List ℕ)} → Holds m n A a → Holds n n B b → Holds m n (mm n (meant a) (meant b)) r → Holds m n (mm n A B) r
+pub mm-held : {m n : ℕ} {A B : Mat} {a b r : List (List ℕ)} → Holds m n A a → Holds n n B b →
+    Holds m n (mm n (meant a) (meant b)) r → Holds m n (mm n A B) r
 unfolding mm
 mm-held {n} h g e = record { at = λ i j hi hj. e .at i j hi hj ∙ sup-ext n (λ k hk. ap₂ _⊗_ (h .at i k hi hk) (g .at k j hk hj)) }
 
@@ -35,7 +36,10 @@ module _ (n : ℕ) (t : List (List ℕ)) where
     alone-limited = record {
       lags = λ i j h. let e : ⊥ = omega arith in absurd e;
       floors = λ i h. let e : ⊥ = omega arith in absurd e;
-      dues = λ j h. record { low = record { above = λ z e. rw (← num-inj e) (omega arith) }; high = record { below = λ z e. rw (← num-inj e) (omega arith) } };
+      dues = λ j h. record {
+        low = record { above = λ z e. rw (← num-inj e) (omega arith) };
+        high = record { below = λ z e. rw (← num-inj e) (omega arith) };
+      };
       afters = λ i j hi hj. meant-within c i j hi hj;
     }
 
@@ -78,7 +82,8 @@ module _ (n : ℕ) (t : List (List ℕ)) where
   pub low-none : LowTo 0
   low-none = record { at = λ l i p q h. let e : ⊥ = omega arith in absurd e }
 
-  pub low-more : (k : ℕ) {p : List (List ℕ)} → LowTo k → Holds n n (power n (meant t) (k + 1)) p → ((i : ℕ) → i < n → meant p i i ≼ unit) → LowTo (k + 1)
+  pub low-more : (k : ℕ) {p : List (List ℕ)} → LowTo k → Holds n n (power n (meant t) (k + 1)) p →
+      ((i : ℕ) → i < n → meant p i i ≼ unit) → LowTo (k + 1)
   low-more k l e h = record {
     at = λ m i q r hi. elim (ℕ-discrete m (k + 1)) [
       | yes x ↦ rw x (≼-back (e .at i i hi hi) ▸ h i hi)
@@ -90,7 +95,8 @@ module _ (n : ℕ) (t : List (List ℕ)) where
   unfolding NoGain
   low-all h l m i p q hi = l .at m i p (omega arith) hi
 
-  pub low-not : (k : ℕ) {p : List (List ℕ)} → k < n → Holds n n (power n (meant t) (k + 1)) p → ¬ ((i : ℕ) → i < n → meant p i i ≼ unit) → ¬ (NoGain n (meant t))
+  pub low-not : (k : ℕ) {p : List (List ℕ)} → k < n → Holds n n (power n (meant t) (k + 1)) p →
+      ¬ ((i : ℕ) → i < n → meant p i i ≼ unit) → ¬ (NoGain n (meant t))
   unfolding NoGain
   low-not k h e f g = f (λ i hi. ≼-of (e .at i i hi hi) ▸ g (k + 1) i (omega arith) (omega arith) hi)
 

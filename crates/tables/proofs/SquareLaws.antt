@@ -24,7 +24,7 @@ pub unit-other : (i j : ℕ) → ¬ (i ≡ j) → entry 0 ≡ idm i j
 unit-other i j h = elim (idm-or i j) [ inl e ↦ absurd (h (idm-eq i j (≼-back e))) | inr e ↦ rw (e, entry-zero) ]
 
 -- ---- bounds
-close-within : {k l : ℕ} {e : E} (c v : ℕ) → entry v ≡ e → k ≤ c → l ≤ c → Within k l e → Close c v
+pub close-within : {k l : ℕ} {e : E} (c v : ℕ) → entry v ≡ e → k ≤ c → l ≤ c → Within k l e → Close c v
 close-within {k} {l} c v h p q w = close-of c v (λ z e. (
   let b = w .low .above z (rw h at e) in omega arith,
   let b = w .high .below z (rw h at e) in omega arith,

@@ -1,5 +1,5 @@
 -- Steps 2 to 4 in words: bytes of kept triggers, bit by bit and panel by panel.
-use mathlib.Core.Path.{_≡_, refl, ap, ap₂, sym, _∙_}
+use mathlib.Core.Path.{_≡_, refl, sym, _∙_}
 use mathlib.Core.List.{List}
 use mathlib.Core.Bool.{Bool, true, false}
 use Prim.Native.Nat.{ℕ, zero, suc, _+_, _^_, _≤_, _<_}
@@ -7,12 +7,12 @@ use native.Mathlib.Omega.{arith}
 use native.Mathlib.Decide.{ℕ-discrete, decLt}
 use native.Mathlib.Nat.{pow-suc, pow-le-pow-right}
 use native.Mathlib.Numerals.{add-one}
-use lib.Dec.{leb, lit<}
-use lib.ListN.{length, getD, set, length-set, replicate, getD-replicate, List·getD-eq-default}
+use lib.Dec.{lit<}
+use lib.ListN.{length-set, length, getD, set, replicate, getD-replicate, List·getD-eq-default}
 use lib.Seq.{getD-set-same, getD-set-other}
 use borrow.Author.Tests.{le-leb, lt-leb}
-use Rattle.maxplus.specs.Entry.{E, absent, _⊗_, inv, leqE, present?}
-use Rattle.maxplus.specs.Finite.{sum, countIf}
+use Rattle.maxplus.specs.Entry.{E, _⊗_, inv, leqE, present?}
+use Rattle.maxplus.specs.Finite.{sum}
 use Rattle.maxplus.specs.Tables.{Vec, Mat}
 use Rattle.words.specs.Words.{entry}
 use Rattle.words.proofs.Laws.{word-order}
@@ -63,15 +63,16 @@ unfolding kept-of byte-of
 floor-absent n e f D u i p = sym (sum-none n _ (λ j. rw p))
 
 -- ---- panel by panel
-blank-word : (i : ℕ) → _≡_ {A = ℕ} (getD (replicate 6 0) i 0) 0
+pub blank-word : (i : ℕ) → _≡_ {A = ℕ} (getD (replicate 6 0) i 0) 0
 blank-word i = elim (decLt i 6) [ yes h ↦ getD-replicate 6 i 0 0 h | no h ↦ List·getD-eq-default (replicate 6 0) 0 {n = i} (omega arith) ]
 
 module _ (n : ℕ) (b : ℕ → ℕ → Bool) where
   pub bytes-none : KeptBytes 0 n b (replicate 6 0)
-  bytes-none = record { at = λ i h. let e : ⊥ = omega arith in absurd e; past = λ i h. blank-word i }
+  bytes-none = record { size = refl; at = λ i h. let e : ⊥ = omega arith in absurd e; past = λ i h. blank-word i }
 
   pub bytes-more : (r : List ℕ) (i v : ℕ) → length r ≡ 6 → i < 6 → KeptBytes i n b r → v ≡ byte-of n (b i) → KeptBytes (i + 1) n b (set r i v)
   bytes-more r i v s h k e = record {
+    size = simp length-set s;
     at = λ a l. elim (ℕ-discrete a i) [
       | yes x ↦ rw (x, getD-set-same r i v 0 (rw s h)) e
       | no x ↦ rw (getD-set-other r i a v 0 x) (k .at a (omega arith))

@@ -1,10 +1,11 @@
--- Steps 2 to 4 over the tables that a step is given: S is M*, D is d, u the pulls (the marks with the sign turned), p the floors, q the due
+-- Steps 2 to 5 over the tables that a step is given: S is M*, D is d, u the pulls (the marks with the sign turned), p the floors, q the due
 -- marks, e the least deviation.
 use mathlib.Core.Path.{_≡_}
 use mathlib.Core.List.{List, [], _∷_}
 use mathlib.Core.Bool.{Bool, _&&_}
-use Prim.Native.Nat.{ℕ, _^_, _≤_, _<_}
-use lib.ListN.{getD}
+use Prim.Native.Nat.{ℕ, _^_, _/_, _%_, _≤_, _<_}
+use lib.Dec.{eqb}
+use lib.ListN.{length, getD}
 use Rattle.maxplus.specs.Entry.{E, _⊗_, inv, leqE, present?}
 use Rattle.maxplus.specs.Finite.{each, onlyIf, sum, countIf}
 use Rattle.maxplus.specs.Tables.{sup, Vec, Mat}
@@ -33,8 +34,12 @@ kept-of e D u f i j = present? f && reaches (f ⊗ inv e) D u i j
 unfoldable pub byte-of : ℕ → (ℕ → Bool) → ℕ
 byte-of n b = sum n (λ j. countIf (b j) (2 ^ j))
 
+abbrev pub bit : ℕ → ℕ → Bool
+bit m j = eqb (m / 2 ^ j % 2) 1
+
 -- the byte of each of m panels, and 0 past them
 pub record KeptBytes (m n : ℕ) (b : ℕ → ℕ → Bool) (r : List ℕ) : Type 0 where
+  pub size : length r ≡ 6
   pub at : (i : ℕ) → i < m → getD r i 0 ≡ byte-of n (b i)
   pub past : (i : ℕ) → m ≤ i → getD r i 0 ≡ 0
 

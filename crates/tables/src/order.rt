@@ -32,13 +32,13 @@ pub fn order_kept(after: &[[u64; 6]; 6], n: usize) -> bool
     ensures { λ r. ⌜ Says (NoGain n (meant (now (after .entry)))) r ⌝ }
 {
     let mut power = identity();
-    let mut k: usize = 0;
-    while k < n {
+    let mut done: usize = 0;
+    while done < n {
         power = product(after, &power, n, n);
         if !diagonal_low(&power, n) {
             return false;
         }
-        k += 1;
+        done += 1;
     }
     true
 }

@@ -107,7 +107,7 @@ fn panel_byte(
     0
 }
 
-// The triggers by which panel i lands as early as asked, as bits.
+// The triggers by which panel i reaches what is asked of it, as bits.
 fn reaching(through: &[[u64; 6]; 6], pulls: [u64; 6], ask: u64, i: usize, n: usize) -> u8
     requires { ⌜ (i < 6) × (n ≤ 6) × CloselyV n (6 * limit) pulls × Near ask ⌝ }
     ensures { λ r. ⌜ r ≡ byte-of n (reaches (entry ask) (meant (now (through .entry))) (meantV pulls) i) ⌝ }
@@ -126,8 +126,8 @@ fn reaching(through: &[[u64; 6]; 6], pulls: [u64; 6], ask: u64, i: usize, n: usi
 }
 
 // "the number of bits set is reported with it"
-pub fn ones(byte: u8) -> u32
+pub fn ones(byte: u8) -> u8
     ensures { λ r. ⌜ r ≡ count.ones byte ⌝ }
 {
-    u8::count_ones(byte)
+    u8::count_ones(byte) as u8
 }

@@ -1,18 +1,22 @@
 -- Laws of words: the word of a number, the order of words, and each operation on words as one on entries.
 use mathlib.Core.Path.{_≡_, refl, ap, sym, _∙_}
 use mathlib.Core.Logic.{inl, inr}
-use mathlib.Core.Bool.{Bool, true, false, not}
-use Prim.Native.Nat.{ℕ, zero, suc, _+_, _-_, _≤_, _<_}
+use mathlib.Core.Bool.{Bool, true, false, cond, not}
+use mir.Syntax.{w64}
+use mir.Val.{SFits, toZ, ofZ, hbits}
+use mir.Facts.{toZ-pos, toZ-ofZ}
+use lib.Signed.{mag}
+use Prim.Native.Nat.{_^_, ℕ, zero, suc, _+_, _-_, _≤_, _<_}
 use native.Mathlib.Omega.{arith}
-use lib.Dec.{leb, eqb, eqb·suc-zero}
-use lib.IntN.{ℤ, pos, subℕ}
+use lib.Dec.{ltb, leb, eqb, eqb·suc-zero}
+use lib.IntN.{ℤ, pos, negsuc, subℕ, _-ℤ_}
 use borrow.Author.Tests.{leb-true, leb-false}
 use Rattle.maxplus.specs.Whole.{up, dn, _+z_, neg}
 use Rattle.maxplus.specs.Entry.{E, absent, num, _≼_, leqE, _⊗_, _⊕_, inv, present?}
 use Rattle.maxplus.proofs.WholeLaws.{z-eq, up-sub, up-add, up-neg}
 use Rattle.maxplus.proofs.EntryLaws.{≼-refl, ≼-anti, ≼-absent, ⊕-l, ⊕-r, ⊕-lub, ⊕-or, ⊗-absent, ⊗-nothing}
 use Rattle.maxplus.proofs.EntryLaws.{num-⊗, inv-num, num-inj, absent-not, leqE-yes, leqE-of}
-use Rattle.words.specs.Words.{bias, word, entry, far, Close}
+use Rattle.words.specs.Words.{bias, word, entry, far, Close, Near}
 
 -- ---- the word of a number, by its magnitude
 pub word-pos : (m : ℕ) → bias + m ≡ word (num (pos m))
@@ -162,3 +166,22 @@ close-minus {c} {d} a b r e h k = close-of (c + d) r (λ z f. go z (entry a) (en
     go z (num x) absent ea eb f = absurd (absent-not {z = z} (unfold inv _⊗_ in f))
     go z (num x) (num y) ea eb f = rw (num-inj {y = x +z neg y} (sym f ∙ rw (inv-num, num-⊗)))
         (let p = of-close c a h x ea in let q = of-close d b k y eb in let s = up-add x (neg y) in let t = up-neg y in (omega arith, omega arith))
+
+-- ---- words as signed numbers
+sub-mag : (v k c : ℕ) → v < c → k < c → mag (subℕ v k) < c
+sub-mag v k c h g = go (ltb v k)
+  where
+    go : (b : Bool) → mag (cond b (negsuc (k - suc v)) (pos (v - k))) < c
+    go true = omega arith
+    go false = omega arith
+
+signed-is : (a : ℕ) → Near a → toZ w64 a -ℤ pos bias ≡ subℕ a bias
+signed-is a h = let q = h .high in let e : toZ w64 a ≡ pos a = toZ-pos w64 {n = a} (omega arith) in ap (λ z. z -ℤ pos bias) e
+
+pub number-fits : (a : ℕ) → Near a → SFits w64 (toZ w64 a -ℤ pos bias)
+number-fits a h = let q = h .high in rw (signed-is a h) (record { sfits = sub-mag a bias (2 ^ 63) (omega arith) (omega arith) })
+
+pub number-is : (a : ℕ) → 0 < a → Near a → entry a ≡ num (toZ w64 (ofZ w64 (toZ w64 a -ℤ pos bias)))
+unfolding entry
+number-is zero p h = let x : ⊥ = omega arith in absurd x
+number-is (suc a) p h = sym (ap num (toZ-ofZ (number-fits (suc a) h) ∙ signed-is (suc a) h))

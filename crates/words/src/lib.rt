@@ -1,6 +1,6 @@
 // An entry of a table in one word: 0 is absent, BIAS + z is the number z. The order of words is the order of entries.
 ghost use mathlib.Core.Path.{_≡_};
-ghost use Prim.Native.Nat.{_≤_};
+ghost use Prim.Native.Nat.{_≤_, _<_};
 ghost use lib.IntN.{pos};
 ghost use Rattle.maxplus.specs.Whole.{neg};
 ghost use Rattle.maxplus.specs.Entry.{num, _⊗_, _⊕_, inv, present?};
@@ -65,4 +65,12 @@ pub fn minus(a: u64, b: u64) -> u64
         return 0;
     }
     BIAS + a - b
+}
+
+// The number that a word stands for.
+pub fn number(a: u64) -> i64
+    requires { ⌜ (0 < a) × Near a ⌝ }
+    ensures { λ r. ⌜ entry a ≡ num r ⌝ }
+{
+    (a as i64) - (BIAS as i64)
 }

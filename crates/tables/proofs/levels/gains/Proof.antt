@@ -1,6 +1,6 @@
 -- `tables::levels::gains` meets its contract. The places passed are written. Assumes nothing.
 use mathlib.Core.Path.{_≡_}
-use Prim.Native.Nat.{ℕ, _≤_, _<_, _-_}
+use Prim.Native.Nat.{_≤_, _<_, _-_}
 use lib.ListN.{getD}
 use native.Mathlib.Omega.{arith}
 use Rattle.maxplus.specs.Entry.{_⊗_, inv}
@@ -13,7 +13,8 @@ use Rattle.tables.proofs.levels.gains.Statement.{statement}
 use Rattle.tables.proofs.levels.gains.Tie as tie
 
 abbrev Inv-loop2 : tie.InvT-loop2
-Inv-loop2 through f n floor at r₀ l i j₀ r j = (j ≤ n) × (i ≡ getD at l 0) × (i < 6) × Cells (λ l j v. entry v ≡ meant through (getD at l 0) j ⊗ inv (meantV floor (getD at l 0))) n r l j
+Inv-loop2 through f n floor at r₀ l i j₀ r j = (j ≤ n) × (i ≡ getD at l 0) × (i < 6) ×
+    Cells (λ l j v. entry v ≡ meant through (getD at l 0) j ⊗ inv (meantV floor (getD at l 0))) n r l j
 
 abbrev μ-loop2 : tie.MeasureT-loop2
 μ-loop2 through f n floor at r₀ l i j₀ r j = n - j
@@ -62,8 +63,10 @@ minus-requires c κs =
     let s = c .before .before .before .before .before .before in
     let l = c .before .before .before .before .before .loop .l in
     let b = c .before .before .loop2 in
-    rw (b .inv .1)
-    (close-more (omega arith) (s .pre .2 .through-close l (b .j) (omega arith) (omega arith)), close-more (omega arith) (s .pre .2 .floor-close l (omega arith)))
+    rw (b .inv .1) (
+      close-more (omega arith) (s .pre .2 .through-close l (b .j) (omega arith) (omega arith)),
+      close-more (omega arith) (s .pre .2 .floor-close l (omega arith)),
+    )
 
 mul-r : tie.Need-mul-r Inv-loop2 μ-loop2 Inv-loop μ-loop
 mul-r c = omega arith
@@ -87,8 +90,12 @@ loop2-again : tie.Need-loop2-again Inv-loop2 μ-loop2 Inv-loop μ-loop
 unfolding meant meantV
 loop2-again c =
     let b = c .before .before .before .loop2 in
-    let a = c .before .before .before .before .before .before .before .args in
-    (omega arith, b .inv .1, b .inv .2, cells-more _ _ _ _ _ _ (omega arith) (omega arith) (b .inv .3) (gain-of (a .through .now) (a .t2) _ _ (b .j) _ (b .inv .1) (c .minus .ensures)))
+    let a = c .before .before .before .before .before .before .before .args in (
+      omega arith,
+      b .inv .1,
+      b .inv .2,
+      cells-more _ _ _ _ _ _ (omega arith) (omega arith) (b .inv .3) (gain-of (a .through .now) (a .t2) _ _ (b .j) _ (b .inv .1) (c .minus .ensures)),
+    )
 
 add-l : tie.Need-add-l Inv-loop2 μ-loop2 Inv-loop μ-loop
 add-l c = omega arith

@@ -1,7 +1,7 @@
 -- `tables::levels::pack` meets its contract. The panels passed are packed. Assumes nothing.
 use mathlib.Core.Path.{refl, sym, _∙_}
 use mathlib.Core.Logic.{⊎-elim}
-use Prim.Native.Nat.{ℕ, _≤_, _-_}
+use Prim.Native.Nat.{_≤_, _-_}
 use native.Mathlib.Omega.{arith}
 use Rattle.tables.specs.Held.{meantV}
 use Rattle.tables.proofs.LevelLaws.{Packing, packing-none, packing-more, packing-less, packing-all}

@@ -34,7 +34,8 @@ index-2-if1 c = omega arith
 
 returns : tie.Need-returns Inv-loop μ-loop
 unfolding meant
-returns c = λ h. above-unit _ _ (c .before .before .before .before .positive .ensures) (c .if1 .taken) (h (c .before .before .before .loop .i) (omega arith))
+returns c = λ h.
+    above-unit _ _ (c .before .before .before .before .positive .ensures) (c .if1 .taken) (h (c .before .before .before .loop .i) (omega arith))
 
 add-i : tie.Need-add-i Inv-loop μ-loop
 add-i c = omega arith
@@ -44,7 +45,10 @@ loop-less c = omega arith
 
 loop-again : tie.Need-loop-again Inv-loop μ-loop
 unfolding meant
-loop-again c = (omega arith, below-more _ _ (c .before .before .before .loop .inv .1) (at-most-unit _ _ (c .before .before .before .before .positive .ensures) (omega arith)))
+loop-again c = (
+  omega arith,
+  below-more _ _ (c .before .before .before .loop .inv .1) (at-most-unit _ _ (c .before .before .before .before .positive .ensures) (omega arith)),
+)
 
 returns-2 : tie.Need-returns-2 Inv-loop μ-loop
 returns-2 c = λ i h. c .before .loop .inv .1 i (omega arith)

@@ -1,6 +1,5 @@
 -- `tables::order::star` meets its contract. The powers passed are added up, and the next one is at hand. Assumes nothing.
-use mathlib.Core.Path.{_≡_}
-use Prim.Native.Nat.{ℕ, _≤_, _-_}
+use Prim.Native.Nat.{_≤_, _-_}
 use native.Mathlib.Omega.{arith}
 use Rattle.maxplus.specs.Tables as maxplus
 use Rattle.tables.specs.Held.{meant, Holds}
@@ -10,7 +9,7 @@ use Rattle.tables.proofs.order.star.Statement.{statement}
 use Rattle.tables.proofs.order.star.Tie as tie
 
 abbrev Inv-loop : tie.InvT-loop
-Inv-loop after n sum₀ power₀ k₀ sum power k = (k ≤ n) × Holds n n (powers n after k) sum × Holds n n (maxplus.power n (meant after) k) power
+Inv-loop after n sum₀ power₀ k₀ sum power k = Holds n n (powers n after k) sum × Holds n n (maxplus.power n (meant after) k) power × (k ≤ n)
 
 abbrev μ-loop : tie.MeasureT-loop
 μ-loop after n sum₀ power₀ k₀ sum power k = n - k
@@ -19,7 +18,7 @@ identity-requires : tie.Need-identity-requires Inv-loop μ-loop
 identity-requires c κs = tt
 
 loop-holds : tie.Need-loop-holds Inv-loop μ-loop
-loop-holds c = (omega arith, powers-none _ _ (omega arith), power-none _ _ (omega arith) (c .identity .ensures))
+loop-holds c = (powers-none _ _ (omega arith), power-none _ _ (omega arith) (c .identity .ensures), omega arith)
 
 joined-requires : tie.Need-joined-requires Inv-loop μ-loop
 joined-requires c κs = omega arith
@@ -28,7 +27,7 @@ product-requires : tie.Need-product-requires Inv-loop μ-loop
 product-requires c κs =
     let s = c .before .before .before .before .before .before .before in
     let l = c .before .before .before .before .before .loop in
-    (omega arith, omega arith, closely-more (omega arith) (s .pre .1), power-near _ _ (s .pre .0) (s .pre .1) (l .k) (omega arith) (l .inv .2))
+    (omega arith, omega arith, closely-more (omega arith) (s .pre .1), power-near _ _ (s .pre .0) (s .pre .1) (l .k) (omega arith) (l .inv .1))
 
 add-k : tie.Need-add-k Inv-loop μ-loop
 add-k c = omega arith
@@ -38,11 +37,14 @@ loop-less c = omega arith
 
 loop-again : tie.Need-loop-again Inv-loop μ-loop
 loop-again c =
-    let l = c .before .before .before .before .before .before .loop in
-    (omega arith, powers-more _ _ (l .k) (l .inv .2) (l .inv .1) (c .before .before .joined .ensures), power-more _ _ (l .k) (l .inv .2) (c .product .ensures))
+    let l = c .before .before .before .before .before .before .loop in (
+      powers-more _ _ (l .k) (l .inv .1) (l .inv .0) (c .before .before .joined .ensures),
+      power-more _ _ (l .k) (l .inv .1) (c .product .ensures),
+      omega arith,
+    )
 
 returns : tie.Need-returns Inv-loop μ-loop
-returns c = powers-all _ _ (omega arith) (c .before .loop .inv .1)
+returns c = powers-all _ _ (omega arith) (c .before .loop .inv .0)
 
 pub star-spec : {M : Type 1} → statement M
 star-spec =

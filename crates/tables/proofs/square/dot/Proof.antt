@@ -1,6 +1,6 @@
 -- `tables::square::dot` meets its contract. The largest of the sums passed. Assumes nothing.
 use mathlib.Core.Path.{_≡_}
-use Prim.Native.Nat.{ℕ, _≤_, _-_}
+use Prim.Native.Nat.{_≤_, _-_}
 use native.Mathlib.Omega.{arith}
 use Rattle.maxplus.specs.Entry.{_⊗_}
 use Rattle.maxplus.specs.Tables.{sup, mm}
@@ -60,7 +60,10 @@ loop-less c = omega arith
 
 loop-again : tie.Need-loop-again Inv-loop μ-loop
 unfolding meant
-loop-again c = (omega arith, largest-more _ _ _ _ _ (c .before .plus .ensures) (c .before .before .before .before .before .loop .inv .1) (c .larger .ensures))
+loop-again c = (
+  omega arith,
+  largest-more _ _ _ _ _ (c .before .plus .ensures) (c .before .before .before .before .before .loop .inv .1) (c .larger .ensures),
+)
 
 returns : tie.Need-returns Inv-loop μ-loop
 unfolding mm

@@ -1,6 +1,6 @@
 -- `tables::square::joined` meets its contract. The places passed are written. Assumes nothing.
 use mathlib.Core.Path.{_≡_}
-use Prim.Native.Nat.{ℕ, _≤_, _-_}
+use Prim.Native.Nat.{_≤_, _-_}
 use native.Mathlib.Omega.{arith}
 use Rattle.maxplus.specs.Entry.{_⊕_}
 use Rattle.words.specs.Words.{entry}
@@ -74,7 +74,10 @@ loop2-less c = omega arith
 
 loop2-again : tie.Need-loop2-again Inv-loop2 μ-loop2 Inv-loop μ-loop
 unfolding meant
-loop2-again c = (omega arith, cells-more _ _ _ _ _ _ (omega arith) (omega arith) (c .before .before .before .before .loop2 .inv .1) (c .larger .ensures))
+loop2-again c = (
+  omega arith,
+  cells-more _ _ _ _ _ _ (omega arith) (omega arith) (c .before .before .before .before .loop2 .inv .1) (c .larger .ensures),
+)
 
 add-i : tie.Need-add-i Inv-loop2 μ-loop2 Inv-loop μ-loop
 add-i c = omega arith

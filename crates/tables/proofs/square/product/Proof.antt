@@ -1,6 +1,6 @@
 -- `tables::square::product` meets its contract. The places passed are written. Assumes nothing.
 use mathlib.Core.Path.{_≡_}
-use Prim.Native.Nat.{ℕ, _≤_, _-_}
+use Prim.Native.Nat.{_≤_, _-_}
 use native.Mathlib.Omega.{arith}
 use Rattle.maxplus.specs.Tables.{mm}
 use Rattle.words.specs.Words.{entry}

@@ -1,7 +1,7 @@
 -- `tables::square::table` meets its contract. The rows passed are copied. Assumes nothing.
 use mathlib.Core.Path.{_≡_, refl}
-use mathlib.Core.List.{List, []}
-use Prim.Native.Nat.{ℕ, _≤_, _-_}
+use mathlib.Core.List.{[]}
+use Prim.Native.Nat.{_≤_, _-_}
 use lib.ListN.{getD}
 use native.Mathlib.Omega.{arith}
 use Rattle.tables.proofs.Loops.{Filled, filled-none, filled-more}

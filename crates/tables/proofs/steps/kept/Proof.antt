@@ -1,6 +1,6 @@
 -- `tables::steps::kept` meets its contract. The bytes of the panels passed are written, and 0 stands past them. Assumes nothing.
 use mathlib.Core.Path.{_≡_, refl}
-use Prim.Native.Nat.{ℕ, _≤_, _-_}
+use Prim.Native.Nat.{_≤_, _-_}
 use lib.ListN.{length, length-set}
 use native.Mathlib.Omega.{arith}
 use Rattle.words.specs.Words.{entry}
@@ -11,7 +11,8 @@ use Rattle.tables.proofs.steps.kept.Statement.{statement}
 use Rattle.tables.proofs.steps.kept.Tie as tie
 
 abbrev Inv-loop : tie.InvT-loop
-Inv-loop through pulls least m n floor r₀ i₀ r i = (i ≤ m) × (length r ≡ 6) × KeptBytes i n (λ i. kept-of (entry least) (meant through) (meantV pulls) (meantV floor i) i) r
+Inv-loop through pulls least m n floor r₀ i₀ r i =
+    (i ≤ m) × (length r ≡ 6) × KeptBytes i n (λ i. kept-of (entry least) (meant through) (meantV pulls) (meantV floor i) i) r
 
 abbrev μ-loop : tie.MeasureT-loop
 μ-loop through pulls least m n floor r₀ i₀ r i = m - i
@@ -26,7 +27,9 @@ array-read-panel-byte : tie.Need-array-read-panel-byte Inv-loop μ-loop
 array-read-panel-byte c = omega arith
 
 panel-byte-requires : tie.Need-panel-byte-requires Inv-loop μ-loop
-panel-byte-requires c κs = let s = c .before .before in (omega arith, s .pre .1, s .pre .2, s .pre .3 .at (c .before .loop .i) (omega arith), s .pre .4)
+panel-byte-requires c κs =
+    let s = c .before .before in
+    (omega arith, s .pre .1, s .pre .2, s .pre .3 .at (c .before .loop .i) (omega arith), s .pre .4)
 
 array-write-r : tie.Need-array-write-r Inv-loop μ-loop
 array-write-r c = omega arith
@@ -39,7 +42,9 @@ loop-less c = omega arith
 
 loop-again : tie.Need-loop-again Inv-loop μ-loop
 unfolding meantV
-loop-again c = let l = c .before .before .loop in (omega arith, simp length-set (l .inv .1), bytes-more _ _ _ _ _ (l .inv .1) (omega arith) (l .inv .2) (c .panel-byte .ensures))
+loop-again c =
+    let l = c .before .before .loop in
+    (omega arith, simp length-set (l .inv .1), bytes-more _ _ _ _ _ (l .inv .1) (omega arith) (l .inv .2) (c .panel-byte .ensures))
 
 returns : tie.Need-returns Inv-loop μ-loop
 returns c = let e : c .before .loop .i ≡ c .before .before .args .m = omega arith in rw e at (c .before .loop .inv .2)

@@ -1,6 +1,6 @@
 -- `tables::steps::landing` meets its contract. The largest of the differences passed, none of them far. Assumes nothing.
 use mathlib.Core.Path.{_≡_}
-use Prim.Native.Nat.{ℕ, _*_, _≤_, _-_}
+use Prim.Native.Nat.{_*_, _≤_, _-_}
 use native.Mathlib.Omega.{arith}
 use Rattle.maxplus.specs.Entry.{_⊗_, inv}
 use Rattle.maxplus.specs.Tables.{sup}
@@ -59,8 +59,14 @@ loop-again : tie.Need-loop-again Inv-loop μ-loop
 unfolding meant meantV
 loop-again c =
     let s = c .before .before .before .before .before in
-    let l = c .before .before .before .before .loop in
-    (omega arith, largest-more _ _ _ _ _ (c .before .minus .ensures) (l .inv .1) (c .larger .ensures), close-larger _ _ _ (c .larger .ensures) (close-minus _ _ _ (c .before .minus .ensures) (s .pre .2 .at (s .args .i) (l .j) (omega arith) (omega arith)) (s .pre .3 .at (l .j) (omega arith))) (l .inv .2))
+    let l = c .before .before .before .before .loop in (
+      omega arith,
+      largest-more _ _ _ _ _ (c .before .minus .ensures) (l .inv .1) (c .larger .ensures),
+      close-larger _ _ _ (c .larger .ensures)
+          (close-minus _ _ _ (c .before .minus .ensures) (s .pre .2 .at (s .args .i) (l .j) (omega arith) (omega arith))
+          (s .pre .3 .at (l .j) (omega arith)))
+          (l .inv .2),
+    )
 
 returns : tie.Need-returns Inv-loop μ-loop
 unfolding landing-of

@@ -1,6 +1,6 @@
 -- `tables::steps::least` meets its contract. The largest of the differences passed. Assumes nothing.
 use mathlib.Core.Path.{_≡_}
-use Prim.Native.Nat.{ℕ, _≤_, _-_}
+use Prim.Native.Nat.{_≤_, _-_}
 use native.Mathlib.Omega.{arith}
 use Rattle.maxplus.specs.Entry.{_⊗_, inv}
 use Rattle.maxplus.specs.Tables.{sup}
@@ -14,7 +14,8 @@ use Rattle.tables.proofs.steps.least.Statement.{statement}
 use Rattle.tables.proofs.steps.least.Tie as tie
 
 abbrev Inv-loop : tie.InvT-loop
-Inv-loop through pulls m n floor best₀ i₀ best i = (i ≤ m) × (entry best ≡ sup i (λ i. meantV floor i ⊗ inv (landing-of n (meant through) (meantV pulls) i)))
+Inv-loop through pulls m n floor best₀ i₀ best i =
+    (i ≤ m) × (entry best ≡ sup i (λ i. meantV floor i ⊗ inv (landing-of n (meant through) (meantV pulls) i)))
 
 abbrev μ-loop : tie.MeasureT-loop
 μ-loop through pulls m n floor best₀ i₀ best i = m - i
@@ -32,8 +33,10 @@ array-read-minus : tie.Need-array-read-minus Inv-loop μ-loop
 array-read-minus c = omega arith
 
 minus-requires : tie.Need-minus-requires Inv-loop μ-loop
-minus-requires c κs =
-    (close-more (omega arith) (c .before .before .before .pre .4 .at (c .before .before .loop .i) (omega arith)), close-more (omega arith) (c .landing .ensures .1))
+minus-requires c κs = (
+  close-more (omega arith) (c .before .before .before .pre .4 .at (c .before .before .loop .i) (omega arith)),
+  close-more (omega arith) (c .landing .ensures .1),
+)
 
 larger-requires : tie.Need-larger-requires Inv-loop μ-loop
 larger-requires c κs = tt
@@ -46,7 +49,11 @@ loop-less c = omega arith
 
 loop-again : tie.Need-loop-again Inv-loop μ-loop
 unfolding meantV
-loop-again c = (omega arith, largest-more _ _ _ _ _ (short-of _ _ _ _ (c .before .minus .ensures) (c .before .before .landing .ensures .0)) (c .before .before .before .before .loop .inv .1) (c .larger .ensures))
+loop-again c = (
+  omega arith,
+  largest-more _ _ _ _ _ (short-of _ _ _ _ (c .before .minus .ensures) (c .before .before .landing .ensures .0))
+      (c .before .before .before .before .loop .inv .1) (c .larger .ensures),
+)
 
 returns : tie.Need-returns Inv-loop μ-loop
 unfolding least-of

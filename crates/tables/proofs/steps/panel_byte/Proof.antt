@@ -1,5 +1,5 @@
 -- `tables::steps::panel_byte` meets its contract. Assumes nothing.
-use mathlib.Core.Path.{_≡_, sym, _∙_}
+use mathlib.Core.Path.{sym, _∙_}
 use native.Mathlib.Omega.{arith}
 use Rattle.words.proofs.Laws.{close-more, close-minus}
 use Rattle.tables.proofs.StepLaws.{floor-there, floor-absent}

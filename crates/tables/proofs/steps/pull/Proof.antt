@@ -1,6 +1,6 @@
 -- `tables::steps::pull` meets its contract. The largest of the differences passed. Assumes nothing.
 use mathlib.Core.Path.{_≡_}
-use Prim.Native.Nat.{ℕ, _≤_, _-_}
+use Prim.Native.Nat.{_≤_, _-_}
 use native.Mathlib.Omega.{arith}
 use Rattle.maxplus.specs.Entry.{_⊗_, inv}
 use Rattle.maxplus.specs.Tables.{sup}
@@ -56,7 +56,10 @@ loop-less c = omega arith
 
 loop-again : tie.Need-loop-again Inv-loop μ-loop
 unfolding meant meantV
-loop-again c = (omega arith, largest-more _ _ _ _ _ (c .before .minus .ensures) (c .before .before .before .before .loop .inv .1) (c .larger .ensures))
+loop-again c = (
+  omega arith,
+  largest-more _ _ _ _ _ (c .before .minus .ensures) (c .before .before .before .before .loop .inv .1) (c .larger .ensures),
+)
 
 returns : tie.Need-returns Inv-loop μ-loop
 unfolding pull-of

@@ -1,6 +1,6 @@
 -- `tables::steps::pulls` meets its contract. The pulls passed are written. Assumes nothing.
 use mathlib.Core.Path.{_≡_}
-use Prim.Native.Nat.{ℕ, _≤_, _-_}
+use Prim.Native.Nat.{_≤_, _-_}
 use native.Mathlib.Omega.{arith}
 use Rattle.words.specs.Words.{entry}
 use Rattle.tables.specs.Held.{meant, meantV}

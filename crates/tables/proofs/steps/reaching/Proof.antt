@@ -1,7 +1,7 @@
 -- `tables::steps::reaching` meets its contract. The bits of the triggers passed; the next bit is larger. Assumes nothing.
 use mathlib.Core.Path.{_≡_, refl, _∙_}
 use mathlib.Core.Logic.{⊎-elim}
-use Prim.Native.Nat.{ℕ, _^_, _≤_, _<_, _-_}
+use Prim.Native.Nat.{_^_, _≤_, _<_, _-_}
 use native.Mathlib.Omega.{arith}
 use Rattle.words.specs.Words.{entry}
 use Rattle.words.proofs.Laws.{close-more}
@@ -12,7 +12,8 @@ use Rattle.tables.proofs.steps.reaching.Statement.{statement}
 use Rattle.tables.proofs.steps.reaching.Tie as tie
 
 abbrev Inv-loop : tie.InvT-loop
-Inv-loop through ask i n pulls byte₀ bit₀ j₀ byte bit j = (j ≤ n) × (byte ≡ byte-of j (reaches (entry ask) (meant through) (meantV pulls) i)) × (bit ≡ 2 ^ j) × (byte < bit)
+Inv-loop through ask i n pulls byte₀ bit₀ j₀ byte bit j =
+    (j ≤ n) × (byte ≡ byte-of j (reaches (entry ask) (meant through) (meantV pulls) i)) × (bit ≡ 2 ^ j) × (byte < bit)
 
 abbrev μ-loop : tie.MeasureT-loop
 μ-loop through ask i n pulls byte₀ bit₀ j₀ byte bit j = n - j
@@ -59,7 +60,12 @@ loop-again c =
     let l = c .before .before .before .before .loop in
     let p = c .before .before .plus .ensures in
     ⊎-elim
-    (λ w. (omega arith, w .1 ∙ byte-set _ (l .j) _ _ (l .inv .1) (l .inv .2) (reaches-yes _ _ _ p (w .0 .taken)), bit-more (l .j) _ (l .inv .2), omega arith))
+    (λ w. (
+      omega arith,
+      w .1 ∙ byte-set _ (l .j) _ _ (l .inv .1) (l .inv .2) (reaches-yes _ _ _ p (w .0 .taken)),
+      bit-more (l .j) _ (l .inv .2),
+      omega arith,
+    ))
     (λ w. (omega arith, w .1 ∙ byte-clear _ (l .j) _ (l .inv .1) (reaches-no _ _ _ p (omega arith)), bit-more (l .j) _ (l .inv .2), omega arith))
     (c .if1 .came)
 

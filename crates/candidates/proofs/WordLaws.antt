@@ -1,0 +1,95 @@
+-- Laws of six words: written place by place, where they are close, and what their line is.
+use mathlib.Core.Path.{_≡_, refl, ap, sym, _∙_}
+use mathlib.Core.List.{List, []}
+use Prim.Native.Nat.{ℕ, _+_, _≤_, _<_}
+use native.Mathlib.Omega.{arith}
+use native.Mathlib.Decide.{ℕ-discrete, decLt}
+use lib.ListN.{getD, set, replicate, length-set}
+use lib.Seq.{getD-set-same, getD-set-other, ext-getD}
+use Rattle.maxplus.specs.Entry.{_⊗_}
+use Rattle.maxplus.specs.Tables.{sup, Vec, mv}
+use Rattle.maxplus.specs.Line.{at, line}
+use Rattle.maxplus.proofs.EntryLaws.{_▸_, ≼-anti, ≼-of, ≼-back}
+use Rattle.maxplus.proofs.SupLaws.{sup-ub, sup-at, sup-ext}
+use Rattle.maxplus.proofs.LineLaws.{line-ext, at-line}
+use Rattle.words.specs.Words.{entry, Close}
+use Rattle.words.proofs.Laws.{entry-inj, close-more, close-of, of-close, close-plus}
+use Rattle.tables.specs.Held.{meant, meantV, HoldsV, Closely, CloselyV}
+use Rattle.tables.proofs.StepLaws.{blank-word}
+use Rattle.candidates.specs.Lines.{line-of, Sized, Written}
+
+-- ---- written place by place
+abbrev pub blank : List ℕ
+blank = replicate 6 0
+
+pub sized-none : (n : ℕ) → Sized n blank
+sized-none n = record { size = refl; past = λ j h. blank-word j }
+
+pub sized-set : {n : ℕ} (w : List ℕ) (i v : ℕ) → i < n → Sized n w → Sized n (set w i v)
+sized-set w i v h s = record {
+  size = simp length-set (s .size);
+  past = λ j k. getD-set-other w i j v 0 (λ e. omega arith) ∙ s .past j k;
+}
+
+pub written-none : (x : Vec) → Written 0 x blank
+written-none x = record { sized = sized-none 0; at = λ j h. let e : ⊥ = omega arith in absurd e }
+
+pub written-more : (x : Vec) (i v : ℕ) (w : List ℕ) → i < 6 → Written i x w → entry v ≡ x i → Written (i + 1) x (set w i v)
+unfolding meantV
+written-more x i v w h r e = record {
+  sized = sized-set w i v (omega arith) (record { size = r .sized .size; past = λ j k. r .sized .past j (omega arith) });
+  at = λ j k. elim (ℕ-discrete j i) [
+    | yes q ↦ rw (q, getD-set-same w i v 0 (rw (r .sized .size) h)) e
+    | no q ↦ rw (getD-set-other w i j v 0 q) (r .at j (omega arith))
+  ];
+}
+
+pub written-same : {n : ℕ} {x y : Vec} {w : List ℕ} → ((j : ℕ) → j < n → x j ≡ y j) → Written n x w → Written n y w
+written-same h r = record { sized = r .sized; at = λ j k. r .at j k ∙ h j k }
+
+pub written-all : {x : Vec} {i n : ℕ} {w : List ℕ} → i ≤ n → n ≤ i → Written i x w → Written n x w
+written-all {x} {i} {n} {w} h k r = let e : i ≡ n = omega arith in rw e at r
+
+-- ---- close words
+pub closely-moreV : {n c d : ℕ} {w : List ℕ} → c ≤ d → CloselyV n c w → CloselyV n d w
+closely-moreV h k = record { at = λ j hj. close-more h (k .at j hj) }
+
+pub closely-row : {m n c : ℕ} {t : List (List ℕ)} (i : ℕ) → i < m → Closely m n c t → CloselyV n c (getD t i [])
+closely-row i h k = record { at = λ j hj. k .at i j h hj }
+
+-- a largest is one of its parts
+pub close-largest : {n c : ℕ} {x : List ℕ} (r : ℕ) → CloselyV n c x → entry r ≡ sup n (meantV x) → Close c r
+unfolding meantV
+close-largest {n} {c} {x} r h e = close-of c r (λ z f.
+    let (j, hj, l) = sup-at n (meantV x) (≼-back (sym e ∙ f)) in
+    of-close c (getD x j 0) (h .at j hj) z (≼-anti (sup-ub n (meantV x) j hj ▸ ≼-of (sym e ∙ f)) l))
+
+-- ---- a row of a table and six words: the largest sum, and the places of a sum
+module _ (n : ℕ) (t : List (List ℕ)) (i : ℕ) (x s : List ℕ) (sums : HoldsV n (λ j. meantV (getD t i []) j ⊗ meantV x j) s) where
+  pub dot-is : (r : ℕ) → entry r ≡ sup n (meantV s) → entry r ≡ mv n (meant t) (meantV x) i
+  unfolding mv meant meantV
+  dot-is r e = e ∙ sup-ext n (sums .at)
+
+  pub dot-close : {m c d : ℕ} (r : ℕ) → i < m → Closely m n c t → CloselyV n d x → entry r ≡ sup n (meantV s) → Close (c + d) r
+  unfolding meantV
+  dot-close r h k l e = close-largest {x = s} r (record { at = λ j hj. close-plus _ _ _ (sums .at j hj) (k .at i j h hj) (l .at j hj) }) e
+
+-- ---- their line
+pub line-at : (n : ℕ) (w : List ℕ) (j : ℕ) → j < n → at n (line-of n w) j ≡ meantV w j
+unfolding line-of
+line-at n w j h = at-line n (meantV w) j h
+
+pub line-same : {n : ℕ} {x y : Vec} → ((j : ℕ) → j < n → x j ≡ y j) → line n x ≡ line n y
+line-same {n} {x} {y} h = line-ext n (line n x) (line n y) (λ j k. at-line n x j k ∙ h j k ∙ sym (at-line n y j k))
+
+pub written-line : {n : ℕ} {x : Vec} {w : List ℕ} → Written n x w → line-of n w ≡ line n x
+unfolding line-of
+written-line r = line-same (r .at)
+
+-- words with the same line are the same
+pub line-of-inj : {n : ℕ} {v w : List ℕ} → Sized n v → Sized n w → line-of n v ≡ line-of n w → v ≡ w
+unfolding meantV
+line-of-inj {n} {v} {w} s t e = ext-getD 0 v w (s .size ∙ sym (t .size)) (λ j h. elim (decLt j n) [
+  | yes k ↦ entry-inj (sym (line-at n v j k) ∙ ap (λ c. at n c j) e ∙ line-at n w j k)
+  | no k ↦ s .past j (omega arith) ∙ sym (t .past j (omega arith))
+])

@@ -1,0 +1,63 @@
+-- `candidates::bits::places` meets its contract. The places passed that have the word are marked, and bit is theirs to come.
+-- Assumes nothing.
+use mathlib.Core.Path.{_≡_, refl}
+use mathlib.Core.Logic.{⊎-elim}
+use Prim.Native.Nat.{_≤_, _<_, _-_, _^_}
+use native.Mathlib.Omega.{arith}
+use lib.ListN.{getD}
+use Rattle.tables.proofs.StepLaws.{bit-more, bit-low}
+use Rattle.candidates.specs.Bits.{Marked}
+use Rattle.candidates.proofs.BitLaws.{passed-none, passed-more, passed-less}
+use Rattle.candidates.proofs.bits.places.Statement.{statement}
+use Rattle.candidates.proofs.bits.places.Tie as tie
+
+abbrev Inv-loop : tie.InvT-loop
+Inv-loop word n x set₀ bit₀ j₀ set bit j = (j ≤ n) × (bit ≡ 2 ^ j) × Marked (λ k. (k < j) × (getD x k 0 ≡ word)) set
+
+abbrev μ-loop : tie.MeasureT-loop
+μ-loop word n x set₀ bit₀ j₀ set bit j = n - j
+
+loop-holds : tie.Need-loop-holds Inv-loop μ-loop
+loop-holds c = (omega arith, refl, passed-none _)
+
+mul-if1 : tie.Need-mul-if1 Inv-loop μ-loop
+mul-if1 c = omega arith
+
+array-read-if1 : tie.Need-array-read-if1 Inv-loop μ-loop
+array-read-if1 c = omega arith
+
+add-bit : tie.Need-add-bit Inv-loop μ-loop
+add-bit c = let k = c .before .before .loop in omega (arith, bit-low _ _ (k .inv .1) (omega arith))
+
+add-j : tie.Need-add-j Inv-loop μ-loop
+add-j c = omega arith
+
+loop-less : tie.Need-loop-less Inv-loop μ-loop
+loop-less c = omega arith
+
+loop-again : tie.Need-loop-again Inv-loop μ-loop
+loop-again c =
+    let k = c .before .before .loop in (
+      omega arith,
+      bit-more _ _ (k .inv .1),
+      ⊎-elim (λ w. rw (w .1, k .inv .1) (passed-more _ _ _ (omega arith) (k .inv .2) (w .0 .taken)))
+          (λ w. rw (w .1) (passed-less _ _ _ (k .inv .2) (w .0 .left))) (c .if1 .came),
+    )
+
+returns : tie.Need-returns Inv-loop μ-loop
+returns c = let e : c .before .loop .j ≡ c .before .before .args .n = omega arith in rw e at (c .before .loop .inv .2)
+
+pub places-spec : {M : Type 1} → statement M
+places-spec =
+    tie.close
+    (tie.spec
+    Inv-loop
+    μ-loop
+    loop-holds
+    mul-if1
+    array-read-if1
+    add-bit
+    add-j
+    loop-less
+    loop-again
+    returns)

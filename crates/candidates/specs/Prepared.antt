@@ -1,0 +1,50 @@
+-- What a caller has made of a sheet's tables before it draws lines.
+use mathlib.Core.Path.{_≡_}
+use mathlib.Core.List.{List, zip}
+use Prim.Native.Nat.{ℕ, _*_, _≤_, _<_}
+use lib.ListN.{length, getD}
+use Rattle.maxplus.specs.Entry.{num, _⊗_, inv}
+use Rattle.maxplus.specs.Tables.{star, NoGain}
+use Rattle.sheet.specs.Sheet.{limit}
+use Rattle.cue.specs.Meaning.{Tables, Readable}
+use Rattle.cue.specs.Method.{Selection, through, pull, least, floor-panels, ask}
+use Rattle.cue.proofs.Bounds.{Limited}
+use Rattle.tables.specs.Held.{meant, Holds, HoldsV, Closely, CloselyV}
+use Rattle.candidates.specs.declared.Marks.{Marks}
+
+-- the tables of P, and the marks, as words: row l of needs has p(i) − Δ − d(i,j) for the l-th panel i with a floor
+pub record Prepared (n : ℕ) (P : Tables) (M : Marks) (stars lags needs : List (List ℕ)) : Type 0 where
+  pub some : 0 < n
+  pub few : n ≤ 6
+  pub few-panels : P .panels ≤ 6
+  pub triggers : M .triggers ≡ n
+  pub panels : M .panels ≡ P .panels
+  pub levels : M .levels ≡ length (floor-panels n P)
+  pub readable : Readable n P
+  pub limited : Limited n limit P
+  pub order : NoGain n (P .after)
+  pub starred : Holds n n (star n (P .after)) stars
+  pub lagged : Holds (P .panels) n (P .lag) lags
+  pub pulled : HoldsV n (λ j. num (pull n P j)) (M .pulls)
+  pub due : HoldsV n (λ j. num (P .due j)) (M .due)
+  pub asked : HoldsV (P .panels) (ask n P (least n P)) (M .asks)
+  pub needed : (l j : ℕ) → l < M .levels → j < n →
+      meant needs l j ≡ ask n P (least n P) (getD (floor-panels n P) l 0) ⊗ inv (through n P (getD (floor-panels n P) l 0) j)
+
+-- few enough of each, and words close enough to add up
+pub record Ready (M : Marks) (stars lags : List (List ℕ)) : Type 0 where
+  pub few : M .triggers ≤ 6
+  pub few-panels : M .panels ≤ 6
+  pub starred : Closely (M .triggers) (M .triggers) (5 * limit) stars
+  pub lagged : Closely (M .panels) (M .triggers) limit lags
+  pub due : CloselyV (M .triggers) limit (M .due)
+  pub asked : CloselyV (M .panels) (9 * limit) (M .asks)
+
+-- the selection of the picks: each panel with a floor, with the pick of its level
+abbrev pub picked : ℕ → Tables → List ℕ → Selection
+picked n P picks = zip (floor-panels n P) picks
+
+-- a pick for each level, and each a trigger
+pub record Picked (n levels : ℕ) (picks : List ℕ) : Type 0 where
+  pub enough : levels ≤ length picks
+  pub trigger : (l : ℕ) → l < levels → getD picks l 0 < n

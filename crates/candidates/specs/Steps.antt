@@ -1,0 +1,42 @@
+-- Step 6 and the sets of the test for extreme, over the tables that a step is given.
+use mathlib.Core.Path.{_≡_}
+use mathlib.Core.Logic.{_⊎_}
+use mathlib.Core.List.{List}
+use Prim.Native.Nat.{ℕ, _<_}
+use lib.Bits.{bitAnd}
+use lib.ListN.{getD}
+use Rattle.maxplus.specs.Entry.{E, _⊗_, _⊕_, Present}
+use Rattle.maxplus.specs.Tables.{sup, Vec, Mat, idm}
+use Rattle.candidates.specs.Bits.{Has, Marked}
+
+-- "w(j): the largest p(i) − Δ − d(i,j) over panels that chose j, absent if none"; row l of N is that of the l-th panel with a floor
+unfoldable pub need-of : ℕ → Mat → List ℕ → Vec
+need-of levels N picks j = sup levels (λ l. idm (getD picks l 0) j ⊗ N l j)
+
+-- M* applied to "0 at t and absent elsewhere", joined with "w minus r(t)": S is M*, u the pulls −r, y is M* w
+unfoldable pub ray-of : Mat → Vec → Vec → ℕ → Vec
+ray-of S u y t i = S i t ⊕ u t ⊗ y i
+
+-- A(k), for each k: the j with S(k,j) + x(j) = x(k)
+pub record HeldSets (n : ℕ) (S : Mat) (x : Vec) (r : List ℕ) : Type 0 where
+  pub at : (k : ℕ) → k < n → Marked (λ j. (j < n) × (S k j ⊗ x j ≡ x k)) (getD r k 0)
+
+-- times t by trigger, what is asked for a, the largest lateness o: the panel has a floor and lands just where Δ asks
+abbrev pub Tight : ℕ → Vec → E → E → Type 0
+Tight n t a o = Present a × (a ⊗ o ≡ sup n t)
+
+-- the triggers that reach the landing of a tight panel; else 64, which no set of six bits holds
+pub record Reaching (n : ℕ) (t : Vec) (a o : E) (m : ℕ) : Type 0 where
+  pub tight : Tight n t a o → Marked (λ j. (j < n) × (t j ≡ sup n t)) m
+  pub never : ¬ (Tight n t a o) → m ≡ 64
+
+pub record TightSets (panels n : ℕ) (A : Mat) (a x : Vec) (o : E) (r : List ℕ) : Type 0 where
+  pub at : (i : ℕ) → i < panels → Reaching n (λ j. A i j ⊗ x j) (a i) o (getD r i 0)
+
+-- some panel's triggers are all held
+abbrev pub Inside : List ℕ → ℕ → ℕ → Type 0
+Inside tight panels held = (i : ℕ) × (i < panels) × (bitAnd (getD tight i 0) held ≡ getD tight i 0)
+
+-- cl(k): what is held, with front where some panel fires
+abbrev pub Closed : List ℕ → ℕ → ℕ → ℕ → ℕ → Type 0
+Closed tight panels front held j = Has held j ⊎ (Inside tight panels held × Has front j)

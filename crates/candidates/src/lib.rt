@@ -1,0 +1,24 @@
+// Step 6's candidates of a selection, the test for extreme that needs no other candidate, and the order of lines.
+mod bits;
+pub mod closure;
+mod entries;
+pub mod order;
+pub mod selection;
+
+// A line, or w: its count of triggers and its six components as words of entries, the unused ones absent.
+pub struct Line {
+    pub count: usize,
+    pub at: [u64; 6],
+}
+
+// What a sheet's lines are drawn from, besides its tables. By trigger: pulls, the marks r(j) with the sign turned, and due. By panel: asks,
+// p(i) − Δ, absent without a floor. By level, that is by panel with a floor: kept, the bits of the kept triggers.
+pub struct Marks {
+    pub triggers: usize,
+    pub panels: usize,
+    pub levels: usize,
+    pub pulls: [u64; 6],
+    pub due: [u64; 6],
+    pub asks: [u64; 6],
+    pub kept: [u8; 6],
+}

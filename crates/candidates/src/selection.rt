@@ -1,0 +1,100 @@
+// Step 6: from the picks of a selection to its candidates.
+ghost use mathlib.Core.Path.{_≡_};
+ghost use Prim.Native.Nat.{_*_, _≤_, _<_};
+ghost use Rattle.maxplus.specs.Entry.{_⊗_, _⊕_, inv};
+ghost use Rattle.maxplus.specs.Tables.{mv, normal};
+ghost use Rattle.words.specs.Words.{entry, Close};
+ghost use Rattle.sheet.specs.Sheet.{limit};
+ghost use Rattle.tables.specs.Held.{meant, meantV, HoldsV, Closely, CloselyV};
+ghost use Rattle.candidates.specs.Lines.{Written, Drawn};
+ghost use Rattle.candidates.specs.Steps.{need-of, ray-of};
+ghost use Rattle.candidates.specs.Prepared.{Picked};
+use crate::Line;
+use crate::entries::largest;
+use crate::entries::sums;
+
+// "A selection gives w(j): the largest p(i) − Δ − d(i,j) over panels that chose j, absent if none." A row of needs belongs to a level.
+pub fn need(needs: &[[u64; 6]; 6], levels: usize, picks: [u8; 6], n: usize) -> Line
+    requires { ⌜ (levels ≤ 6) × (n ≤ 6) × Picked n levels picks × Closely levels n (15 * limit) (now needs) ⌝ }
+    ensures { λ r. ⌜ Drawn n (15 * limit) (need-of levels (meant (now (needs .entry))) picks) r ⌝ }
+{
+    let mut at = [0u64; 6];
+    let mut l: usize = 0;
+    while l < levels {
+        let j = index(picks[l]);
+        at[j] = words::larger(needs[l][j], at[j]);
+        l += 1;
+    }
+    Line { count: n, at: at }
+}
+
+fn index(pick: u8) -> usize
+    ensures { λ r. ⌜ r ≡ pick ⌝ }
+{
+    pick as usize
+}
+
+// M* w, which serves every trigger of the selection.
+pub fn starred(star: &[[u64; 6]; 6], w: Line, n: usize) -> [u64; 6]
+    requires { ⌜ (n ≤ 6) × Closely n n (5 * limit) (now star) × CloselyV n (15 * limit) (w .at) ⌝ }
+    ensures is { λ r. ⌜ HoldsV n (mv n (meant (now (star .entry))) (meantV (w .at))) r ⌝ }
+    ensures close { λ r. ⌜ CloselyV n (20 * limit) r ⌝ }
+{
+    let at = w.at;
+    let mut r = [0u64; 6];
+    let mut i: usize = 0;
+    while i < n {
+        let parts = sums(star[i], at, n);
+        r[i] = largest(parts, n);
+        i += 1;
+    }
+    r
+}
+
+// The candidate of trigger t: column t of M*, joined with M* w − r(t), "and shift so that the greatest component is 0".
+pub fn candidate(
+    star: &[[u64; 6]; 6],
+    pulls: [u64; 6],
+    starred: [u64; 6],
+    n: usize,
+    t: usize,
+) -> Line
+    requires { ⌜ (n ≤ 6) × (t < n) × Closely n n (5 * limit) (now star) × CloselyV n (6 * limit) pulls × CloselyV n (20 * limit) starred ⌝ }
+    ensures { λ r. ⌜ Drawn n (52 * limit) (normal n (ray-of (meant (now (star .entry))) (meantV pulls) (meantV starred) t)) r ⌝ }
+{
+    let ray = drawn(star, pulls[t], starred, n, t);
+    let top = largest(ray, n);
+    Line {
+        count: n,
+        at: shifted(ray, top, n),
+    }
+}
+
+// The candidate before the shift.
+fn drawn(star: &[[u64; 6]; 6], pull: u64, starred: [u64; 6], n: usize, t: usize) -> [u64; 6]
+    requires { ⌜ (n ≤ 6) × (t < n) × Closely n n (5 * limit) (now star) × Close (6 * limit) pull × CloselyV n (20 * limit) starred ⌝ }
+    ensures is { λ r. ⌜ HoldsV n (λ i. meant (now (star .entry)) i t ⊕ entry pull ⊗ meantV starred i) r ⌝ }
+    ensures close { λ r. ⌜ CloselyV n (26 * limit) r ⌝ }
+{
+    let mut r = [0u64; 6];
+    let mut i: usize = 0;
+    while i < n {
+        r[i] = words::larger(star[i][t], words::plus(pull, starred[i]));
+        i += 1;
+    }
+    r
+}
+
+// The first n components, each less the number of top.
+fn shifted(x: [u64; 6], top: u64, n: usize) -> [u64; 6]
+    requires { ⌜ (n ≤ 6) × CloselyV n (26 * limit) x × Close (26 * limit) top ⌝ }
+    ensures { λ r. ⌜ Written n (λ j. meantV x j ⊗ inv (entry top)) r ⌝ }
+{
+    let mut r = [0u64; 6];
+    let mut j: usize = 0;
+    while j < n {
+        r[j] = words::minus(x[j], top);
+        j += 1;
+    }
+    r
+}

@@ -1,0 +1,2 @@
+-- What is known of a sheet's marks and levels.
+pub mod Marked

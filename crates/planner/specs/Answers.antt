@@ -1,0 +1,31 @@
+-- What the operations answer in a program: each outcome's numbers and values, and 0 wherever a refusal leaves nothing.
+use mathlib.Core.List.{List, [], _∷_}
+use Prim.Native.Nat.{ℕ}
+use lib.Count.{ones}
+use lib.IntN.{pos}
+use lib.ListN.{length, getD, replicate}
+use Rattle.maxplus.specs.Finite.{each}
+use Rattle.planner.specs.Outcome.{KeptOutcome, kept, refused}
+use Rattle.planner.specs.declared.kept.KeptTable.{KeptTable}
+
+-- the first six of a list of pairs, part by part, and 0 past its end
+abbrev pub six : (ℕ → ℕ) → List ℕ
+six f = each 6 (λ i. f i ∷ [])
+
+abbrev pub six-counts : List ℕ → List ℕ
+six-counts bytes = six (λ i. ones (getD bytes i 0))
+
+-- kept table and walk: "It gives Δ, each panel's byte and bit count (0 and 0 without a floor), steps and selections."
+abbrev pub kept-answer : KeptOutcome → KeptTable
+kept-answer (kept D panels k l) =
+    record {
+      refusal = 0;
+      deviation = D;
+      panels = length panels;
+      kept = six (λ i. getD panels i (0, 0) .0);
+      counts = six (λ i. getD panels i (0, 0) .1);
+      steps = k;
+      selections = l;
+    }
+kept-answer (refused k) =
+    record { refusal = k; deviation = pos 0; panels = 0; kept = replicate 6 0; counts = replicate 6 0; steps = 0; selections = 0 }

@@ -1,0 +1,74 @@
+// The texts that the programs write, put into lent bytes: of a plan, of a kept table, of a refusal. Each function returns the place
+// behind what it wrote. A number has at most 20 bytes, and the room asked for is a round number above the longest text.
+mod line;
+mod put;
+
+ghost use mathlib.Core.Path.{_≡_};
+ghost use mathlib.Core.List.{List, [], _∷_};
+ghost use Prim.Native.Nat.{_+_, _*_, _≤_};
+ghost use lib.ListN.{length, take, getD};
+ghost use Rattle.maxplus.specs.Finite.{each};
+ghost use Rattle.maxplus.specs.Line.{Line};
+ghost use Rattle.text.specs.Texts.{plan-text, kept-text, refusal-text, full-text};
+ghost use Rattle.text.specs.Writing.{Writes, Stands};
+use crate::line::put_lines;
+use crate::line::put_panels;
+use crate::put::natural_field;
+use crate::put::number_field;
+
+// The text of a plan whose lines stand in `words`. The four fields take at most 117 bytes, a line 78.
+pub fn plan_text(
+    out: &mut [u8],
+    deviation: i64,
+    steps: u64,
+    selections: u64,
+    n: usize,
+    words: &[i32],
+    count: usize,
+) -> usize
+    requires { ⌜ (100 * count + 200 ≤ length (now out)) × (n ≤ 6) × (7 * count ≤ length (now words)) ⌝ }
+    ensures within { λ r. ⌜ r ≤ length (now (out .exit)) ⌝ }
+    ensures text { λ r. ⌜ ((L : List (Line n)) → Stands n count (now (words .entry)) L → take r (now (out .exit)) ≡ plan-text n deviation steps selections L) ⌝ }
+{
+    let mut end = number_field(out, 0, b"deviation=", deviation);
+    end = natural_field(out, end, b"steps=", steps);
+    end = natural_field(out, end, b"selections=", selections);
+    end = natural_field(out, end, b"count=", count as u64);
+    put_lines(out, end, words, n, count)
+}
+
+// The text of a kept table. The three fields take at most 90 bytes, a panel's line 13.
+pub fn kept_text(
+    out: &mut [u8],
+    deviation: i64,
+    panels: usize,
+    kept: [u8; 6],
+    counts: [u8; 6],
+    steps: u64,
+    selections: u64,
+) -> usize
+    requires { ⌜ (200 ≤ length (now out)) × (panels ≤ 6) ⌝ }
+    ensures { λ r. ⌜ Writes (now (out .exit)) r (kept-text deviation (each panels (λ i. (getD kept i 0, getD counts i 0) ∷ [])) steps selections) ⌝ }
+{
+    let mut end = number_field(out, 0, b"deviation=", deviation);
+    end = put_panels(out, end, panels, kept, counts);
+    end = natural_field(out, end, b"steps=", steps);
+    natural_field(out, end, b"selections=", selections)
+}
+
+// The text of a refusal: one field, 8 bytes of key and at most 21 behind it.
+pub fn refusal_text(out: &mut [u8], refusal: u8) -> usize
+    requires { ⌜ 40 ≤ length (now out) ⌝ }
+    ensures { λ r. ⌜ Writes (now (out .exit)) r (refusal-text refusal) ⌝ }
+{
+    natural_field(out, 0, b"refused=", refusal as u64)
+}
+
+// The text of refusal 9 with the count of lines that would be needed: two such fields.
+pub fn full_text(out: &mut [u8], count: u64) -> usize
+    requires { ⌜ 80 ≤ length (now out) ⌝ }
+    ensures { λ r. ⌜ Writes (now (out .exit)) r (full-text count) ⌝ }
+{
+    let end = natural_field(out, 0, b"refused=", 9);
+    natural_field(out, end, b"count=", count)
+}

@@ -1,0 +1,354 @@
+//! One sheet, the reference's answers and those of the implementation tried.
+
+use crate::reference::{self, Line, NoPlan, Plan, Refusal, Survey};
+use crate::search::{self, Found};
+use crate::sheets::{self, Draft, Random};
+use crate::under_test::{KeptAnswer, NO, Operations, PlanAnswer, UNTOUCHED, YES};
+
+/// The literal list takes time with the square of the candidates. On a sheet with more selections
+/// than this only Δ, the kept table, steps and selections are compared, and tested timings; so a
+/// sheet takes some milliseconds at most.
+const LISTED_SELECTIONS: u64 = 200;
+
+/// Space that is enough for any list of a small sheet.
+const SEARCH_SPACE: usize = 64 * reference::LINE_WORDS;
+
+/// What was seen on one sheet, for the counts at the end.
+#[derive(Default)]
+pub struct Seen {
+    /// 0 for a good sheet, or the refusal 1 to 8.
+    pub code: u32,
+    /// Panels and triggers of a good sheet.
+    pub size: Option<(usize, usize)>,
+    /// Whether the list itself was compared.
+    pub listed: bool,
+    /// Plannings refused with 9.
+    pub too_small: u64,
+    /// Answers of the test operation: yes, no, 10, 11.
+    pub tests: [u64; 4],
+}
+
+// ------------------------------------------- The reference's answers as words
+
+/// What the answer must hold: a refusal changes no word, but for 9 the count.
+pub fn plan_answer(answer: &Result<Plan, NoPlan>) -> PlanAnswer {
+    let mut words = [UNTOUCHED; 6];
+    let code = match answer {
+        Ok(plan) => {
+            words[0] = plan.deviation;
+            words[1] = plan.steps as i64;
+            words[2] = plan.selections as i64;
+            words[3] = plan.count as i64;
+            0
+        }
+        Err(NoPlan::Refused(number)) => *number,
+        Err(NoPlan::SpaceTooSmall(count)) => {
+            words[3] = *count as i64;
+            9
+        }
+    };
+    PlanAnswer { code, words }
+}
+
+pub fn kept_answer(answer: &Result<Survey, Refusal>) -> KeptAnswer {
+    let mut words = [UNTOUCHED; 18];
+    let survey = match answer {
+        Ok(survey) => survey,
+        Err(code) => return KeptAnswer { code: *code, words },
+    };
+    let panels = survey.panels();
+    words[..16].fill(0);
+    words[0] = survey.deviation();
+    words[1] = survey.walk.steps as i64;
+    words[2] = survey.selections() as i64;
+    words[3] = panels.len() as i64;
+    for (i, (byte, count)) in panels.iter().enumerate() {
+        words[4 + 2 * i] = i64::from(*byte);
+        words[5 + 2 * i] = i64::from(*count);
+    }
+    KeptAnswer { code: 0, words }
+}
+
+pub fn test_answer(answer: Result<bool, Refusal>) -> u32 {
+    match answer {
+        Ok(true) => YES,
+        Ok(false) => NO,
+        Err(number) => number,
+    }
+}
+
+// ---------------------------------------------------------------- One sheet
+
+/// Compares everything on one sheet; the error tells the first difference.
+pub fn compare_sheet(
+    tried: &Operations,
+    sheet: &[u8],
+    random: &mut Random,
+) -> Result<Seen, String> {
+    let survey = reference::survey(sheet);
+    let mut seen = Seen {
+        code: survey.as_ref().err().copied().unwrap_or(0),
+        ..Seen::default()
+    };
+    same("kept", &kept_answer(&survey), &(tried.kept)(sheet))?;
+    let mut lines = Vec::new();
+    match &survey {
+        Err(number) => compare_refused_plan(tried, sheet, *number, random)?,
+        Ok(survey) => {
+            let read = &survey.tables.sheet;
+            seen.size = Some((read.panels, read.triggers));
+            if survey.selections() <= LISTED_SELECTIONS {
+                lines = survey.lines();
+                compare_plans(tried, sheet, survey, &lines, random, &mut seen)?;
+                seen.listed = true;
+            }
+        }
+    }
+    for _ in 0..3 {
+        compare_test(tried, sheet, &lines, random, &mut seen)?;
+    }
+    Ok(seen)
+}
+
+fn same<T: PartialEq + std::fmt::Debug>(what: &str, wanted: &T, got: &T) -> Result<(), String> {
+    if wanted == got {
+        return Ok(());
+    }
+    Err(format!(
+        "{what}\n  reference  {wanted:?}\n  tried      {got:?}"
+    ))
+}
+
+/// Words to lend, filled so that every change is seen.
+fn lent_space(random: &mut Random, words: usize) -> Vec<i32> {
+    (0..words).map(|_| random.next() as i32).collect()
+}
+
+fn compare_refused_plan(
+    tried: &Operations,
+    sheet: &[u8],
+    number: Refusal,
+    random: &mut Random,
+) -> Result<(), String> {
+    let words = *random.pick(&[0, 1, 7, 20, 70]);
+    let before = lent_space(random, words);
+    let mut space = before.clone();
+    let got = (tried.plan)(sheet, &mut space);
+    same("plan", &plan_answer(&Err(NoPlan::Refused(number))), &got)?;
+    same("space after a refused plan", &before, &space)
+}
+
+/// Plans once with a space that holds the list and once with any space.
+fn compare_plans(
+    tried: &Operations,
+    sheet: &[u8],
+    survey: &Survey,
+    lines: &[Line],
+    random: &mut Random,
+    seen: &mut Seen,
+) -> Result<(), String> {
+    let needed = lines.len() * reference::LINE_WORDS;
+    let enough = needed + *random.pick(&[0, 0, 1, 6, 7, 30]);
+    let any = match random.below(5) {
+        0 => 0,
+        1 => needed - 1,
+        2 => needed - reference::LINE_WORDS,
+        3 => random.below(needed),
+        _ => needed + random.below(100),
+    };
+    for words in [enough, any] {
+        let mut wanted_space = lent_space(random, words);
+        let mut space = wanted_space.clone();
+        let wanted = plan_answer(&reference::finish_plan(survey, lines, &mut wanted_space));
+        let got = (tried.plan)(sheet, &mut space);
+        same(&format!("plan, {words} words lent"), &wanted, &got)?;
+        same(&format!("space of {words} words"), &wanted_space, &space)?;
+        seen.too_small += u64::from(wanted.code == 9);
+    }
+    Ok(())
+}
+
+// ---------------------------------------------------------------- Tested timings
+
+fn compare_test(
+    tried: &Operations,
+    sheet: &[u8],
+    lines: &[Line],
+    random: &mut Random,
+    seen: &mut Seen,
+) -> Result<(), String> {
+    let triggers = reference::read(sheet).map(|sheet| sheet.triggers);
+    let (count, times) = timing_to_test(triggers.unwrap_or(2), lines, random);
+    let wanted = test_answer(reference::test(sheet, count, &times));
+    let got = (tried.test)(sheet, count, times);
+    same(&format!("test of {count} times {times:?}"), &wanted, &got)?;
+    match wanted {
+        YES => seen.tests[0] += 1,
+        NO => seen.tests[1] += 1,
+        10 => seen.tests[2] += 1,
+        11 => seen.tests[3] += 1,
+        _ => {}
+    }
+    Ok(())
+}
+
+/// A timing near the tightest ones, sometimes moved to the limits, with a wrong count or a word
+/// beyond the limit. The times behind the count may hold anything.
+fn timing_to_test(n: usize, lines: &[Line], random: &mut Random) -> (usize, [i64; 6]) {
+    let strange = [
+        i64::MIN,
+        i64::MAX,
+        i64::from(i32::MIN),
+        1_000_000_001,
+        1 << 32,
+    ];
+    let mut times = [0; 6].map(|_| *random.pick(&strange));
+    times[..n].copy_from_slice(&near_tightest(n, lines, random));
+    if random.chance(40) {
+        times[random.below(n)] += random.between(-2, 2);
+    }
+    if random.chance(20) {
+        move_to_limit(&mut times[..n], random);
+    }
+    if random.chance(5) {
+        times[random.below(n)] = *random.pick(&strange);
+    }
+    let count = if random.chance(5) {
+        *random.pick(&[0, 1, 2, 5, 6, 7, 8, usize::MAX])
+    } else {
+        n
+    };
+    (count, times)
+}
+
+/// A combination of the lines with random weights; random times where no line has a component.
+fn near_tightest(n: usize, lines: &[Line], random: &mut Random) -> Vec<i64> {
+    let spread = *random.pick(&[1, 3, 10, 100, 100_000, 1_000_000]);
+    let weights: Vec<i64> = lines
+        .iter()
+        .map(|_| random.between(-spread, spread))
+        .collect();
+    let component = |at: usize| {
+        let weighted = lines.iter().zip(&weights);
+        weighted
+            .filter_map(|(line, weight)| line[at].map(|c| c + weight))
+            .max()
+    };
+    (0..n)
+        .map(|at| component(at).unwrap_or_else(|| random.between(-spread, spread)))
+        .collect()
+}
+
+/// Moves all times together, so that the greatest or the least is at, beside or beyond the limit.
+fn move_to_limit(times: &mut [i64], random: &mut Random) {
+    let limit = reference::LONGEST_TIME + random.between(-1, 1);
+    let greatest = times.iter().max().copied().unwrap_or(0);
+    let least = times.iter().min().copied().unwrap_or(0);
+    let by = if random.chance(50) {
+        limit - greatest
+    } else {
+        -limit - least
+    };
+    times.iter_mut().for_each(|time| *time += by);
+}
+
+// ---------------------------------------------------------------- The search
+
+/// What the search saw.
+#[derive(Default)]
+pub struct Searched {
+    pub sheets: u64,
+    pub timings: u64,
+    pub pairs: u64,
+    pub equal_pairs: u64,
+}
+
+/// A small sheet and a related one, planned by the implementation tried and checked by search.
+pub fn compare_pair(
+    tried: &Operations,
+    one: &Draft,
+    other: &Draft,
+    random: &mut Random,
+) -> Result<Searched, String> {
+    let mut searched = Searched {
+        sheets: 2,
+        ..Searched::default()
+    };
+    let mut plans = Vec::new();
+    for draft in [one, other] {
+        let plan = planned(tried, draft)?;
+        let sheet = draft.write();
+        let tested = |x: &[i64]| tested_tightest(tried, &sheet, x);
+        searched.timings += search::check(draft, &plan, random, tested)?;
+        plans.push(plan);
+    }
+    if let [Ok(first), Ok(second)] = &plans[..] {
+        searched.pairs = 1;
+        searched.equal_pairs = u64::from(search::check_pair((one, first), (other, second))?);
+    }
+    Ok(searched)
+}
+
+/// The plan of the implementation tried, as the search sees it.
+fn planned(tried: &Operations, draft: &Draft) -> Result<Result<Found, u32>, String> {
+    let mut space = [0; SEARCH_SPACE];
+    let answer = (tried.plan)(&draft.write(), &mut space);
+    if answer.code != 0 {
+        return Ok(Err(answer.code));
+    }
+    let count = usize::try_from(answer.words[3]).unwrap_or(usize::MAX);
+    if count > SEARCH_SPACE / reference::LINE_WORDS {
+        return Err(format!("count {count} is more than the space holds"));
+    }
+    let lines = space.chunks_exact(reference::LINE_WORDS).take(count);
+    Ok(Ok(Found {
+        deviation: answer.words[0],
+        lines: lines
+            .map(|words| components(draft, words))
+            .collect::<Result<_, _>>()?,
+    }))
+}
+
+/// The components of a line in the space; it must carry the sheet's count of triggers, and absent
+/// behind them.
+fn components(draft: &Draft, words: &[i32]) -> Result<Vec<Option<i64>>, String> {
+    let n = draft.triggers();
+    if words[0] != n as i32 || words[1 + n..].iter().any(|word| *word != i32::MIN) {
+        return Err(format!("a line holds the words {words:?}"));
+    }
+    let component = |word: &i32| (*word != i32::MIN).then_some(i64::from(*word));
+    Ok(words[1..=n].iter().map(component).collect())
+}
+
+fn tested_tightest(tried: &Operations, sheet: &[u8], x: &[i64]) -> bool {
+    let mut times = [0; 6];
+    times[..x.len()].copy_from_slice(x);
+    (tried.test)(sheet, x.len(), times) == YES
+}
+
+// ---------------------------------------------------------------- Which sheets
+
+/// What a run compares next: a sheet, or two related small ones for the search.
+pub enum Trial {
+    Sheet(Vec<u8>),
+    Pair(Draft, Draft),
+}
+
+/// Trial `number` of a run. The search takes the longest, so it gets every twelfth.
+pub fn trial(number: u64, random: &mut Random) -> Trial {
+    if number % 12 == 0 {
+        let draft = sheets::tiny(random);
+        let other = sheets::related(random, &draft);
+        return Trial::Pair(draft, other);
+    }
+    Trial::Sheet(match random.below(20) {
+        0..=6 => sheets::any_size(random).write(),
+        7..=9 => sheets::nearly_tied(random).write(),
+        10 | 11 => sheets::at_limits(random).write(),
+        12..=18 => {
+            let draft = sheets::any_size(random);
+            sheets::damaged(random, &draft)
+        }
+        _ => sheets::raw(random),
+    })
+}

@@ -1,0 +1,65 @@
+//! The functions under test, from the static library `libplanner_c.a`.
+
+use crate::under_test::{KeptAnswer, PlanAnswer, UNTOUCHED};
+
+unsafe extern "C" {
+    fn tuzhelar_plan(
+        sheet: *const u8,
+        sheet_len: usize,
+        space: *mut i32,
+        space_len: usize,
+        answer: *mut i64,
+        answer_len: usize,
+    ) -> u32;
+    fn tuzhelar_kept(
+        sheet: *const u8,
+        sheet_len: usize,
+        answer: *mut i64,
+        answer_len: usize,
+    ) -> u32;
+    fn tuzhelar_test(
+        sheet: *const u8,
+        sheet_len: usize,
+        count: usize,
+        times: *const i64,
+        times_len: usize,
+    ) -> u32;
+}
+
+pub fn plan(sheet: &[u8], space: &mut [i32]) -> PlanAnswer {
+    let mut words = [UNTOUCHED; 6];
+    // SAFETY: each pointer goes with the length of the slice it comes from, and no slice overlaps
+    // another.
+    let code = unsafe {
+        tuzhelar_plan(
+            sheet.as_ptr(),
+            sheet.len(),
+            space.as_mut_ptr(),
+            space.len(),
+            words.as_mut_ptr(),
+            words.len(),
+        )
+    };
+    PlanAnswer { code, words }
+}
+
+pub fn kept(sheet: &[u8]) -> KeptAnswer {
+    let mut words = [UNTOUCHED; 18];
+    // SAFETY: as in `plan`.
+    let code =
+        unsafe { tuzhelar_kept(sheet.as_ptr(), sheet.len(), words.as_mut_ptr(), words.len()) };
+    KeptAnswer { code, words }
+}
+
+pub fn test(sheet: &[u8], count: usize, times: [i64; 6]) -> u32 {
+    // SAFETY: as in `plan`.
+    unsafe {
+        tuzhelar_test(
+            sheet.as_ptr(),
+            sheet.len(),
+            count,
+            times.as_ptr(),
+            times.len(),
+        )
+    }
+}

@@ -1,0 +1,19 @@
+//! The reference in the place of an implementation under test, to try the comparison itself.
+
+use crate::compare::{kept_answer, plan_answer, test_answer};
+use crate::reference;
+use crate::under_test::{KeptAnswer, Operations, PlanAnswer};
+
+pub const REFERENCE: Operations = Operations { plan, kept, test };
+
+pub fn plan(sheet: &[u8], space: &mut [i32]) -> PlanAnswer {
+    plan_answer(&reference::plan(sheet, space))
+}
+
+pub fn kept(sheet: &[u8]) -> KeptAnswer {
+    kept_answer(&reference::survey(sheet))
+}
+
+pub fn test(sheet: &[u8], count: usize, times: [i64; 6]) -> u32 {
+    test_answer(reference::test(sheet, count, &times))
+}

@@ -1,0 +1,257 @@
+//! Compares an implementation of document 01 with a plain one, on sheets made for it.
+//!
+//! - `compare [SECONDS] [SEED]` compares for about SECONDS seconds (4)
+//! - `compare --self` checks the reference and the search by themselves
+//! - `compare --plan`, `compare --kept` write the reference's text for the sheet on standard input
+
+mod cases;
+mod compare;
+#[cfg(linked)]
+mod ffi;
+mod itself;
+mod reference;
+mod search;
+mod sheets;
+mod under_test;
+
+use cases::Checks;
+use compare::{Searched, Seen, Trial};
+use itself::REFERENCE;
+use sheets::Random;
+use std::io::Read;
+use std::process::ExitCode;
+use std::time::{Duration, Instant};
+use under_test::UNDER_TEST;
+
+const USAGE: &str = "usage: compare [SECONDS] [SEED] | --self | --plan | --kept";
+const SECONDS: f64 = 4.0;
+const SEED: u64 = 1;
+/// Differences that are printed in full.
+const SHOWN: u64 = 3;
+/// Pairs of small sheets that `--self` searches.
+const SELF_PAIRS: u64 = 150;
+/// Sheets among which `--self` wants every refusal of reading, 8 and every size.
+const SELF_SHEETS: u64 = 4_000;
+/// Sheets that `--self` compares with the reference itself.
+const SELF_COMPARED: u64 = 400;
+
+fn main() -> ExitCode {
+    let arguments: Vec<String> = std::env::args().skip(1).collect();
+    let arguments: Vec<&str> = arguments.iter().map(String::as_str).collect();
+    match arguments[..] {
+        ["--self"] => run_self(),
+        ["--plan"] => write_text(reference::plan_text),
+        ["--kept"] => write_text(reference::kept_text),
+        [] => run(SECONDS, SEED),
+        [seconds] => seconds
+            .parse()
+            .map_or_else(|_| usage(), |seconds| run(seconds, SEED)),
+        [seconds, seed] => match (seconds.parse(), seed.parse()) {
+            (Ok(seconds), Ok(seed)) => run(seconds, seed),
+            _ => usage(),
+        },
+        _ => usage(),
+    }
+}
+
+fn usage() -> ExitCode {
+    eprintln!("{USAGE}");
+    ExitCode::from(2)
+}
+
+/// Reads at most one byte more than a sheet may have: an endless input ends too.
+fn write_text(text: fn(&[u8]) -> String) -> ExitCode {
+    let mut sheet = Vec::new();
+    let mut input = std::io::stdin().take(reference::LONGEST_SHEET as u64 + 1);
+    if let Err(error) = input.read_to_end(&mut sheet) {
+        eprintln!("compare: {error}");
+        return ExitCode::FAILURE;
+    }
+    print!("{}", text(&sheet));
+    ExitCode::SUCCESS
+}
+
+/// The last line of every run.
+fn verdict(passed: u64, failed: u64) -> ExitCode {
+    println!("{passed} passed, {failed} failed");
+    ExitCode::from(u8::from(failed > 0))
+}
+
+// ---------------------------------------------------------------- compare --self
+
+fn run_self() -> ExitCode {
+    let mut checks = Checks::default();
+    cases::run(&mut checks);
+    check_search(&mut checks);
+    check_sheets(&mut checks);
+    verdict(checks.passed, checks.failed)
+}
+
+/// The search against the reference, on a few small sheets.
+fn check_search(checks: &mut Checks) {
+    let mut searched = Searched::default();
+    for number in 0..SELF_PAIRS {
+        let mut random = Random::new(SEED, number);
+        let draft = sheets::tiny(&mut random);
+        let other = sheets::related(&mut random, &draft);
+        let result = compare::compare_pair(&REFERENCE, &draft, &other, &mut random);
+        let name = format!("search of pair {number}: {:?}", result.as_ref().err());
+        checks.check(&name, result.is_ok());
+        searched += result.unwrap_or_default();
+    }
+    checks.check(
+        "equal pairs are met",
+        searched.equal_pairs > SELF_PAIRS / 10,
+    );
+    let unequal = searched.pairs - searched.equal_pairs;
+    checks.check("unequal pairs are met", unequal > SELF_PAIRS / 10);
+}
+
+/// The sheets reach every refusal of reading, 8, and every size; the comparison finds the reference
+/// equal to itself.
+fn check_sheets(checks: &mut Checks) {
+    let mut codes = [0; 9];
+    let mut sizes = [[0; 6]; 6];
+    for number in 0..SELF_SHEETS {
+        if let Trial::Sheet(sheet) = compare::trial(number, &mut Random::new(SEED, number)) {
+            if number < SELF_COMPARED {
+                let mut random = Random::new(SEED, number);
+                let same = compare::compare_sheet(&REFERENCE, &sheet, &mut random);
+                checks.check(&format!("sheet {number} with itself"), same.is_ok());
+            }
+            let tables = reference::read(&sheet).and_then(reference::tables);
+            codes[tables.as_ref().err().copied().unwrap_or(0) as usize] += 1;
+            if let Ok(tables) = tables {
+                sizes[tables.sheet.panels - 1][tables.sheet.triggers - 1] += 1;
+            }
+        }
+    }
+    for (code, count) in codes.iter().enumerate() {
+        checks.check(&format!("sheets with code {code} are met"), *count > 0);
+    }
+    let all_sizes = sizes.iter().flatten().all(|count| *count > 0);
+    checks.check("good sheets of every size are met", all_sizes);
+}
+
+// ---------------------------------------------------------------- compare
+
+/// What a run has seen so far.
+#[derive(Default)]
+struct Tally {
+    passed: u64,
+    failed: u64,
+    codes: [u64; 9],
+    sizes: [[u64; 6]; 6],
+    listed: u64,
+    too_small: u64,
+    tests: [u64; 4],
+    searched: Searched,
+}
+
+fn run(seconds: f64, seed: u64) -> ExitCode {
+    let end = Instant::now() + Duration::from_secs_f64(seconds.clamp(0.0, 1e6));
+    let mut tally = Tally::default();
+    for (number, sheet) in cases::sheets().iter().enumerate() {
+        tally.sheet(sheet, &mut Random::new(seed, number as u64));
+    }
+    let mut number = 0;
+    while Instant::now() < end {
+        let mut random = Random::new(seed, number);
+        match compare::trial(number, &mut random) {
+            Trial::Sheet(sheet) => tally.sheet(&sheet, &mut random),
+            Trial::Pair(one, other) => {
+                tally.sheet(&one.write(), &mut random);
+                tally.sheet(&other.write(), &mut random);
+                tally.pair(&one, &other, &mut random);
+            }
+        }
+        number += 1;
+    }
+    tally.print(seed);
+    verdict(tally.passed, tally.failed)
+}
+
+impl Tally {
+    fn sheet(&mut self, sheet: &[u8], random: &mut Random) {
+        match compare::compare_sheet(&UNDER_TEST, sheet, random) {
+            Ok(seen) => {
+                self.passed += 1;
+                self.add(&seen);
+            }
+            Err(difference) => self.fail(&[sheet], &difference),
+        }
+    }
+
+    /// The two sheets were counted when they were compared; a search that fails counts as well.
+    fn pair(&mut self, one: &sheets::Draft, other: &sheets::Draft, random: &mut Random) {
+        match compare::compare_pair(&UNDER_TEST, one, other, random) {
+            Ok(searched) => self.searched += searched,
+            Err(difference) => self.fail(&[&one.write(), &other.write()], &difference),
+        }
+    }
+
+    fn add(&mut self, seen: &Seen) {
+        self.codes[seen.code as usize] += 1;
+        if let Some((panels, triggers)) = seen.size {
+            self.sizes[panels - 1][triggers - 1] += 1;
+        }
+        self.listed += u64::from(seen.listed);
+        self.too_small += seen.too_small;
+        for (sum, count) in self.tests.iter_mut().zip(seen.tests) {
+            *sum += count;
+        }
+    }
+
+    fn fail(&mut self, sheets: &[&[u8]], difference: &str) {
+        self.failed += 1;
+        if self.failed > SHOWN {
+            return;
+        }
+        println!("---- difference {}: {difference}", self.failed);
+        for sheet in sheets {
+            println!("---- sheet of {} bytes\n{}", sheet.len(), shown(sheet));
+        }
+        println!("----");
+    }
+
+    fn print(&self, seed: u64) {
+        println!("under test {}, seed {seed}", under_test::NAME);
+        println!(
+            "good {}, of these with the list compared {}",
+            self.codes[0], self.listed
+        );
+        let refused: Vec<String> = (1..9)
+            .map(|code| format!("{code}: {}", self.codes[code]))
+            .collect();
+        println!("refused {}", refused.join(", "));
+        println!("plannings refused with 9: {}", self.too_small);
+        let [yes, no, ten, eleven] = self.tests;
+        println!("tested timings yes {yes}, no {no}, 10: {ten}, 11: {eleven}");
+        let searched = &self.searched;
+        println!(
+            "searched {} sheets, {} timings; {} pairs, {} with equal lists",
+            searched.sheets, searched.timings, searched.pairs, searched.equal_pairs
+        );
+        println!("good sheets by size, panels down, triggers across");
+        for row in &self.sizes {
+            println!("{}", row.map(|count| format!("{count:6}")).concat());
+        }
+    }
+}
+
+impl std::ops::AddAssign for Searched {
+    fn add_assign(&mut self, more: Self) {
+        self.sheets += more.sheets;
+        self.timings += more.timings;
+        self.pairs += more.pairs;
+        self.equal_pairs += more.equal_pairs;
+    }
+}
+
+/// A sheet's bytes as text; what is no plain text is escaped.
+fn shown(sheet: &[u8]) -> String {
+    let lines = sheet.split_inclusive(|&b| b == b'\n');
+    lines
+        .map(|line| line.escape_ascii().to_string().replace("\\n", "\n"))
+        .collect()
+}

@@ -1,0 +1,601 @@
+//! Document 01, word for word, in plain Rust: from a sheet's bytes to the answers.
+//! Clarity before speed; it shares no code with the planner it is compared with.
+
+use std::collections::BTreeSet;
+
+/// "Tables fit a square table of six by six."
+pub const SIZE: usize = 6;
+/// "decimal whole numbers from −100,000 to 100,000"
+pub const LIMIT: i64 = 100_000;
+/// "1: over 2,048 bytes"
+pub const LONGEST_SHEET: usize = 2_048;
+/// "11: one beyond ±1,000,000,000"
+pub const LONGEST_TIME: i64 = 1_000_000_000;
+/// "The program lends space for 2,000 lines."
+pub const PROGRAM_LINES: usize = 2_000;
+/// "In the lent space these are seven signed 32-bit words"
+pub const LINE_WORDS: usize = 7;
+
+/// A number or absent. `None` is absent: `Option`'s own order puts it below every number.
+pub type Entry = Option<i64>;
+pub type Table = Vec<Vec<Entry>>;
+/// A line's six components, "the unused ones absent".
+pub type Line = [Entry; SIZE];
+/// The kept table; what a sheet does not use is not kept.
+pub type Kept = [[bool; SIZE]; SIZE];
+/// The number of a refusal.
+pub type Refusal = u32;
+
+// ---------------------------------------------------------------- The sheet
+
+/// What a good sheet says.
+pub struct Sheet {
+    pub panels: usize,
+    pub triggers: usize,
+    pub lag: Table,
+    pub floor: Vec<Entry>,
+    pub due: Vec<Entry>,
+    pub after: Table,
+}
+
+/// "Reading": refusals 1 to 7.
+pub fn read(bytes: &[u8]) -> Result<Sheet, Refusal> {
+    if bytes.len() > LONGEST_SHEET {
+        return Err(1);
+    }
+    // "Lines in order: panels, triggers, m lines lag, floor, due, n lines after."
+    let mut rest = bytes;
+    let panels = read_size(&mut rest, b"panels=")?;
+    let triggers = read_size(&mut rest, b"triggers=")?;
+    let lag = read_rows(&mut rest, b"lag=", panels, triggers)?;
+    let floor = read_entries(&mut rest, b"floor=", panels)?;
+    let due = read_due(&mut rest, triggers)?;
+    let after = read_rows(&mut rest, b"after=", triggers, triggers)?;
+    // "After the lines: bytes left over are 2; then 6: a panel with no lag; then 7: no floor at all."
+    if !rest.is_empty() {
+        return Err(2);
+    }
+    if lag.iter().any(|row| all_absent(row)) {
+        return Err(6);
+    }
+    if all_absent(&floor) {
+        return Err(7);
+    }
+    Ok(Sheet {
+        panels,
+        triggers,
+        lag,
+        floor,
+        due,
+        after,
+    })
+}
+
+fn all_absent(entries: &[Entry]) -> bool {
+    entries.iter().all(Option::is_none)
+}
+
+/// A size line: "an absent size" is 2, "3: a size not 1 to 6".
+fn read_size(rest: &mut &[u8], key: &[u8]) -> Result<usize, Refusal> {
+    let size = read_line(rest, key, 1)?[0].ok_or(2u32)?;
+    if !(1..=SIZE as i64).contains(&size) {
+        return Err(3);
+    }
+    Ok(size as usize)
+}
+
+/// "the i-th lag or after line is row i"
+fn read_rows(rest: &mut &[u8], key: &[u8], rows: usize, items: usize) -> Result<Table, Refusal> {
+    (0..rows).map(|_| read_entries(rest, key, items)).collect()
+}
+
+/// "4: an entry out of range", once the whole line is free of 2.
+fn read_entries(rest: &mut &[u8], key: &[u8], items: usize) -> Result<Vec<Entry>, Refusal> {
+    let entries = read_line(rest, key, items)?;
+    if entries.iter().flatten().any(|v| v.abs() > LIMIT) {
+        return Err(4);
+    }
+    Ok(entries)
+}
+
+/// "5: an absent due mark", once the whole line is free of 2 and 4.
+fn read_due(rest: &mut &[u8], items: usize) -> Result<Vec<Entry>, Refusal> {
+    let entries = read_entries(rest, b"due=", items)?;
+    if entries.iter().any(Option::is_none) {
+        return Err(5);
+    }
+    Ok(entries)
+}
+
+/// "2: missing line, wrong key, item count, numeral or line end": takes one line off `rest`.
+fn read_line(rest: &mut &[u8], key: &[u8], items: usize) -> Result<Vec<Entry>, Refusal> {
+    let end = rest.iter().position(|&b| b == b'\n').ok_or(2u32)?;
+    let line = &rest[..end];
+    *rest = &rest[end + 1..];
+    let text = line.strip_prefix(key).ok_or(2u32)?;
+    let entries: Option<Vec<Entry>> = text.split(|&b| b == b',').map(item).collect();
+    match entries {
+        Some(entries) if entries.len() == items => Ok(entries),
+        _ => Err(2),
+    }
+}
+
+/// One item: "Absent is a lone minus", else a number; `None` for a wrong numeral.
+fn item(text: &[u8]) -> Option<Entry> {
+    if text == b"-" {
+        return Some(None);
+    }
+    number(text).map(Some)
+}
+
+/// "A number is 0, or an optional minus, a digit 1 to 9 and any digits."
+fn number(text: &[u8]) -> Option<i64> {
+    if text == b"0" {
+        return Some(0);
+    }
+    let (negative, digits) = match text.strip_prefix(b"-") {
+        Some(digits) => (true, digits),
+        None => (false, text),
+    };
+    let leads = matches!(digits.first(), Some(b'1'..=b'9'));
+    if !leads || !digits.iter().all(u8::is_ascii_digit) {
+        return None;
+    }
+    let size = magnitude(digits);
+    Some(if negative { -size } else { size })
+}
+
+/// The digits' value, held at LIMIT + 1 from there on: "any digits" must not wrap.
+fn magnitude(digits: &[u8]) -> i64 {
+    digits.iter().fold(0, |value, digit| {
+        (value * 10 + i64::from(digit - b'0')).min(LIMIT + 1)
+    })
+}
+
+// ------------------------------------------------- Max-plus tables, steps 1 to 3
+
+/// "absent plus anything is absent"
+fn plus(a: Entry, b: Entry) -> Entry {
+    Some(a? + b?)
+}
+
+/// The largest of some entries; absent if there is none.
+fn largest(entries: impl Iterator<Item = Entry>) -> Entry {
+    entries.max().flatten()
+}
+
+/// "In max-plus, sums are largest values and products are sums."
+fn product(a: &Table, b: &Table) -> Table {
+    let columns = b[0].len();
+    let at = |row: &Vec<Entry>, j: usize| largest((0..b.len()).map(|k| plus(row[k], b[k][j])));
+    a.iter()
+        .map(|row| (0..columns).map(|j| at(row, j)).collect())
+        .collect()
+}
+
+fn sum(a: &Table, b: &Table) -> Table {
+    let add =
+        |(x, y): (&Vec<Entry>, &Vec<Entry>)| x.iter().zip(y).map(|(x, y)| *x.max(y)).collect();
+    a.iter().zip(b).map(add).collect()
+}
+
+/// "power 0 has 0 on the diagonal and absent elsewhere"
+fn power_zero(n: usize) -> Table {
+    let row = |i: usize| (0..n).map(|j| (i == j).then_some(0)).collect();
+    (0..n).map(row).collect()
+}
+
+/// The powers 0 to n of the after table.
+fn powers(after: &Table) -> Vec<Table> {
+    let n = after.len();
+    let mut powers = vec![power_zero(n)];
+    for k in 0..n {
+        powers.push(product(&powers[k], after));
+    }
+    powers
+}
+
+/// "Timings that keep the order exist exactly when no diagonal entry of powers 1 to n is above 0."
+fn order_can_be_kept(powers: &[Table]) -> bool {
+    powers[1..]
+        .iter()
+        .all(|power| (0..power.len()).all(|i| power[i][i] <= Some(0)))
+}
+
+/// "M* is the sum of the powers 0 to n − 1 of the after table."
+fn star(powers: &[Table]) -> Table {
+    let n = powers.len() - 1;
+    powers[1..n]
+        .iter()
+        .fold(powers[0].clone(), |star, power| sum(&star, power))
+}
+
+/// "r(j) is minus the largest of M*(i,j) − q(i)": present, for M*(j,j) and every due are.
+fn new_due(star: &Table, due: &[Entry]) -> Vec<i64> {
+    let n = due.len();
+    let column = |j: usize| largest((0..n).map(|i| Some(star[i][j]? - due[i]?)));
+    (0..n)
+        .map(|j| -column(j).expect("M*(j,j) is present"))
+        .collect()
+}
+
+/// Everything steps 1 to 4 give.
+pub struct Tables {
+    pub sheet: Sheet,
+    pub star: Table,
+    /// "d is a times M*"
+    pub d: Table,
+    pub r: Vec<i64>,
+    pub deviation: i64,
+    pub kept: Kept,
+}
+
+/// Steps 1 to 4; refusal 8: "no timing keeps the order".
+pub fn tables(sheet: Sheet) -> Result<Tables, Refusal> {
+    let powers = powers(&sheet.after);
+    if !order_can_be_kept(&powers) {
+        return Err(8);
+    }
+    let star = star(&powers);
+    let d = product(&sheet.lag, &star);
+    let r = new_due(&star, &sheet.due);
+    let deviation = least_deviation(&sheet.floor, &d, &r);
+    let kept = kept_table(&sheet.floor, &d, &r, deviation);
+    Ok(Tables {
+        sheet,
+        star,
+        d,
+        r,
+        deviation,
+        kept,
+    })
+}
+
+/// Step 3: "the largest, over panels with a floor, of p(i) minus the largest d(i,j) + r(j)".
+fn least_deviation(floor: &[Entry], d: &Table, r: &[i64]) -> i64 {
+    let reach = |i: usize| largest((0..r.len()).map(|j| plus(d[i][j], Some(r[j]))));
+    let panel = |i: usize| Some(floor[i]? - reach(i).expect("a panel has a lag"));
+    largest((0..floor.len()).map(panel)).expect("one floor is present")
+}
+
+/// Step 4: "kept if it is present and at least p(i) − Δ − r(j). Panels without a floor keep none."
+fn kept_table(floor: &[Entry], d: &Table, r: &[i64], deviation: i64) -> Kept {
+    let mut kept = [[false; SIZE]; SIZE];
+    for (i, row) in d.iter().enumerate() {
+        for (j, entry) in row.iter().enumerate() {
+            if let (Some(p), Some(d)) = (floor[i], entry) {
+                kept[i][j] = *d >= p - deviation - r[j];
+            }
+        }
+    }
+    kept
+}
+
+/// "six bits in a byte, bit 0 for trigger 1, and the number of bits set is reported with it"
+pub fn byte_and_count(row: &[bool; SIZE]) -> (u8, u32) {
+    let set = (0..SIZE).filter(|&j| row[j]);
+    let byte = set.clone().map(|j| 1u8 << j).sum();
+    (byte, set.count() as u32)
+}
+
+// ---------------------------------------------------------------- Step 5: the walk
+
+/// One complete selection: each panel with a floor, in sheet order, with its trigger.
+pub type Selection = Vec<(usize, usize)>;
+
+/// A whole walk: its fixings and its selections in order.
+pub struct Walk {
+    pub steps: u64,
+    pub selections: Vec<Selection>,
+}
+
+/// "The walk takes panels with a floor in sheet order, triggers ascending."
+pub fn walk(tables: &Tables) -> Walk {
+    let floors: Vec<usize> = (0..tables.sheet.panels)
+        .filter(|&i| tables.sheet.floor[i].is_some())
+        .collect();
+    let mut walk = Walk {
+        steps: 0,
+        selections: Vec::new(),
+    };
+    descend(tables, &floors, tables.kept, &mut Vec::new(), &mut walk);
+    walk
+}
+
+/// "Fixing an entry goes down to the next panel; when that is used up, the walk returns to the next
+/// trigger of the panel above, with the entries restored": `kept` is this level's own copy.
+fn descend(tables: &Tables, floors: &[usize], kept: Kept, chosen: &mut Selection, walk: &mut Walk) {
+    // "A selection is complete when each panel with a floor has its trigger."
+    let Some((&i, later)) = floors.split_first() else {
+        walk.selections.push(chosen.clone());
+        return;
+    };
+    for j in (0..tables.sheet.triggers).filter(|&j| kept[i][j]) {
+        // "Steps counts each fixing, panels with one trigger left included."
+        walk.steps += 1;
+        chosen.push((i, j));
+        descend(
+            tables,
+            later,
+            fixed(tables, later, kept, i, j),
+            chosen,
+            walk,
+        );
+        chosen.pop();
+    }
+}
+
+/// "Fixing (i,j) leaves only (k,j) in a later such panel k when (k,j) is still kept and
+/// d(k,j) − p(k) ≥ d(i,j) − p(i)."
+fn fixed(tables: &Tables, later: &[usize], mut kept: Kept, i: usize, j: usize) -> Kept {
+    let over = |panel: usize| {
+        tables.d[panel][j]
+            .zip(tables.sheet.floor[panel])
+            .map(|(d, p)| d - p)
+    };
+    for &k in later {
+        if kept[k][j] && over(k) >= over(i) {
+            kept[k] = [false; SIZE];
+            kept[k][j] = true;
+        }
+    }
+    kept
+}
+
+// ---------------------------------------------------------- Steps 6 and 7: the list
+
+/// "w(j): the largest p(i) − Δ − d(i,j) over panels that chose j, absent if none"
+fn w(tables: &Tables, selection: &Selection) -> Line {
+    let mut w = [None; SIZE];
+    for &(i, j) in selection {
+        let p = tables.sheet.floor[i].expect("a selected panel has a floor");
+        let d = tables.d[i][j].expect("a kept entry is present");
+        w[j] = w[j].max(Some(p - tables.deviation - d));
+    }
+    w
+}
+
+/// "take the vector with 0 at t and absent elsewhere, join it by componentwise largest with w minus
+/// r(t), apply M*, and shift so that the greatest component is 0"
+fn candidate(tables: &Tables, w: &Line, t: usize) -> Line {
+    let n = tables.sheet.triggers;
+    let mut vector: Line = w.map(|w| plus(w, Some(-tables.r[t])));
+    vector[t] = vector[t].max(Some(0));
+    let mut image = [None; SIZE];
+    for i in 0..n {
+        image[i] = largest((0..n).map(|j| plus(tables.star[i][j], vector[j])));
+    }
+    let greatest = largest(image.into_iter()).expect("component t is present");
+    image.map(|component| plus(component, Some(-greatest)))
+}
+
+/// The distinct candidates of all selections, sorted: a set's order of lines is component 1, then 2
+/// and so on, absent lowest.
+pub fn candidates(tables: &Tables, walk: &Walk) -> Vec<Line> {
+    let mut distinct = BTreeSet::new();
+    for selection in &walk.selections {
+        let w = w(tables, selection);
+        for t in 0..tables.sheet.triggers {
+            distinct.insert(candidate(tables, &w, t));
+        }
+    }
+    distinct.into_iter().collect()
+}
+
+/// The largest weight with which `line` stays at or below `target` in every component, possibly
+/// absent. `line` has a present component.
+fn largest_weight(target: &Line, line: &Line) -> Entry {
+    let room = |k: usize| line[k].map(|c| target[k].map(|t| t - c));
+    (0..SIZE).filter_map(room).min().flatten()
+}
+
+/// "A max-plus combination of lines adds a weight to each line and takes the largest, component by
+/// component", weights possibly absent. If any weights give `target`, the largest ones that fit do:
+/// they give at least as much and never too much.
+fn is_combination<'a>(target: &Line, lines: impl Iterator<Item = &'a Line>) -> bool {
+    let mut combined = [None; SIZE];
+    for line in lines {
+        let weight = largest_weight(target, line);
+        for k in 0..SIZE {
+            combined[k] = combined[k].max(plus(weight, line[k]));
+        }
+    }
+    combined == *target
+}
+
+/// "The list holds each distinct candidate that is no combination of the other distinct
+/// candidates."
+pub fn list(candidates: &[Line]) -> Vec<Line> {
+    let stays = |at: &usize| {
+        let others = candidates
+            .iter()
+            .enumerate()
+            .filter(|(other, _)| other != at);
+        !is_combination(&candidates[*at], others.map(|(_, line)| line))
+    };
+    (0..candidates.len())
+        .filter(stays)
+        .map(|at| candidates[at])
+        .collect()
+}
+
+// ---------------------------------------------------------------- The operations
+
+/// "Kept table and walk": what it gives, and what planning goes on from.
+pub struct Survey {
+    pub tables: Tables,
+    pub walk: Walk,
+}
+
+/// "Reading's refusals, then 8."
+pub fn survey(sheet: &[u8]) -> Result<Survey, Refusal> {
+    let tables = tables(read(sheet)?)?;
+    let walk = walk(&tables);
+    Ok(Survey { tables, walk })
+}
+
+impl Survey {
+    pub fn deviation(&self) -> i64 {
+        self.tables.deviation
+    }
+
+    pub fn selections(&self) -> u64 {
+        self.walk.selections.len() as u64
+    }
+
+    /// "each panel's byte and bit count (0 and 0 without a floor)"
+    pub fn panels(&self) -> Vec<(u8, u32)> {
+        let rows = &self.tables.kept[..self.tables.sheet.panels];
+        rows.iter().map(byte_and_count).collect()
+    }
+
+    /// Steps 6 and 7. This is the slow part: it grows with the square of the distinct candidates.
+    pub fn lines(&self) -> Vec<Line> {
+        list(&candidates(&self.tables, &self.walk))
+    }
+}
+
+/// "A success returns Δ, steps, selections and count."
+#[derive(Clone, Copy, Debug, PartialEq, Eq)]
+pub struct Plan {
+    pub deviation: i64,
+    pub steps: u64,
+    pub selections: u64,
+    pub count: usize,
+}
+
+/// "A refusal returns its number and no other result but 9's count."
+#[derive(Clone, Copy, Debug, PartialEq, Eq)]
+pub enum NoPlan {
+    Refused(Refusal),
+    /// 9, with "the count needed".
+    SpaceTooSmall(usize),
+}
+
+/// "Planning".
+pub fn plan(sheet: &[u8], space: &mut [i32]) -> Result<Plan, NoPlan> {
+    let survey = survey(sheet).map_err(NoPlan::Refused)?;
+    finish_plan(&survey, &survey.lines(), space)
+}
+
+/// The end of planning, once the list is known: "writes exactly the list at the front of the space
+/// and leaves the rest"; 9 changes no lent word; "words too few for a line hold none".
+pub fn finish_plan(survey: &Survey, lines: &[Line], space: &mut [i32]) -> Result<Plan, NoPlan> {
+    if lines.len() > space.len() / LINE_WORDS {
+        return Err(NoPlan::SpaceTooSmall(lines.len()));
+    }
+    for (line, words) in lines.iter().zip(space.chunks_exact_mut(LINE_WORDS)) {
+        words.copy_from_slice(&line_words(survey.tables.sheet.triggers, line));
+    }
+    Ok(Plan {
+        deviation: survey.deviation(),
+        steps: survey.walk.steps,
+        selections: survey.selections(),
+        count: lines.len(),
+    })
+}
+
+/// "a line carries its count of triggers and its six components", "absent being the least such
+/// number"
+fn line_words(triggers: usize, line: &Line) -> [i32; LINE_WORDS] {
+    let word = |entry: Entry| match entry {
+        Some(v) => i32::try_from(v).expect("all finite results fit signed 32 bits"),
+        None => i32::MIN,
+    };
+    let mut words = [triggers as i32; LINE_WORDS];
+    for (at, entry) in line.iter().enumerate() {
+        words[at + 1] = word(*entry);
+    }
+    words
+}
+
+/// "Testing a timing": "Reading's, then 10: not n components; 11: one beyond ±1,000,000,000; then 8.
+/// Otherwise yes exactly when the timing is tightest, else no."
+pub fn test(sheet: &[u8], count: usize, times: &[i64; SIZE]) -> Result<bool, Refusal> {
+    let sheet = read(sheet)?;
+    if count != sheet.triggers {
+        return Err(10);
+    }
+    let times = &times[..count];
+    if times
+        .iter()
+        .any(|t| !(-LONGEST_TIME..=LONGEST_TIME).contains(t))
+    {
+        return Err(11);
+    }
+    let tables = tables(sheet)?;
+    Ok(keeps_order(&tables.sheet, times) && deviation(&tables.sheet, times) == tables.deviation)
+}
+
+/// "A timing keeps the order when it keeps every after rule": x(i) ≥ b(i,j) + x(j).
+fn keeps_order(sheet: &Sheet, x: &[i64]) -> bool {
+    let kept = |i: usize, j: usize| sheet.after[i][j].is_none_or(|b| x[i] >= b + x[j]);
+    (0..x.len()).all(|i| (0..x.len()).all(|j| kept(i, j)))
+}
+
+/// "Deviation is the largest x(j) − q(j) plus the largest p(i) − y(i) over panels with a floor."
+fn deviation(sheet: &Sheet, x: &[i64]) -> i64 {
+    let late = largest((0..x.len()).map(|j| Some(x[j] - sheet.due[j]?)));
+    let short = largest((0..sheet.panels).map(|i| Some(sheet.floor[i]? - landing(sheet, x, i)?)));
+    late.zip(short)
+        .map(|(late, short)| late + short)
+        .expect("a due and a floor are present")
+}
+
+/// "Landing y(i) is the largest a(i,j) + x(j)."
+fn landing(sheet: &Sheet, x: &[i64], i: usize) -> Entry {
+    largest((0..x.len()).map(|j| plus(sheet.lag[i][j], Some(x[j]))))
+}
+
+// ------------------------------------------------------------ What the programs write
+
+/// The planning program's text for a sheet.
+pub fn plan_text(sheet: &[u8]) -> String {
+    let mut space = vec![0; PROGRAM_LINES * LINE_WORDS];
+    plan_answer_text(&plan(sheet, &mut space), &space)
+}
+
+/// "The fields are Δ, the walk's fixings, its selections, the number of lines, then each line,
+/// trigger 1 first. A refusal is written `refused=` and its number, LF."
+pub fn plan_answer_text(answer: &Result<Plan, NoPlan>, space: &[i32]) -> String {
+    match answer {
+        Ok(plan) => {
+            let lines = space.chunks_exact(LINE_WORDS).take(plan.count);
+            let lines: String = lines.map(line_text).collect();
+            format!(
+                "deviation={}\nsteps={}\nselections={}\ncount={}\n{lines}",
+                plan.deviation, plan.steps, plan.selections, plan.count
+            )
+        }
+        Err(NoPlan::Refused(number)) => format!("refused={number}\n"),
+        Err(NoPlan::SpaceTooSmall(count)) => format!("refused=9\ncount={count}\n"),
+    }
+}
+
+fn line_text(words: &[i32]) -> String {
+    let component = |word: &i32| match *word {
+        i32::MIN => "-".to_string(),
+        value => value.to_string(),
+    };
+    let shown: Vec<String> = words[1..=words[0] as usize].iter().map(component).collect();
+    format!("line={}\n", shown.join(","))
+}
+
+/// The kept program's text for a sheet.
+pub fn kept_text(sheet: &[u8]) -> String {
+    let survey = match survey(sheet) {
+        Ok(survey) => survey,
+        Err(number) => return format!("refused={number}\n"),
+    };
+    let panels = survey.panels();
+    let panels: String = panels
+        .iter()
+        .map(|(byte, count)| format!("kept={byte},{count}\n"))
+        .collect();
+    format!(
+        "deviation={}\n{panels}steps={}\nselections={}\n",
+        survey.deviation(),
+        survey.walk.steps,
+        survey.selections()
+    )
+}

@@ -1,0 +1,615 @@
+//! Sheets to try: good ones of every size, rich in ties and circles, and damaged ones.
+//! All come from a seeded generator of random numbers, so that a run can be repeated.
+
+/// The splitmix64 generator.
+pub struct Random(u64);
+
+impl Random {
+    /// The generator for sheet `number` of a run: each sheet can be made without those before it.
+    pub fn new(seed: u64, number: u64) -> Self {
+        let mut start = Random(seed);
+        let base = start.next();
+        Random(base ^ number.wrapping_mul(0xd605_1ba5_35d7_9a2d))
+    }
+
+    pub fn next(&mut self) -> u64 {
+        self.0 = self.0.wrapping_add(0x9e37_79b9_7f4a_7c15);
+        let mut z = self.0;
+        z = (z ^ (z >> 30)).wrapping_mul(0xbf58_476d_1ce4_e5b9);
+        z = (z ^ (z >> 27)).wrapping_mul(0x94d0_49bb_1331_11eb);
+        z ^ (z >> 31)
+    }
+
+    /// A number from 0 to `end` − 1.
+    pub fn below(&mut self, end: usize) -> usize {
+        (self.next() % end as u64) as usize
+    }
+
+    /// A number from `low` to `high`, both possible.
+    pub fn between(&mut self, low: i64, high: i64) -> i64 {
+        low + (self.next() % (high - low + 1) as u64) as i64
+    }
+
+    /// True `percent` times in a hundred.
+    pub fn chance(&mut self, percent: usize) -> bool {
+        self.below(100) < percent
+    }
+
+    pub fn pick<'a, T>(&mut self, of: &'a [T]) -> &'a T {
+        &of[self.below(of.len())]
+    }
+}
+
+/// A sheet before it is written. Absent is `None`.
+#[derive(Clone, Debug)]
+pub struct Draft {
+    pub lag: Vec<Vec<Option<i64>>>,
+    pub floor: Vec<Option<i64>>,
+    pub due: Vec<i64>,
+    pub after: Vec<Vec<Option<i64>>>,
+}
+
+impl Draft {
+    pub fn panels(&self) -> usize {
+        self.lag.len()
+    }
+
+    pub fn triggers(&self) -> usize {
+        self.due.len()
+    }
+
+    /// The sheet's bytes.
+    pub fn write(&self) -> Vec<u8> {
+        let mut text = format!("panels={}\ntriggers={}\n", self.panels(), self.triggers());
+        let due: Vec<Option<i64>> = self.due.iter().copied().map(Some).collect();
+        self.lag.iter().for_each(|row| text += &written("lag", row));
+        text += &written("floor", &self.floor);
+        text += &written("due", &due);
+        self.after
+            .iter()
+            .for_each(|row| text += &written("after", row));
+        text.into_bytes()
+    }
+}
+
+fn written(key: &str, entries: &[Option<i64>]) -> String {
+    let item = |entry: &Option<i64>| entry.map_or("-".to_string(), |v| v.to_string());
+    let items: Vec<String> = entries.iter().map(item).collect();
+    format!("{key}={}\n", items.join(","))
+}
+
+// ---------------------------------------------------------------- Good sheets
+
+/// How a draft's entries are drawn.
+#[derive(Clone, Copy)]
+struct Manner {
+    /// Entries lie within ± this.
+    size: i64,
+    /// Nearly all entries are at the limits, beside them or 0.
+    extreme: bool,
+    /// Percent of lags, floors and after entries that are absent.
+    no_lag: usize,
+    no_floor: usize,
+    no_after: usize,
+}
+
+impl Manner {
+    fn number(&self, random: &mut Random) -> i64 {
+        if self.extreme && random.chance(80) {
+            let sign = *random.pick(&[-1, 1]);
+            return sign * random.pick(&[self.size, self.size, self.size - 1, 0]);
+        }
+        random.between(-self.size, self.size)
+    }
+
+    fn entry(&self, random: &mut Random, absent: usize) -> Option<i64> {
+        (!random.chance(absent)).then(|| self.number(random))
+    }
+
+    fn row(&self, random: &mut Random, items: usize, absent: usize) -> Vec<Option<i64>> {
+        (0..items).map(|_| self.entry(random, absent)).collect()
+    }
+
+    fn draft(&self, random: &mut Random, m: usize, n: usize) -> Draft {
+        Draft {
+            lag: (0..m).map(|_| self.row(random, n, self.no_lag)).collect(),
+            floor: self.row(random, m, self.no_floor),
+            due: (0..n).map(|_| self.number(random)).collect(),
+            after: (0..n).map(|_| self.row(random, n, self.no_after)).collect(),
+        }
+    }
+}
+
+/// A draft for the search: at most three panels and triggers, entries within ±2 (±3 for fewer
+/// triggers), so that the window stays small.
+pub fn tiny(random: &mut Random) -> Draft {
+    let (m, n) = (1 + random.below(3), *random.pick(&[1, 2, 2, 3, 3, 3, 3]));
+    let largest = if n == 3 { 2 } else { 3 };
+    let manner = Manner {
+        size: random.between(1, largest),
+        extreme: false,
+        no_lag: *random.pick(&[0, 20, 40]),
+        no_floor: *random.pick(&[0, 25]),
+        no_after: *random.pick(&[100, 80, 60, 60]),
+    };
+    let mut draft = manner.draft(random, m, n);
+    if random.chance(40) {
+        let slack = random.between(0, 1);
+        order_from_marks(random, &mut draft, 1, slack, 50);
+    } else if random.chance(30) {
+        circle(random, &mut draft, 1);
+    }
+    mend(random, &mut draft, manner.size);
+    draft
+}
+
+/// A draft of any size. Nearly all are good sheets; some are refused with 6, 7 or 8.
+pub fn any_size(random: &mut Random) -> Draft {
+    let (m, n) = (1 + random.below(6), 1 + random.below(6));
+    let size = *random.pick(&[1, 1, 2, 2, 3, 5, 20, 400, 100_000]);
+    let manner = Manner {
+        size,
+        extreme: false,
+        no_lag: *random.pick(&[0, 20, 40, 60, 80]),
+        no_floor: *random.pick(&[0, 0, 20, 50]),
+        no_after: *random.pick(&[100, 100, 95, 90]),
+    };
+    let mut draft = manner.draft(random, m, n);
+    order(random, &mut draft, size);
+    if random.chance(20) {
+        let trigger = random.below(n);
+        draft.lag.iter_mut().for_each(|row| row[trigger] = None);
+    }
+    if random.chance(97) {
+        mend(random, &mut draft, size);
+    }
+    draft
+}
+
+/// A draft at the limits ±100,000.
+pub fn at_limits(random: &mut Random) -> Draft {
+    let (m, n) = (1 + random.below(6), 1 + random.below(6));
+    let manner = Manner {
+        size: 100_000,
+        extreme: true,
+        no_lag: *random.pick(&[0, 30, 60]),
+        no_floor: *random.pick(&[0, 30]),
+        no_after: *random.pick(&[100, 90, 80]),
+    };
+    let mut draft = manner.draft(random, m, n);
+    match random.below(3) {
+        0 => {
+            // A falling or rising chain: the longest paths reach the bounds of M*, d and r.
+            let step = *random.pick(&[-100_000, 100_000]);
+            draft.after = vec![vec![None; n]; n];
+            (1..n).for_each(|i| draft.after[i][i - 1] = Some(step));
+        }
+        1 => order_from_marks(random, &mut draft, 50_000, 0, 50),
+        _ => {}
+    }
+    mend(random, &mut draft, 100_000);
+    draft
+}
+
+/// A draft whose floors nearly tie: lag, floor and due come from marks, so that many entries are
+/// kept and many are tied for pruning.
+pub fn nearly_tied(random: &mut Random) -> Draft {
+    let (m, n) = (1 + random.below(6), 1 + random.below(6));
+    let noise = random.between(0, 2);
+    let absent = *random.pick(&[0, 30, 50]);
+    let marks: Vec<i64> = (0..n).map(|_| random.between(-9, 9)).collect();
+    let heights: Vec<i64> = (0..m).map(|_| random.between(-9, 9)).collect();
+    let mut draft = Draft {
+        lag: vec![vec![None; n]; m],
+        floor: Vec::new(),
+        due: marks.iter().map(|v| v + random.between(0, noise)).collect(),
+        after: vec![vec![None; n]; n],
+    };
+    for i in 0..m {
+        for j in 0..n {
+            let lag = heights[i] - marks[j] + random.between(-noise, noise);
+            draft.lag[i][j] = (!random.chance(absent)).then_some(lag);
+        }
+        let floor = heights[i] + random.between(-noise, noise);
+        draft.floor.push((!random.chance(10)).then_some(floor));
+    }
+    order(random, &mut draft, 2);
+    mend(random, &mut draft, 3);
+    draft
+}
+
+/// Some order on top of a draft: none more, one from marks, or one or two circles.
+fn order(random: &mut Random, draft: &mut Draft, size: i64) {
+    match random.below(6) {
+        0 | 1 => {
+            let slack = random.between(0, size.min(3));
+            let percent = *random.pick(&[15, 40, 80]);
+            order_from_marks(random, draft, (size / 2).max(1), slack, percent);
+        }
+        2 => circle(random, draft, size),
+        3 => (0..2).for_each(|_| circle(random, draft, size)),
+        _ => {}
+    }
+}
+
+/// After entries that some marks v keep: b(i,j) at most v(i) − v(j). Without slack, every circle
+/// sums to 0; the diagonal takes part.
+fn order_from_marks(random: &mut Random, draft: &mut Draft, size: i64, slack: i64, percent: usize) {
+    let n = draft.triggers();
+    let marks: Vec<i64> = (0..n).map(|_| random.between(-size, size)).collect();
+    for i in 0..n {
+        for j in 0..n {
+            let present = random.chance(percent);
+            let entry = marks[i] - marks[j] - random.between(0, slack);
+            draft.after[i][j] = present.then_some(entry);
+        }
+    }
+}
+
+/// A circle of after rules through some triggers, often all, that sums to −1, 0 or 1.
+fn circle(random: &mut Random, draft: &mut Draft, size: i64) {
+    let n = draft.triggers();
+    let mut order: Vec<usize> = (0..n).collect();
+    (1..n).for_each(|k| order.swap(k, random.below(k + 1)));
+    order.truncate(if random.chance(50) {
+        n
+    } else {
+        1 + random.below(n)
+    });
+    let step = (size / 6).clamp(1, 9);
+    let mut left = *random.pick(&[-1, 0, 0, 0, 1]);
+    for k in 0..order.len() {
+        let last = k + 1 == order.len();
+        let weight = if last {
+            left
+        } else {
+            random.between(-step, step)
+        };
+        left -= weight;
+        draft.after[order[(k + 1) % order.len()]][order[k]] = Some(weight);
+    }
+}
+
+/// Gives each panel a lag and the sheet a floor, where they are missing.
+fn mend(random: &mut Random, draft: &mut Draft, size: i64) {
+    let n = draft.triggers();
+    for row in &mut draft.lag {
+        if row.iter().all(Option::is_none) {
+            row[random.below(n)] = Some(random.between(-size, size));
+        }
+    }
+    if draft.floor.iter().all(Option::is_none) {
+        let panel = random.below(draft.floor.len());
+        draft.floor[panel] = Some(random.between(-size, size));
+    }
+}
+
+// ------------------------------------------------------- Related sheets, for demand 3
+
+/// A draft related to another of the same triggers: often the same timings are tightest on both,
+/// often not.
+pub fn related(random: &mut Random, draft: &Draft) -> Draft {
+    let mut other = draft.clone();
+    if random.chance(40) {
+        keep_timings(random, &mut other);
+    } else {
+        (0..1 + random.below(3)).for_each(|_| change_entry(random, &mut other));
+    }
+    mend(random, &mut other, 1);
+    other
+}
+
+fn moved(entry: Option<i64>, by: i64) -> Option<i64> {
+    entry.map(|v| v + by)
+}
+
+/// A change that keeps the tightest timings.
+fn keep_timings(random: &mut Random, draft: &mut Draft) {
+    let panel = random.below(draft.panels());
+    let by = *random.pick(&[-1, 1]);
+    match random.below(5) {
+        0 => draft.floor.iter_mut().for_each(|p| *p = moved(*p, by)),
+        1 => draft.due.iter_mut().for_each(|q| *q += by),
+        2 => {
+            draft.lag[panel].iter_mut().for_each(|a| *a = moved(*a, by));
+            draft.floor[panel] = moved(draft.floor[panel], by);
+        }
+        // A panel twice, the second time perhaps lower.
+        3 => {
+            let lower = random.between(0, 1);
+            draft.lag.push(draft.lag[panel].clone());
+            draft.floor.push(moved(draft.floor[panel], -lower));
+        }
+        _ => add_rules_that_follow(draft),
+    }
+}
+
+/// Every rule that follows from two others.
+fn add_rules_that_follow(draft: &mut Draft) {
+    let after = draft.after.clone();
+    for (i, row) in draft.after.iter_mut().enumerate() {
+        for (j, entry) in row.iter_mut().enumerate() {
+            let through = |k: usize| after[i][k].zip(after[k][j]).map(|(a, b)| a + b);
+            *entry = (0..after.len()).map(through).fold(*entry, Option::max);
+        }
+    }
+}
+
+/// One entry changed by 1, come or gone.
+fn change_entry(random: &mut Random, draft: &mut Draft) {
+    let (i, j) = (random.below(draft.panels()), random.below(draft.triggers()));
+    let k = random.below(draft.triggers());
+    let by = *random.pick(&[-1, 1]);
+    let entry = match random.below(7) {
+        0 | 1 => &mut draft.lag[i][j],
+        2 => &mut draft.floor[i],
+        3 | 4 => &mut draft.after[j][k],
+        _ => return draft.due[j] += by,
+    };
+    *entry = match *entry {
+        None => Some(by),
+        Some(_) if random.chance(20) => None,
+        present => moved(present, by),
+    };
+}
+
+// ---------------------------------------------------------------- Damaged sheets
+
+/// Numerals that a reader gets wrong most easily, good ones among them.
+const NUMERALS: [&str; 24] = [
+    "-",
+    "0",
+    "-0",
+    "00",
+    "05",
+    "-05",
+    "+5",
+    "--",
+    "--5",
+    "",
+    "5-",
+    " 5",
+    "5\r",
+    "1e5",
+    "0x1",
+    "100000",
+    "-100000",
+    "100001",
+    "-100001",
+    "4294967301",
+    "-4294967296",
+    "18446744073709551621",
+    "999999999999999999999999999999",
+    "-999999999999999999999999999999",
+];
+
+/// What a size may be changed to.
+const SIZES: [&str; 16] = [
+    "0",
+    "1",
+    "2",
+    "3",
+    "4",
+    "5",
+    "6",
+    "7",
+    "10",
+    "-",
+    "-1",
+    "100001",
+    "256",
+    "4294967297",
+    "18446744073709551617",
+    "06",
+];
+
+/// A sheet with one or two faults, as far as each change is a fault.
+pub fn damaged(random: &mut Random, draft: &Draft) -> Vec<u8> {
+    let mut draft = draft.clone();
+    if random.chance(10) {
+        without_lag_or_floor(random, &mut draft);
+    }
+    let mut bytes = draft.write();
+    for _ in 0..1 + random.below(2) {
+        bytes = match random.below(8) {
+            0 | 1 => damage_byte(random, bytes),
+            2 => damage_line(random, bytes),
+            3..=5 => damage_item(random, bytes),
+            6 => damage_size_or_due(random, bytes),
+            _ => damage_end(random, bytes),
+        };
+    }
+    bytes
+}
+
+fn without_lag_or_floor(random: &mut Random, draft: &mut Draft) {
+    let which = random.below(3);
+    if which != 0 {
+        let panel = random.below(draft.panels());
+        draft.lag[panel].fill(None);
+    }
+    if which != 1 {
+        draft.floor.fill(None);
+    }
+}
+
+/// A byte changed, removed, inserted or duplicated.
+fn damage_byte(random: &mut Random, mut bytes: Vec<u8>) -> Vec<u8> {
+    if bytes.is_empty() {
+        return bytes;
+    }
+    let at = random.below(bytes.len());
+    let byte = some_byte(random);
+    match random.below(5) {
+        0 => bytes[at] = byte,
+        1 => bytes[at] ^= 1 << random.below(8),
+        2 => drop(bytes.remove(at)),
+        3 => bytes.insert(at, byte),
+        _ => bytes.insert(at, bytes[at]),
+    }
+    bytes
+}
+
+fn some_byte(random: &mut Random) -> u8 {
+    if random.chance(20) {
+        return random.next() as u8;
+    }
+    *random.pick(b"0123456789--,,==\n\n\r +.aflnprt\0")
+}
+
+/// The lines with their ends.
+fn lines_of(bytes: &[u8]) -> Vec<Vec<u8>> {
+    bytes
+        .split_inclusive(|&b| b == b'\n')
+        .map(<[u8]>::to_vec)
+        .collect()
+}
+
+/// A line lost or doubled, two lines exchanged, a line end changed.
+fn damage_line(random: &mut Random, bytes: Vec<u8>) -> Vec<u8> {
+    let mut lines = lines_of(&bytes);
+    if lines.is_empty() {
+        return bytes;
+    }
+    let (at, other) = (random.below(lines.len()), random.below(lines.len()));
+    match random.below(5) {
+        0 => drop(lines.remove(at)),
+        1 => lines.insert(at, lines[at].clone()),
+        2 => lines.swap(at, other),
+        3 => drop(lines[at].pop()),
+        _ => {
+            lines[at].pop();
+            lines[at].extend(*random.pick(&[b"\r\n", b"\n\n", b" \n", b",\n"]));
+        }
+    }
+    lines.concat()
+}
+
+/// An item lost, doubled or replaced; sometimes two of one line.
+fn damage_item(random: &mut Random, bytes: Vec<u8>) -> Vec<u8> {
+    let mut lines = lines_of(&bytes);
+    if lines.is_empty() {
+        return bytes;
+    }
+    let at = random.below(lines.len());
+    let times = 1 + random.below(2);
+    for _ in 0..times {
+        lines[at] = change_item(random, &lines[at]);
+    }
+    lines.concat()
+}
+
+/// One line with one item changed; a line that is not `key=items` stays.
+fn change_item(random: &mut Random, line: &[u8]) -> Vec<u8> {
+    let text = String::from_utf8_lossy(line);
+    let Some((key, rest)) = text.trim_end_matches('\n').split_once('=') else {
+        return line.to_vec();
+    };
+    let mut items: Vec<String> = rest.split(',').map(str::to_string).collect();
+    let at = random.below(items.len());
+    match random.below(8) {
+        0 => drop(items.remove(at)),
+        1 => items.insert(at, items[at].clone()),
+        2 => {
+            items[at] = if random.chance(50) {
+                "9".repeat(1 + random.below(500))
+            } else {
+                "-".into()
+            }
+        }
+        _ => items[at] = random.pick(&NUMERALS).to_string(),
+    }
+    format!("{key}={}\n", items.join(",")).into_bytes()
+}
+
+/// Another size, or an absent or wrong due mark.
+fn damage_size_or_due(random: &mut Random, bytes: Vec<u8>) -> Vec<u8> {
+    let mut lines = lines_of(&bytes);
+    let due = lines.iter().position(|line| line.starts_with(b"due="));
+    match random.below(3) {
+        0 if !lines.is_empty() => lines[0] = size_line(random, "panels"),
+        1 if lines.len() > 1 => lines[1] = size_line(random, "triggers"),
+        _ => {
+            if let Some(at) = due {
+                lines[at] = due_with_absent(random, &lines[at]);
+            }
+        }
+    }
+    lines.concat()
+}
+
+fn size_line(random: &mut Random, key: &str) -> Vec<u8> {
+    format!("{key}={}\n", random.pick(&SIZES)).into_bytes()
+}
+
+/// A due line with one mark absent, sometimes with another item changed.
+fn due_with_absent(random: &mut Random, line: &[u8]) -> Vec<u8> {
+    let text = String::from_utf8_lossy(line)
+        .trim_end_matches('\n')
+        .replace("due=", "");
+    let mut items: Vec<String> = text.split(',').map(str::to_string).collect();
+    if random.chance(30) {
+        let other = random.below(items.len());
+        items[other] = random.pick(&NUMERALS).to_string();
+    }
+    let at = random.below(items.len());
+    items[at] = "-".to_string();
+    format!("due={}\n", items.join(",")).into_bytes()
+}
+
+/// Cut short, bytes left over, or near the limit of 2,048 bytes.
+fn damage_end(random: &mut Random, mut bytes: Vec<u8>) -> Vec<u8> {
+    match random.below(5) {
+        0 => bytes.truncate(random.below(bytes.len() + 1)),
+        1 => bytes.extend(*random.pick(&[&b"\n"[..], b"x", b"\0", b"after=-\n", b"panels=1\n"])),
+        2 => bytes.resize(2046 + random.below(5), some_byte(random)),
+        3 => stretch(random, &mut bytes),
+        _ => bytes.resize(2049 + random.below(3000), some_byte(random)),
+    }
+    bytes
+}
+
+/// Puts digits behind the first digit that stands after a random place, up to about 2,048 bytes: a
+/// good numeral of great length.
+fn stretch(random: &mut Random, bytes: &mut Vec<u8>) {
+    let length = 2046 + random.below(5);
+    let start = random.below(bytes.len() + 1);
+    let digit = bytes[start..]
+        .iter()
+        .position(|b| (b'1'..=b'9').contains(b));
+    if let (Some(digit), true) = (digit, bytes.len() < length) {
+        let at = start + digit + 1;
+        let more = vec![some_digit(random); length - bytes.len()];
+        bytes.splice(at..at, more);
+    }
+}
+
+fn some_digit(random: &mut Random) -> u8 {
+    *random.pick(b"0123456789")
+}
+
+/// Bytes that are no sheet, or begin like one.
+pub fn raw(random: &mut Random) -> Vec<u8> {
+    let length = *random.pick(&[0, 1, 8, 30, 100, 800, 2048, 2049, 3000]);
+    let length = if random.chance(70) {
+        random.below(length + 1)
+    } else {
+        length
+    };
+    let begins: [&[u8]; 4] = [
+        b"",
+        b"panels=1\n",
+        b"panels=1\ntriggers=1\n",
+        b"panels=1\ntriggers=1\nlag=",
+    ];
+    let mut bytes = random.pick(&begins).to_vec();
+    let any = random.chance(50);
+    while bytes.len() < length {
+        bytes.push(if any {
+            random.next() as u8
+        } else {
+            some_byte(random)
+        });
+    }
+    bytes
+}
