@@ -2,27 +2,23 @@
 -- the sheet's tables, of which cue's theorems speak.
 use mathlib.Core.Path.{_≡_, refl, ap, sym, subst, _∙_}
 use mathlib.Core.Logic.{_↔_}
-use mathlib.Core.List.{List, [], _∷_, _++_}
+use mathlib.Core.List.{List}
 use mathlib.Core.Bool.{Bool, true, false, cond}
-use Prim.Native.Nat.{ℕ, _*_, _/_, _≤_, _<_}
+use Prim.Native.Nat.{ℕ, _/_, _≤_}
 use native.Mathlib.Omega.{arith}
 use lib.Dec.{leb}
-use lib.IntN.{ℤ, pos}
-use lib.ListN.{length, take, drop}
+use lib.IntN.{ℤ}
+use lib.ListN.{length}
 use lib.Seq.{take-at}
-use Rattle.maxplus.specs.Entry.{num, _≼_}
-use Rattle.maxplus.specs.Finite.{In}
 use Rattle.maxplus.specs.Tables.{NoGain}
-use Rattle.maxplus.specs.Line.{Line, at}
-use Rattle.maxplus.specs.Combination.{Weighed}
 use Rattle.maxplus.proofs.StarLaws.{no-gain?}
-use Rattle.cue.specs.Meaning.{Tables, timing, Keeps, deviation, Tightest, Readable}
+use Rattle.cue.specs.Meaning.{Tables, timing, Keeps, Tightest, Readable}
 use Rattle.cue.specs.Method.{least, steps, selections, lines}
 use Rattle.cue.specs.Written.{list-words}
-use Rattle.cue.proofs.Bounds.{Limited, Signed32, results-32}
+use Rattle.cue.proofs.Bounds.{results-32}
 use Rattle.cue.proofs.WrittenLaws.{Fitting, list-words-length, list-words-one}
 use Rattle.cue.proofs.Demands as cue
-use Rattle.sheet.specs.Sheet.{Got, got, Sheet, _>>=_, read}
+use Rattle.sheet.specs.Sheet.{got, Sheet, read}
 use Rattle.sheet.specs.Sheet as sheet
 use Rattle.tables.specs.Cue.{tables-of}
 use Rattle.tables.proofs.Good.{Good, read-good}

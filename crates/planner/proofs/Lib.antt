@@ -3,3 +3,4 @@ pub mod Demands
 pub mod Cases
 pub mod Preparing
 pub mod KeptLaws
+pub mod TestLaws

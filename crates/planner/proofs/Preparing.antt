@@ -6,8 +6,9 @@ use Prim.Native.Nat.{ℕ, zero, suc, _≤_, _<_}
 use native.Mathlib.Omega.{arith}
 use lib.ListN.{getD}
 use Rattle.maxplus.specs.Tables.{mm, star, NoGain}
-use Rattle.cue.specs.Meaning.{Tables}
-use Rattle.words.specs.Words.{far}
+use Rattle.maxplus.specs.Entry.{num}
+use Rattle.cue.specs.Method.{least}
+use Rattle.words.specs.Words.{entry, far}
 use Rattle.maxplus.specs.Finite.{mapL}
 use Rattle.sheet.specs.Sheet.{got, limit, read}
 use Rattle.sheet.specs.Sheet as spec
@@ -19,8 +20,10 @@ use Rattle.sheet.proofs.Refusals.{refusal-numbered}
 use Rattle.tables.specs.Cue.{tables-of}
 use Rattle.tables.specs.Held.{meant, Holds, Closely, Says}
 use Rattle.tables.proofs.SquareLaws.{closely-more}
-use Rattle.tables.proofs.Good.{Good, read-good}
-use Rattle.tables.proofs.Results.{HeldBy, sheet-held, afters-close, lags-close, star-held, star-close, through-held, order-says}
+use Rattle.tables.proofs.Good.{read-good}
+use Rattle.tables.proofs.Results.{HeldBy, sheet-held, afters-close, lags-close, floors-close, dues-close, star-held, star-close, through-held, order-says}
+use Rattle.timing.specs.Deviation.{SheetClose}
+use Rattle.timing.specs.Test.{SheetWords}
 use Rattle.marks.specs.Marked.{Fit}
 use Rattle.planner.specs.Inner.{Worded}
 
@@ -75,6 +78,29 @@ module _ (s : spec.Sheet) (t : Sheet) (after : List (List ℕ)) (W : Worded s t 
       rw panels-of (closely-more (omega arith) (lags-close (t .triggers) (tables-of s) lag after (t .floor) (t .due) (held lag h))),
       closely-more (omega arith) (star-close (t .triggers) (tables-of s) lag after (t .floor) (t .due) (held lag h) starred),
     )
+
+    -- what the test of a timing asks, and is told
+    pub sheet-close : SheetClose (t .panels) (t .triggers) lag (t .floor) (t .due)
+    sheet-close =
+        record {
+          few-panels = rw panels-of (W .good .panels-few);
+          few-triggers = six-triggers;
+          lags = rw panels-of (lags-close (t .triggers) (tables-of s) lag after (t .floor) (t .due) (held lag h));
+          floors = rw panels-of (floors-close (t .triggers) (tables-of s) lag after (t .floor) (t .due) (held lag h));
+          dues = dues-close (t .triggers) (tables-of s) lag after (t .floor) (t .due) (held lag h);
+        }
+
+    pub sheet-words : (e : ℕ) → entry e ≡ num (least (t .triggers) (tables-of s)) →
+        SheetWords (t .panels) (t .triggers) after lag (t .floor) (t .due) e (tables-of s)
+    sheet-words e d =
+        record {
+          panels-are = sym panels-of;
+          afters = held lag h .afters;
+          lags = rw panels-of (held lag h .lags);
+          floors = rw panels-of (held lag h .floors);
+          dues = held lag h .dues;
+          least-is = d;
+        }
 
     pub fit : NoGain (s .triggers) (s .after) → (throughs : List (List ℕ)) →
         Holds (t .panels) (t .triggers) (mm (t .triggers) (meant lag) (meant stars)) throughs → Fit (tables-of s) t stars throughs

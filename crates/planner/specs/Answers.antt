@@ -1,12 +1,16 @@
 -- What the operations answer in a program: each outcome's numbers and values, and 0 wherever a refusal leaves nothing.
 use mathlib.Core.List.{List, [], _∷_}
+use mathlib.Core.Bool.{true, false}
 use Prim.Native.Nat.{ℕ}
 use lib.Count.{ones}
 use lib.IntN.{pos}
 use lib.ListN.{length, getD, replicate}
 use Rattle.maxplus.specs.Finite.{each}
-use Rattle.planner.specs.Outcome.{KeptOutcome, kept, refused}
+use Rattle.planner.specs.Outcome.{KeptOutcome, kept, refused, TestOutcome, answer}
+use Rattle.planner.specs.Outcome as outcome
 use Rattle.planner.specs.declared.kept.KeptTable.{KeptTable}
+use Rattle.planner.specs.declared.test.Tested.{Tested}
+use Rattle.planner.specs.declared.test.Tested.the-variants.{Yes, No, Refused}
 
 -- the first six of a list of pairs, part by part, and 0 past its end
 abbrev pub six : (ℕ → ℕ) → List ℕ
@@ -29,3 +33,9 @@ kept-answer (kept D panels k l) =
     }
 kept-answer (refused k) =
     record { refusal = k; deviation = pos 0; panels = 0; kept = replicate 6 0; counts = replicate 6 0; steps = 0; selections = 0 }
+
+-- testing a timing: the outcome that each case of the answer stands for
+abbrev pub test-answer : Tested → TestOutcome
+test-answer Yes = answer true
+test-answer No = answer false
+test-answer (Refused k) = refused k

@@ -1,15 +1,11 @@
 -- `planner::kept::walked` meets its contract: the walk over the levels is document 01's. Assumes nothing.
-use mathlib.Core.Path.{_≡_, refl, ap, ap₂, sym, _∙_}
-use mathlib.Core.List.{[]}
-use Prim.Native.Nat.{ℕ}
+use mathlib.Core.Path.{_≡_, sym, _∙_}
 use borrow.Author.Needs.{needs}
 use mir.Syntax.{w64}
 use mir.Val.{toZ, ofZ}
 use Rattle.maxplus.proofs.EntryLaws.{num-inj}
-use Rattle.sheet.specs.Sheet.{got}
 use Rattle.sheet.specs.Sheet as spec
 use Rattle.tables.specs.Cue.{tables-of}
-use Rattle.walk.proofs.Follows.{counts-follow}
 use Rattle.marks.specs.Marked.{Fit, MarkedAs}
 use Rattle.marks.proofs.Laws.{levels-close, levels-some, levels-few, masks-small, least-word, follows}
 use Rattle.planner.specs.Inner.{Orderly}
