@@ -23,6 +23,7 @@ use Rattle.sheet.specs.Sheet as sheet
 use Rattle.tables.specs.Cue.{tables-of}
 use Rattle.tables.proofs.Good.{Good, read-good}
 use Rattle.planner.specs.Outcome.{Outcome, planned, full, refused, orderly, plan-of, planning, space-after}
+use Rattle.planner.proofs.OrderlyLaws.{ordered}
 use Rattle.planner.specs.Demands.{Planned, deviation-of, count-of, written, Least, Demand-2, Demand-8, Demand-3}
 
 -- ---- a planning without refusal is the plan of the sheet's tables
@@ -31,10 +32,6 @@ plan t =
     let n = t .triggers in
     let P = tables-of t in
     planned n (least n P) (steps n P (least n P)) (length (selections n P (least n P))) (lines n P)
-
-ordered : (s : List ℕ) (t : Sheet) (r : List ℕ) → read s ≡ got t r → orderly s ≡ elim (no-gain? (t .triggers) (t .after)) [ yes h ↦ got t r | no h ↦ sheet.refused 8 ]
-unfolding orderly
-ordered s t r e = rw e
 
 module _ (s : List ℕ) (t : Sheet) (r : List ℕ) (e : read s ≡ got t r) (space : List ℤ) where
   planned-as : Planned (planning s space) → NoGain (t .triggers) (t .after) × (planning s space ≡ plan t)

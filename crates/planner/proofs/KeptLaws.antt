@@ -1,5 +1,5 @@
 -- What the kept table's answer says: its bytes and counts are those of document 01's panels, 0 past the last.
-use mathlib.Core.Path.{_≡_, refl, ap, sym, subst, _∙_}
+use mathlib.Core.Path.{_≡_, ap, sym, subst, _∙_}
 use mathlib.Core.List.{List, [], _∷_}
 use Prim.Native.Nat.{ℕ, _≤_, _<_}
 use native.Mathlib.Omega.{arith}
@@ -13,7 +13,6 @@ use lib.IntN.{ℤ}
 use Rattle.cue.specs.Meaning.{Tables}
 use Rattle.cue.specs.Method.{least, floor-panels, kept-byte, kept-count, steps, selections}
 use Rattle.maxplus.specs.Tables.{NoGain}
-use Rattle.maxplus.proofs.StarLaws.{no-gain?}
 use Rattle.sheet.specs.Sheet.{got, read}
 use Rattle.sheet.specs.Sheet as spec
 use Rattle.sheet.specs.declared.Sheet.{Sheet}
@@ -26,10 +25,11 @@ use Rattle.walk.specs.declared.Counts.{Counts}
 use Rattle.walk.proofs.Follows.{counts-follow}
 use Rattle.marks.specs.Marked.{Fit, MarkedAs}
 use Rattle.marks.specs.declared.Marked.{Marked}
-use Rattle.planner.specs.Outcome.{KeptOutcome, kept, refused, kept-of, orderly, keeping}
+use Rattle.planner.specs.Outcome.{KeptOutcome, kept, refused, kept-of, keeping}
 use Rattle.planner.specs.Answers.{six, six-counts, kept-answer}
 use Rattle.planner.specs.Inner.{Orderly}
 use Rattle.planner.specs.declared.kept.KeptTable.{KeptTable}
+use Rattle.planner.proofs.OrderlyLaws.{orderly-refused, orderly-8, orderly-got}
 use Rattle.planner.proofs.Preparing.{panels-of, triggers-of}
 
 -- the byte and the number of panel i
@@ -119,24 +119,14 @@ walked-answer s t after O stars throughs F r M gains W D d ns e k f =
 -- ---- the outcomes
 module _ (s : List ℕ) where
   pub keeping-refused : (k : ℕ) → read s ≡ spec.refused k → keeping s ≡ refused k
-  unfolding keeping orderly
-  keeping-refused k e = rw e
+  unfolding keeping
+  keeping-refused k e = ap kept-of (orderly-refused s k e)
 
   module _ (t : spec.Sheet) (r : List ℕ) (e : read s ≡ got t r) where
-    keeping-is : keeping s ≡ kept-of (elim (no-gain? (t .triggers) (t .after)) [ yes h ↦ got t r | no h ↦ spec.refused 8 ])
-    unfolding keeping orderly
-    keeping-is = rw e
-
     pub keeping-8 : ¬ (NoGain (t .triggers) (t .after)) → keeping s ≡ refused 8
-    keeping-8 f = keeping-is ∙ go (no-gain? (t .triggers) (t .after))
-      where
-        go : (d : Dec (NoGain (t .triggers) (t .after))) → kept-of (elim d [ yes h ↦ got t r | no h ↦ spec.refused 8 ]) ≡ refused 8
-        go (yes h) = absurd (f h)
-        go (no h) = refl
+    unfolding keeping
+    keeping-8 f = ap kept-of (orderly-8 s t r e f)
 
     pub keeping-kept : NoGain (t .triggers) (t .after) → kept-of (got t []) ≡ keeping s
-    keeping-kept np = sym (keeping-is ∙ go (no-gain? (t .triggers) (t .after)))
-      where
-        go : (d : Dec (NoGain (t .triggers) (t .after))) → kept-of (elim d [ yes h ↦ got t r | no h ↦ spec.refused 8 ]) ≡ kept-of (got t [])
-        go (yes h) = refl
-        go (no h) = absurd (h np)
+    unfolding keeping
+    keeping-kept np = sym (ap kept-of (orderly-got s t r e np))

@@ -2,5 +2,7 @@
 pub mod Demands
 pub mod Cases
 pub mod Preparing
+pub mod OrderlyLaws
 pub mod KeptLaws
 pub mod TestLaws
+pub mod PlanLaws

@@ -79,6 +79,9 @@ module _ (s : spec.Sheet) (t : Sheet) (after : List (List ℕ)) (W : Worded s t 
       closely-more (omega arith) (star-close (t .triggers) (tables-of s) lag after (t .floor) (t .due) (held lag h) starred),
     )
 
+    pub lag-held : Holds (s .panels) (t .triggers) (s .lag) lag
+    lag-held = held lag h .lags
+
     -- what the test of a timing asks, and is told
     pub sheet-close : SheetClose (t .panels) (t .triggers) lag (t .floor) (t .due)
     sheet-close =

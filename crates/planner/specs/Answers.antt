@@ -6,9 +6,10 @@ use lib.Count.{ones}
 use lib.IntN.{pos}
 use lib.ListN.{length, getD, replicate}
 use Rattle.maxplus.specs.Finite.{each}
-use Rattle.planner.specs.Outcome.{KeptOutcome, kept, refused, TestOutcome, answer}
+use Rattle.planner.specs.Outcome.{KeptOutcome, kept, refused, Outcome, planned, full, TestOutcome, answer}
 use Rattle.planner.specs.Outcome as outcome
 use Rattle.planner.specs.declared.kept.KeptTable.{KeptTable}
+use Rattle.planner.specs.declared.plan.CuePlan.{CuePlan}
 use Rattle.planner.specs.declared.test.Tested.{Tested}
 use Rattle.planner.specs.declared.test.Tested.the-variants.{Yes, No, Refused}
 
@@ -33,6 +34,12 @@ kept-answer (kept D panels k l) =
     }
 kept-answer (refused k) =
     record { refusal = k; deviation = pos 0; panels = 0; kept = replicate 6 0; counts = replicate 6 0; steps = 0; selections = 0 }
+
+-- planning: "A success returns Δ, steps, selections and count", 9 "also returns the count needed"; the sheet's number of triggers goes with them
+abbrev pub plan-answer : Outcome → CuePlan
+plan-answer (planned n D k l L) = record { refusal = 0; triggers = n; deviation = D; steps = k; selections = l; count = length L }
+plan-answer (full k) = record { refusal = 9; triggers = 0; deviation = pos 0; steps = 0; selections = 0; count = k }
+plan-answer (outcome.refused k) = record { refusal = k; triggers = 0; deviation = pos 0; steps = 0; selections = 0; count = 0 }
 
 -- testing a timing: the outcome that each case of the answer stands for
 abbrev pub test-answer : Tested → TestOutcome

@@ -1,0 +1,60 @@
+-- `lines::count::count_lines` meets its contract: `count` lines are not above `last`.
+use mathlib.Core.Path.{_≡_, refl}
+use Prim.Native.Nat.{_-_}
+use native.Mathlib.Omega.{arith}
+use lib.ListN.{length}
+use Rattle.lines.specs.Buffer.{room}
+use Rattle.lines.proofs.ListingLaws.{most}
+use Rattle.lines.proofs.TurnLaws.{Counted, counted-start, counted-few, counted-end, counted-more}
+use Rattle.lines.proofs.count.count_lines.Statement.{statement}
+use Rattle.lines.proofs.count.count_lines.Tie as tie
+
+abbrev Inv-loop : tie.InvT-loop
+Inv-loop marks star lag needs gains buf₀ last₀ count₀ buf last count = (length buf ≡ room) × Counted marks star lag needs gains last count
+
+abbrev μ-loop : tie.MeasureT-loop
+μ-loop marks star lag needs gains buf₀ last₀ count₀ buf last count = most - count
+
+loop-holds : tie.Need-loop-holds Inv-loop μ-loop
+loop-holds c = (refl, counted-start)
+
+gather-requires : tie.Need-gather-requires Inv-loop μ-loop
+gather-requires c κs = (c .before .before .pre, c .before .loop .inv .1 .sized, c .before .loop .inv .0)
+
+add-count : tie.Need-add-count Inv-loop μ-loop
+add-count c = omega (arith, counted-few (c .gather .ensures) (c .before .before .loop .inv .1) (c .before .before .before .pre .1))
+
+returns : tie.Need-returns Inv-loop μ-loop
+returns c P g = counted-end (c .before .gather .ensures) (c .before .before .before .loop .inv .1) (c .if1 .taken) P g
+
+sub-last : tie.Need-sub-last Inv-loop μ-loop
+sub-last c = omega arith
+
+mul-last : tie.Need-mul-last Inv-loop μ-loop
+mul-last c = omega arith
+
+array-copy-out-last : tie.Need-array-copy-out-last Inv-loop μ-loop
+array-copy-out-last c = omega arith
+
+loop-less : tie.Need-loop-less Inv-loop μ-loop
+loop-less c = omega (arith, counted-few (c .before .before .gather .ensures) (c .before .before .before .before .loop .inv .1) (c .before .before .before .before .before .pre .1))
+
+loop-again : tie.Need-loop-again Inv-loop μ-loop
+loop-again c = let (P, g) = c .before .before .before .before .before .pre in let r = c .before .before .gather .ensures in
+    (r P g .stored .size, counted-more r (c .before .before .before .before .loop .inv .1) g (c .before .if1 .left))
+
+pub count-lines-spec : {M : Type 1} → statement M
+count-lines-spec =
+    tie.close
+    (tie.spec
+    Inv-loop
+    μ-loop
+    loop-holds
+    gather-requires
+    add-count
+    returns
+    sub-last
+    mul-last
+    array-copy-out-last
+    loop-less
+    loop-again)

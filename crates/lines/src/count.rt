@@ -1,0 +1,33 @@
+// How many lines there are, where one buffer does not hold them: they are gathered one buffer-full after the other.
+ghost use mathlib.Core.Path.{_≡_};
+ghost use lib.ListN.{length};
+ghost use Rattle.cue.specs.Meaning.{Tables};
+ghost use Rattle.cue.specs.Method.{lines};
+ghost use Rattle.lines.specs.Given.{Given};
+use crate::ROOM;
+use crate::gather::gather;
+use candidates::Marks;
+
+pub fn count_lines(
+    marks: Marks,
+    star: &[[u64; 6]; 6],
+    lag: &[[u64; 6]; 6],
+    needs: &[[u64; 6]; 6],
+    gains: &[[u64; 6]; 6],
+) -> usize
+    requires { ⌜ ((P : Tables) × Given P marks (now star) (now lag) (now needs) (now gains)) ⌝ }
+    ensures { λ r. ⌜ ((P : Tables) → Given P marks (now (star .entry)) (now (lag .entry)) (now (needs .entry)) (now (gains .entry)) →
+        r ≡ length (lines (marks .triggers) P)) ⌝ }
+{
+    let mut buf = [[0u64; 6]; 128];
+    let mut last = [0u64; 6];
+    let mut count: usize = 0;
+    loop {
+        let len = gather(&mut buf, last, marks, star, lag, needs, gains);
+        count += len;
+        if len < ROOM {
+            return count;
+        }
+        last = buf[ROOM - 1];
+    }
+}

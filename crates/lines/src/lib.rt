@@ -1,0 +1,58 @@
+// From prepared tables to document 01's list in a lent space. A buffer gathers the lines in order, in one walk for each buffer-full.
+ghost use mathlib.Core.Path.{_≡_};
+ghost use Rattle.cue.specs.Meaning.{Tables};
+ghost use Rattle.cue.specs.Method.{lines};
+ghost use Rattle.lines.specs.Given.{Given};
+ghost use Rattle.lines.specs.Listing.{Answers};
+use crate::count::count_lines;
+use crate::gather::gather;
+use crate::write::write_held;
+use crate::write::write_lines;
+use candidates::Marks;
+
+mod buffer;
+mod count;
+mod gather;
+mod write;
+
+// How many lines the buffer has room for: more than there are on nearly every sheet.
+pub const ROOM: usize = 128;
+
+// The count of lines written, or of those that do not fit.
+pub enum Listed {
+    Lines(usize),
+    NoRoom(usize),
+}
+
+// The list at the front of the lent space, or its count and no change.
+pub fn list(
+    out: &mut [i32],
+    marks: Marks,
+    star: &[[u64; 6]; 6],
+    lag: &[[u64; 6]; 6],
+    needs: &[[u64; 6]; 6],
+    gains: &[[u64; 6]; 6],
+) -> Listed
+    requires { ⌜ ((P : Tables) × Given P marks (now star) (now lag) (now needs) (now gains)) ⌝ }
+    ensures { λ r. ⌜ ((P : Tables) → Given P marks (now (star .entry)) (now (lag .entry)) (now (needs .entry)) (now (gains .entry)) →
+        Answers (marks .triggers) (lines (marks .triggers) P) (now (out .entry)) (now (out .exit)) r) ⌝ }
+{
+    let mut buf = [[0u64; 6]; 128];
+    let n = marks.triggers;
+    let room = out.len() / 7;
+    let len = gather(&mut buf, [0u64; 6], marks, star, lag, needs, gains);
+    // A buffer that was not filled holds the whole list.
+    if len < ROOM {
+        if room < len {
+            return Listed::NoRoom(len);
+        }
+        write_held(out, 0, &buf, len, n);
+        return Listed::Lines(len);
+    }
+    let count = count_lines(marks, star, lag, needs, gains);
+    if room < count {
+        return Listed::NoRoom(count);
+    }
+    write_lines(out, marks, star, lag, needs, gains);
+    Listed::Lines(count)
+}

@@ -1,0 +1,91 @@
+// Lines in the lent space: "seven signed 32-bit words, absent being the least such number".
+ghost use mathlib.Core.Path.{_≡_};
+ghost use Prim.Native.Nat.{ℕ, _+_, _*_, _≤_};
+ghost use mathlib.Core.List.{List};
+ghost use lib.ListN.{length, take};
+ghost use Rattle.maxplus.specs.Finite.{In};
+ghost use Rattle.cue.specs.Meaning.{Tables};
+ghost use Rattle.cue.specs.Method.{lines};
+ghost use Rattle.cue.specs.Written.{signed, line-words, list-words};
+ghost use Rattle.words.specs.Words.{entry, Close};
+ghost use Rattle.sheet.specs.Sheet.{limit};
+ghost use Rattle.tables.specs.Held.{CloselyV};
+ghost use Rattle.candidates.specs.Lines.{Sized, line-of};
+ghost use Rattle.lines.specs.Buffer.{room, held};
+ghost use Rattle.lines.specs.Given.{Given};
+ghost use Rattle.lines.specs.Space.{laid};
+use crate::ROOM;
+use crate::gather::gather;
+use candidates::Marks;
+use words::BIAS;
+
+const ABSENT: i32 = -2147483648;
+
+// The signed word of an entry.
+fn signed_word(w: u64) -> i32
+    requires { ⌜ Close (28 * limit) w ⌝ }
+    ensures { λ r. ⌜ r ≡ signed (entry w) ⌝ }
+{
+    if w == 0 {
+        return ABSENT;
+    }
+    if BIAS <= w {
+        return (w - BIAS) as i32;
+    }
+    -((BIAS - w) as i32)
+}
+
+// The words of one line from a place on.
+fn write_line(out: &mut [i32], at: usize, n: usize, c: [u64; 6])
+    requires { ⌜ (n ≤ 6) × (at + 7 ≤ length (now out)) × Sized n c × CloselyV n (28 * limit) c ⌝ }
+    ensures { λ r. ⌜ now (out .exit) ≡ laid (now (out .entry)) at (line-words n (line-of n c)) ⌝ }
+{
+    out[at] = n as i32;
+    let mut j: usize = 0;
+    while j < 6 {
+        out[at + 1 + j] = signed_word(c[j]);
+        j += 1;
+    }
+}
+
+// Those of the lines that the buffer holds.
+pub fn write_held(out: &mut [i32], at: usize, buf: &[[u64; 6]; 128], len: usize, n: usize)
+    requires { ⌜ (n ≤ 6) × (len ≤ room) × (length (now buf) ≡ room) × (at + 7 * len ≤ length (now out))
+        × ((w : List ℕ) → In w (take len (now buf)) → Sized n w × CloselyV n (28 * limit) w) ⌝ }
+    ensures { λ r. ⌜ now (out .exit) ≡ laid (now (out .entry)) at (list-words n (held n len (now (buf .entry)))) ⌝ }
+{
+    let mut k: usize = 0;
+    while k < len {
+        write_line(out, at + 7 * k, n, buf[k]);
+        k += 1;
+    }
+}
+
+// The whole list from the front of a space that has room, one buffer-full after the other.
+pub fn write_lines(
+    out: &mut [i32],
+    marks: Marks,
+    star: &[[u64; 6]; 6],
+    lag: &[[u64; 6]; 6],
+    needs: &[[u64; 6]; 6],
+    gains: &[[u64; 6]; 6],
+)
+    requires { ⌜ ((P : Tables) × Given P marks (now star) (now lag) (now needs) (now gains)
+        × (7 * length (lines (marks .triggers) P) ≤ length (now out))) ⌝ }
+    ensures { λ r. ⌜ ((P : Tables) → Given P marks (now (star .entry)) (now (lag .entry)) (now (needs .entry)) (now (gains .entry)) →
+        7 * length (lines (marks .triggers) P) ≤ length (now (out .entry)) →
+        now (out .exit) ≡ laid (now (out .entry)) 0 (list-words (marks .triggers) (lines (marks .triggers) P))) ⌝ }
+{
+    let mut buf = [[0u64; 6]; 128];
+    let mut last = [0u64; 6];
+    let mut at: usize = 0;
+    loop {
+        let len = gather(&mut buf, last, marks, star, lag, needs, gains);
+        write_held(out, at, &buf, len, marks.triggers);
+        if len < ROOM {
+            return;
+        }
+        at += 7 * len;
+        last = buf[ROOM - 1];
+    }
+}
