@@ -4,7 +4,7 @@ use mathlib.Core.List.{List, [], _∷_, _++_, append-nil, append-assoc}
 use Prim.Native.Nat.{ℕ, zero, suc, _+_, _*_, _≤_, _<_}
 use native.Mathlib.Numerals.{add-one}
 use native.Mathlib.Omega.{arith}
-use lib.ListN.{length, getD, length-append}
+use lib.ListN.{length, getD, take, length-append, length-take}
 use lib.IntN.{ℤ, pos}
 use Rattle.maxplus.specs.Finite.{each}
 use Rattle.maxplus.specs.Line.{Line, at}
@@ -114,3 +114,7 @@ pub panels-more : (f : ℕ → ℕ × ℕ) (k : ℕ) →
     panel-texts (each (suc k) (λ i. f i ∷ [])) ≡ panel-texts (each k (λ i. f i ∷ [])) ++ panel-texts (f k ∷ [])
 unfolding each
 panels-more f k = panels-append (each k (λ i. f i ∷ [])) (f k ∷ [])
+
+-- ---- the part up to r has r bytes, where there are as many
+pub counted : (r : ℕ) (xs : List ℕ) → r ≤ length xs → (r ≤ length xs) × (r ≡ length (take r xs))
+counted r xs h = (h, simp length-take (omega arith))

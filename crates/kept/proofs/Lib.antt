@@ -1,0 +1,2 @@
+-- Laws of a kept table's outcome.
+pub mod Laws

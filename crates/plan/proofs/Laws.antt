@@ -1,0 +1,136 @@
+-- What is known of a planning's outcome: a refusal has a number from 1 on, 9 a count; a plan has at most six triggers, no more lines than there
+-- is room for, and numbers that fit. So the text of the answer in a program is the text of the outcome.
+use mathlib.Core.Path.{_≡_, refl, ap, sym, subst}
+use mathlib.Core.Bool.{Bool, true, false, cond}
+use mathlib.Core.List.{List, []}
+use Prim.Native.Nat.{ℕ, _+_, _*_, _/_, _≤_, _<_}
+use native.Mathlib.Omega.{arith}
+use borrow.Author.Tests.{leb-true, leb-false}
+use lib.Dec.{leb}
+use lib.IntN.{ℤ}
+use lib.ListN.{length}
+use lib.Seq.{take-at}
+use mir.Facts.{toZ-ofZ}
+use mir.Syntax.{w64}
+use mir.Val.{SFits, toZ, ofZ}
+use Rattle.maxplus.specs.Line.{Line}
+use Rattle.maxplus.specs.Tables.{NoGain}
+use Rattle.maxplus.proofs.StarLaws.{no-gain?}
+use Rattle.cue.specs.Meaning.{Tables}
+use Rattle.cue.specs.Method.{least, steps, selections, lines}
+use Rattle.cue.proofs.Bounds.{results-32}
+use Rattle.cue.proofs.WrittenLaws.{Fitting, list-words-length}
+use Rattle.sheet.specs.Sheet.{Got, got, Sheet, read}
+use Rattle.sheet.specs.Sheet as sheet
+use Rattle.sheet.proofs.Refusals.{refusal-numbered}
+use Rattle.tables.specs.Cue.{tables-of}
+use Rattle.tables.proofs.Good.{Good, read-good}
+use Rattle.text.specs.Texts.{plan-text, refusal-text, full-text}
+use Rattle.text.specs.Writing.{Stands}
+use Rattle.planner.specs.Outcome.{Outcome, planned, full, refused, plan-of, orderly, planning, space-after}
+use Rattle.planner.specs.Answers.{plan-answer}
+use Rattle.planner.specs.Text.{text, program-text}
+use Rattle.planner.specs.declared.plan.CuePlan.{CuePlan}
+use Rattle.planner.proofs.PlanLaws.{planning-refused, planning-8, planning-listed}
+
+abbrev pub Sound : ℕ → Outcome → Type 0
+Sound room (planned n D k l L) = (n ≤ 6) × (length L ≤ room) × Fitting n L
+Sound room (full k) = 1 ≤ k
+Sound room (refused k) = 1 ≤ k
+
+listed-sound : (room : ℕ) (t : Sheet) → Good t → NoGain (t .triggers) (t .after) → Sound room (plan-of room (got t []))
+listed-sound room t G np = go (leb (length (lines n P)) room) (leb-true (length (lines n P)) room) (leb-false (length (lines n P)) room)
+  where
+    n : ℕ
+    n = t .triggers
+
+    P : Tables
+    P = tables-of t
+
+    go : (b : Bool) → (b ≡ true → length (lines n P) ≤ room) → (b ≡ false → room < length (lines n P)) →
+        Sound room (cond b (planned n (least n P) (steps n P (least n P)) (length (selections n P (least n P))) (lines n P)) (full (length (lines n P))))
+    go true f g = (G .triggers-few, f refl, λ c h i q. results-32 n P np (G .limited) (G .triggers-few) .components c h i q)
+    go false f g = let q = g refl in omega arith
+
+pub planning-sound : (s : List ℕ) (space : List ℤ) → Sound (length space / 7) (planning s space)
+planning-sound s space = go (read s) refl
+  where
+    ordered : (t : Sheet) (r : List ℕ) → read s ≡ got t r → Dec (NoGain (t .triggers) (t .after)) → Sound (length space / 7) (planning s space)
+    ordered t r e (yes np) = subst (Sound (length space / 7)) (planning-listed s space t r e np) (listed-sound (length space / 7) t (read-good s t r e) np)
+    ordered t r e (no f) = subst (Sound (length space / 7)) (sym (planning-8 s space t r e f)) (omega arith)
+
+    go : (g : Got Sheet) → read s ≡ g → Sound (length space / 7) (planning s space)
+    go (sheet.refused k) e = subst (Sound (length space / 7)) (sym (planning-refused s space k e)) (refusal-numbered s k e)
+    go (got t r) e = ordered t r e (no-gain? (t .triggers) (t .after))
+
+-- ---- the answer's text is the outcome's
+pub record Lists (o : Outcome) (space : List ℤ) (p : CuePlan) : Type 0 where
+  pub list : List (Line (p .triggers))
+  pub stands : Stands (p .triggers) (p .count) (space-after o space) list
+  pub text-is : plan-text (p .triggers) (p .deviation) (p .steps) (p .selections) list ≡ text o
+
+full-of : (room : ℕ) (o : Outcome) → ¬ (plan-answer o .refusal ≡ 0) → ¬ (plan-answer o .count ≡ 0) → full-text (plan-answer o .count) ≡ text o
+unfolding text
+full-of room (planned n D k l L) h g = absurd (h refl)
+full-of room (full k) h g = refl
+full-of room (refused k) h g = absurd (g refl)
+
+refusal-of : (room : ℕ) (o : Outcome) → Sound room o → ¬ (plan-answer o .refusal ≡ 0) → plan-answer o .count ≡ 0 →
+    refusal-text (plan-answer o .refusal) ≡ text o
+unfolding text
+refusal-of room (planned n D k l L) q h g = absurd (h refl)
+refusal-of room (full k) q h g = let x : ⊥ = omega arith in absurd x
+refusal-of room (refused k) q h g = refl
+
+few-of : (room : ℕ) (o : Outcome) → Sound room o → plan-answer o .refusal ≡ 0 → (plan-answer o .triggers ≤ 6) × (plan-answer o .count ≤ room)
+few-of room (planned n D k l L) q h = (q .0, q .1)
+few-of room (full k) q h = let x : ⊥ = omega arith in absurd x
+few-of room (refused k) q h = let x : ⊥ = omega arith in absurd x
+
+lists-of : (room : ℕ) (o : Outcome) (space : List ℤ) → Sound room o → plan-answer o .refusal ≡ 0 → Lists o space (plan-answer o)
+unfolding text space-after
+lists-of room (planned n D k l L) space q h =
+    record { list = L; stands = record { many = refl; words = take-at _ _ _ (list-words-length n L); fitting = q .2 }; text-is = refl }
+lists-of room (full k) space q h = let x : ⊥ = omega arith in absurd x
+lists-of room (refused k) space q h = let x : ⊥ = omega arith in absurd x
+
+-- ---- in the program, which lends 14,000 words
+module _ (s : List ℕ) (space : List ℤ) (sized : length space ≡ 14000) (p : CuePlan) (e : p ≡ plan-answer (planning s space)) where
+  room-is : length space / 7 ≡ 2000
+  room-is = rw sized
+
+  program-is : text (planning s space) ≡ program-text s
+  unfolding planning program-text
+  program-is = ap (λ room. text (plan-of room (orderly s))) room-is
+
+  sound : Sound 2000 (planning s space)
+  sound = subst (λ room. Sound room (planning s space)) room-is (planning-sound s space)
+
+  pub full-out : ¬ (p .refusal ≡ 0) → ¬ (p .count ≡ 0) → full-text (p .count) ≡ program-text s
+  full-out = subst (λ (p : CuePlan). ¬ (p .refusal ≡ 0) → ¬ (p .count ≡ 0) → full-text (p .count) ≡ program-text s) (sym e)
+      (λ h g. rw (← program-is) (full-of 2000 (planning s space) h g))
+
+  pub refusal-out : ¬ (p .refusal ≡ 0) → p .count ≡ 0 → refusal-text (p .refusal) ≡ program-text s
+  refusal-out = subst (λ (p : CuePlan). ¬ (p .refusal ≡ 0) → p .count ≡ 0 → refusal-text (p .refusal) ≡ program-text s) (sym e)
+      (λ h g. rw (← program-is) (refusal-of 2000 (planning s space) sound h g))
+
+  pub few-out : p .refusal ≡ 0 → (p .triggers ≤ 6) × (p .count ≤ 2000)
+  few-out = subst (λ (p : CuePlan). p .refusal ≡ 0 → (p .triggers ≤ 6) × (p .count ≤ 2000)) (sym e) (few-of 2000 (planning s space) sound)
+
+  lists : p .refusal ≡ 0 → Lists (planning s space) space p
+  lists = subst (λ (p : CuePlan). p .refusal ≡ 0 → Lists (planning s space) space p) (sym e) (lists-of 2000 (planning s space) space sound)
+
+  -- the text of a plan, its deviation read back from a signed word
+  pub plan-out : (after : List ℤ) → after ≡ space-after (planning s space) space → p .refusal ≡ 0 → SFits w64 (p .deviation) → (out : List ℕ) →
+      ((L : List (Line (p .triggers))) → Stands (p .triggers) (p .count) after L → out ≡ plan-text (p .triggers) (toZ w64 (ofZ w64 (p .deviation))) (p .steps) (p .selections) L) →
+      out ≡ program-text s
+  plan-out after w h f out t =
+      let l = lists h in
+      rw (t (l .list) (rw w (l .stands)), toZ-ofZ f, l .text-is) program-is
+
+-- the program's room for 2,000 lines
+pub bytes-for : (len count : ℕ) → 200200 ≤ len → count ≤ 2000 → 100 * count + 200 ≤ len
+bytes-for len count h q = omega arith
+
+pub words-for : (len count : ℕ) → 14000 ≤ len → count ≤ 2000 → 7 * count ≤ len
+words-for len count h q = omega arith

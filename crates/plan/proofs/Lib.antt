@@ -1,0 +1,2 @@
+-- Laws of a planning's outcome.
+pub mod Laws

@@ -1,0 +1,4 @@
+-- Laws of the argument's numbers, and of the text that is written.
+pub mod NumeralLaws
+pub mod TimesLaws
+pub mod OutputLaws

@@ -1,0 +1,4 @@
+-- What the argument means, and what the program writes.
+pub mod Times
+pub mod Inner
+pub mod Output

@@ -1,0 +1,67 @@
+// The times of the argument, such as `0,1`: numerals as in a sheet, split by one comma.
+ghost use mathlib.Core.Path.{_≡_};
+ghost use Prim.Native.Nat.{ℕ, suc};
+ghost use Rattle.sheet.specs.Sheet.{refused};
+ghost use lib.ListN.{length};
+ghost use Rattle.tightest.specs.Times.{numbers};
+ghost use Rattle.tightest.specs.Inner.{times-of, put-at};
+use crate::numeral::Number;
+use crate::numeral::number_at;
+
+// How many numbers the argument has, and the first six; or that it is no list of numerals.
+pub struct Components {
+    pub numerals: bool,
+    pub count: usize,
+    pub at: [i64; 6],
+}
+
+// Reads the argument: any bytes have one answer.
+pub fn times(s: &[u8]) -> Components
+    ensures { λ r. ⌜ r ≡ times-of (numbers (suc (length (now (s .entry)))) (now (s .entry))) ⌝ }
+{
+    let mut at = [0i64; 6];
+    let mut count: usize = 0;
+    let mut place: usize = 0;
+    loop {
+        match number_at(s, place) {
+            Number::Is(word, next) => {
+                put(&mut at, count, words::number(word));
+                count += 1;
+                if next == s.len() {
+                    return Components {
+                        numerals: true,
+                        count: count,
+                        at: at,
+                    };
+                }
+                if s[next] != b',' {
+                    return no_times();
+                }
+                place = next + 1;
+            }
+            Number::Faulty => {
+                return no_times();
+            }
+        }
+    }
+}
+
+// The component at `count`, where there is room: a timing of more than six is refused for its count alone.
+fn put(at: &mut [i64; 6], count: usize, x: i64)
+    ensures { λ _. ⌜ now (at .exit) ≡ put-at (now (at .entry)) count x ⌝ }
+{
+    if count < 6 {
+        at[count] = x;
+    }
+}
+
+// The answer for an argument that is no list of numerals.
+fn no_times() -> Components
+    ensures { λ r. ⌜ ((k : ℕ) → r ≡ times-of (refused k)) ⌝ }
+{
+    Components {
+        numerals: false,
+        count: 0,
+        at: [0i64; 6],
+    }
+}
