@@ -2,6 +2,7 @@
 //!
 //! - `compare [SECONDS] [SEED]` compares for about SECONDS seconds (4)
 //! - `compare --self` checks the reference and the search by themselves
+//! - `compare --time FILE..` times planning of each sheet; none may take longer than 0.1 s
 //! - `compare --plan`, `compare --kept` write the reference's text for the sheet on standard input
 
 mod cases;
@@ -21,11 +22,17 @@ use sheets::Random;
 use std::io::Read;
 use std::process::ExitCode;
 use std::time::{Duration, Instant};
-use under_test::UNDER_TEST;
+use under_test::{PlanAnswer, UNDER_TEST};
 
-const USAGE: &str = "usage: compare [SECONDS] [SEED] | --self | --plan | --kept";
+const USAGE: &str = "usage: compare [SECONDS] [SEED] | --self | --time FILE.. | --plan | --kept";
 const SECONDS: f64 = 4.0;
 const SEED: u64 = 1;
+/// Plannings of a sheet that are timed; their median counts.
+const TIMED: usize = 15;
+/// No timed sheet may take longer.
+const LONGEST: Duration = Duration::from_millis(100);
+/// Words lent to a timed planning, enough for any list.
+const TIMED_SPACE: usize = 1 << 21;
 /// Differences that are printed in full.
 const SHOWN: u64 = 3;
 /// Pairs of small sheets that `--self` searches.
@@ -40,6 +47,7 @@ fn main() -> ExitCode {
     let arguments: Vec<&str> = arguments.iter().map(String::as_str).collect();
     match arguments[..] {
         ["--self"] => run_self(),
+        ["--time", ref files @ ..] => run_time(files),
         ["--plan"] => write_text(reference::plan_text),
         ["--kept"] => write_text(reference::kept_text),
         [] => run(SECONDS, SEED),
@@ -75,6 +83,49 @@ fn write_text(text: fn(&[u8]) -> String) -> ExitCode {
 fn verdict(passed: u64, failed: u64) -> ExitCode {
     println!("{passed} passed, {failed} failed");
     ExitCode::from(u8::from(failed > 0))
+}
+
+// ---------------------------------------------------------------- compare --time
+
+fn run_time(files: &[&str]) -> ExitCode {
+    let mut checks = Checks::default();
+    for file in files {
+        let sheet = std::fs::read(file).unwrap_or_default();
+        let (answer, median) = timed(&sheet);
+        let [deviation, steps, selections, count, ..] = answer.words;
+        let good = answer.code == 0 && median <= LONGEST;
+        let ms = median.as_secs_f64() * 1e3;
+        let code = answer.code;
+        let what = format!(
+            "{file}: {ms:.2} ms, code {code}, Δ {deviation}, steps {steps}, selections {selections}, count {count}"
+        );
+        println!("{what}");
+        checks.check(&what, good);
+    }
+    verdict(checks.passed, checks.failed)
+}
+
+/// The answer of planning a sheet, and the median of its times.
+fn timed(sheet: &[u8]) -> (PlanAnswer, Duration) {
+    let mut space = vec![0; TIMED_SPACE];
+    let mut answer = (UNDER_TEST.plan)(sheet, &mut space);
+    let mut times = [Duration::ZERO; TIMED];
+    for time in &mut times {
+        let start = processor_time();
+        answer = (UNDER_TEST.plan)(sheet, &mut space);
+        *time = processor_time() - start;
+    }
+    times.sort();
+    (answer, times[TIMED / 2])
+}
+
+/// The time that this process has had a processor, so that others on the machine do not count.
+fn processor_time() -> Duration {
+    unsafe extern "C" {
+        fn clock() -> std::ffi::c_long;
+    }
+    // SAFETY: C's `clock` takes nothing and only reads a counter, in microseconds on POSIX.
+    Duration::from_micros(unsafe { clock() }.max(0) as u64)
 }
 
 // ---------------------------------------------------------------- compare --self

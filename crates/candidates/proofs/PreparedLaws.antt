@@ -7,7 +7,7 @@ use native.Mathlib.Decide.{ℕ-discrete}
 use native.Mathlib.Omega.{arith}
 use lib.ListN.{length, getD}
 use Rattle.maxplus.specs.Entry.{E, num, _≼_, _⊗_, _⊕_, inv}
-use Rattle.maxplus.specs.Finite.{In}
+use Rattle.maxplus.proofs.FiniteLaws.{in-at}
 use Rattle.maxplus.specs.Tables.{sup, supL, Vec, mv, idm, star, normal}
 use Rattle.maxplus.specs.Line.{line}
 use Rattle.maxplus.proofs.EntryLaws.{_▸_, ≼-anti, ≼-back, ⊕-l, ⊕-r, ⊕-lub, ⊗-nothing, inv-num}
@@ -35,12 +35,7 @@ word-of : {k l c : ℕ} (e : E) → k ≤ c → l ≤ c → c ≤ far → Within
 word-of {k} {l} {c} e hk hl hc w = let is = entry-word e (λ z f. let b = w .low .above z f in omega arith) in
     (word e, is, close-within c (word e) is hk hl w)
 
--- ---- members of lists, and largest values over them
-in-getD : (l : List ℕ) (k : ℕ) → k < length l → In (getD l k 0) l
-in-getD [] k h = let e : ⊥ = omega arith in absurd e
-in-getD (a ∷ l) zero h = inl refl
-in-getD (a ∷ l) (suc k) h = inr (in-getD l k (omega arith))
-
+-- ---- largest values over the members of a list
 sup-front : (n : ℕ) (f : ℕ → E) → sup (suc n) f ≡ f 0 ⊕ sup n (λ l. f (suc l))
 sup-front n f = ≼-anti
     (sup-lub (suc n) f (λ j h. elim (ℕ-discrete j 0) [ yes e ↦ rw e (⊕-l _ _) | no e ↦ later j (omega arith) (omega arith) ]))
@@ -107,7 +102,7 @@ module _ {n : ℕ} {P : Tables} {M : Marks} {stars lags needs : List (List ℕ)}
 
   floored-panel : (l : ℕ) → l < M .levels → floored l < panels
   unfolding floored
-  floored-panel l h = floor-panels-in n P _ (in-getD (floor-panels n P) l (let e = p .levels in omega arith)) .0
+  floored-panel l h = floor-panels-in n P _ (in-at 0 (floor-panels n P) l (let e = p .levels in omega arith)) .0
 
   pub needs-close : Closely (M .levels) n (15 * limit) needs
   unfolding floored meant meantV

@@ -13,8 +13,8 @@ use lib.Seq.{take-suc, take-all, take-at, length-take-le, getD-take}
 use Rattle.maxplus.specs.Finite.{In, mapL}
 use Rattle.maxplus.specs.Line.{Line, ltL}
 use Rattle.maxplus.specs.Sorted.{Cmp, less, same, more, put}
-use Rattle.maxplus.proofs.FiniteLaws.{in-app}
-use Rattle.maxplus.proofs.EachLaws.{map-append, map-length}
+use Rattle.maxplus.proofs.FiniteLaws.{in-app, in-at}
+use Rattle.maxplus.proofs.EachLaws.{map-append, map-length, map-at}
 use Rattle.maxplus.proofs.LineLaws.{strict}
 use Rattle.maxplus.proofs.SortedLaws.{gt?}
 use Rattle.generators.proofs.MinimalLaws.{Increasing}
@@ -25,7 +25,7 @@ use Rattle.candidates.proofs.OrderLaws.{below-says}
 use Rattle.lines.specs.Buffer.{room, row, Before, Ordered, Placed, Fresh, between, Inserted, held, Stored}
 use Rattle.lines.specs.Space.{laid}
 use Rattle.lines.proofs.SpaceLaws.{laid-more, list-words-more, list-words-one}
-use Rattle.lines.proofs.ListLaws.{in-at, in-take, in-drop, sorted-at, put-new, put-there, map-take, map-drop, map-at}
+use Rattle.lines.proofs.ListLaws.{in-take, in-drop, sorted-at, put-new, put-there, map-take, map-drop}
 
 module _ (n : ℕ) (buf : List (List ℕ)) where
   pub held-length : (len : ℕ) → len ≤ length buf → length (held n len buf) ≡ len

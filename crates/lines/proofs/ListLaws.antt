@@ -5,17 +5,13 @@ use mathlib.Core.List.{List, [], _∷_}
 use Prim.Native.Nat.{ℕ, zero, suc, _≤_, _<_}
 use native.Mathlib.Omega.{arith}
 use lib.ListN.{length, getD, take, drop}
+use Rattle.maxplus.proofs.FiniteLaws.{in-at}
 use Rattle.maxplus.specs.Finite.{In, mapL}
 use Rattle.maxplus.specs.Sorted.{Cmp, less, same, more, Strict, Sorted, put}
 use Rattle.lines.specs.Buffer.{between}
 
 -- ---- members
 module _ {A : Type 0} where
-  pub in-at : (d : A) (l : List A) (k : ℕ) → k < length l → In (getD l k d) l
-  in-at d [] k h = let e : ⊥ = omega arith in absurd e
-  in-at d (a ∷ l) zero h = inl refl
-  in-at d (a ∷ l) (suc k) h = inr (in-at d l k (omega arith))
-
   pub in-take : (k : ℕ) (l : List A) (a : A) → In a (take k l) → In a l
   in-take zero l a h = absurd h
   in-take (suc k) [] a h = absurd h
@@ -90,9 +86,3 @@ module _ {A C : Type 0} (f : A → C) where
   map-drop zero l = refl
   map-drop (suc k) [] = refl
   map-drop (suc k) (a ∷ l) = map-drop k l
-
-  pub map-at : (l : List A) (k : ℕ) (a : A) (c : C) → k < length l → getD (mapL f l) k c ≡ f (getD l k a)
-  unfolding mapL
-  map-at [] k a c h = let e : ⊥ = omega arith in absurd e
-  map-at (b ∷ l) zero a c h = refl
-  map-at (b ∷ l) (suc k) a c h = map-at l k a c (omega arith)

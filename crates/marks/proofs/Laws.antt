@@ -1,16 +1,15 @@
 -- Laws of a sheet's marks: what each step asks and gives, so that the walk follows document 01's and the lines are drawn from prepared words.
-use mathlib.Core.Path.{_≡_, refl, ap, ap₂, sym, subst, _∙_}
-use mathlib.Core.Bool.{Bool, _&&_}
+use mathlib.Core.Path.{_≡_, refl, ap, ap₂, sym, _∙_}
 use mathlib.Core.List.{List, [], _∷_}
 use Prim.Native.Nat.{ℕ, zero, suc, _*_, _≤_, _<_}
 use native.Mathlib.Omega.{arith}
 use native.Mathlib.Decide.{decLt}
-use lib.Dec.{T, ltb, leb}
-use lib.ListN.{length, getD, take}
+use lib.ListN.{length, getD}
 use lib.Seq.{getD-take}
-use Rattle.maxplus.specs.Entry.{E, num, _⊗_, inv, leqE}
-use Rattle.maxplus.specs.Tables.{star, NoGain}
+use Rattle.maxplus.specs.Entry.{num, _⊗_, inv, leqE}
 use Rattle.maxplus.specs.Finite.{In}
+use Rattle.maxplus.proofs.FiniteLaws.{in-at}
+use Rattle.maxplus.proofs.EachLaws.{map-at}
 use Rattle.maxplus.proofs.EntryLaws.{inv-num, absent-not}
 use Rattle.cue.proofs.Walk.{in-floor-panels, floor-panels-few}
 use Rattle.cue.specs.Meaning.{Tables}
@@ -23,7 +22,7 @@ use Rattle.tables.specs.Held.{meant, meantV, Holds, HoldsV, Closely, CloselyV}
 use Rattle.tables.specs.Steps.{pull-of, least-of, kept-of, KeptBytes, floored}
 use Rattle.tables.specs.Levels.{PackedAs, LevelsClose}
 use Rattle.tables.specs.declared.levels.Packed.{Packed}
-use Rattle.tables.proofs.Results.{HeldBy, floors-close, dues-close, star-close, through-close, pulls-held, pulls-close, least-held, least-close, kept-held, floored-is, level-floored, at-in, map-at, kept-bit, kept-small}
+use Rattle.tables.proofs.Results.{floors-close, dues-close, star-close, through-close, pulls-held, pulls-close, least-held, least-close, kept-held, floored-is, level-floored, kept-bit, kept-small}
 use Rattle.words.proofs.Laws.{word-order, close-more, close-minus, entry-zero}
 use Rattle.walk.specs.Trace.{bit}
 use Rattle.walk.specs.Follows.{Follows}
@@ -127,13 +126,13 @@ module _ (P : Tables) (t : Sheet) (stars throughs : List (List ℕ)) (F : Fit P 
 
   panel-there : (l : ℕ) → l < r .marks .levels → getD (r .at) l 0 < P .panels
   panel-there l h = rw (panel-at l h) (level-floored (t .triggers) P (F .lags) (F .afters) (t .floor) (t .due) (F .held) _
-      (at-in (floor-panels (t .triggers) P) l (let q = levels-many in omega arith)) .0)
+      (in-at 0 (floor-panels (t .triggers) P) l (let q = levels-many in omega arith)) .0)
 
   -- a level's byte is its panel's
   level-byte : (l : ℕ) → l < r .marks .levels →
       getD (r .marks .kept) l 0 ≡ kept-byte (t .triggers) P (least (t .triggers) P) (getD (floor-panels (t .triggers) P) l 0)
   level-byte l h = sym (getD-take (r .marks .levels) (r .marks .kept) l 0 h) ∙ ap (λ a. getD a l 0) (M .packed .bytes-are) ∙
-      map-at (λ i. getD (r .kept) i 0) (floored (P .panels) (meantV (t .floor))) l (let q = M .packed .many in omega arith) ∙
+      map-at (λ i. getD (r .kept) i 0) (floored (P .panels) (meantV (t .floor))) l 0 0 (let q = M .packed .many in omega arith) ∙
       ap (λ i. getD (r .kept) i 0) (ap (λ a. getD a l 0) (floored-is (t .triggers) P (F .lags) (F .afters) (t .floor) (t .due) (F .held))) ∙
       M .bytes _ (rw (← panel-at l h) (panel-there l h))
 

@@ -63,6 +63,12 @@ module _ {A C : Type 0} (h : A → C) where
   map-length [] = refl
   map-length (x ∷ l) = ap suc (map-length l)
 
+  pub map-at : (l : List A) (k : ℕ) (a : A) (c : C) → k < length l → getD (mapL h l) k c ≡ h (getD l k a)
+  unfolding mapL
+  map-at [] k a c q = let e : ⊥ = omega arith in absurd e
+  map-at (b ∷ l) zero a c q = refl
+  map-at (b ∷ l) (suc k) a c q = map-at l k a c (omega arith)
+
 pub map-twice : {A C : Type 0} (g : A → A) (h k : A → C) → ((a : A) → h (g a) ≡ k a) → (l : List A) → mapL h (mapL g l) ≡ mapL k l
 unfolding mapL
 map-twice g h k e [] = refl

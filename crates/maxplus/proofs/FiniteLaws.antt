@@ -7,6 +7,7 @@ use Prim.Native.Nat.{ℕ, zero, suc, _<_}
 use native.Mathlib.Omega.{arith}
 use native.Mathlib.Decide.{ℕ-discrete}
 use lib.Dec.{T}
+use lib.ListN.{length, getD}
 use Rattle.maxplus.specs.Finite.{In, each, mapL}
 
 -- ---- decisions below a bound
@@ -116,3 +117,9 @@ module _ {A C : Type 0} where
   map-in f [] c h = absurd h
   map-in f (b ∷ l) c (inl e) = (b, inl refl, e)
   map-in f (b ∷ l) c (inr h) = let t = map-in f l c h in (t .0, inr (t .1), t .2)
+
+-- ---- the places of a list
+pub in-at : {A : Type 0} (d : A) (l : List A) (k : ℕ) → k < length l → In (getD l k d) l
+in-at d [] k h = let e : ⊥ = omega arith in absurd e
+in-at d (a ∷ l) zero h = inl refl
+in-at d (a ∷ l) (suc k) h = inr (in-at d l k (omega arith))

@@ -1,6 +1,6 @@
 -- Laws of the whole sheet: what rows that were read say of its tables, and how the parts of the reading follow one another.
 use mathlib.Core.Path.{_≡_, refl, ap, sym, subst, _∙_}
-use mathlib.Core.Logic.{inl, inr}
+use mathlib.Core.Logic.{inl}
 use mathlib.Core.List.{List, [], _∷_}
 use mathlib.Core.Bool.{Bool, true, false, cond, not, _||_}
 use Prim.Native.Nat.{ℕ, zero, suc, _+_, _≤_, _<_}
@@ -14,6 +14,7 @@ use lib.IntN.{pos, negsuc}
 use Rattle.maxplus.specs.Whole.{up, dn}
 use Rattle.maxplus.specs.Entry.{E, absent, num, val}
 use Rattle.maxplus.specs.Finite.{In}
+use Rattle.maxplus.proofs.FiniteLaws.{in-at}
 use Rattle.words.specs.Words.{bias, word}
 use Rattle.sheet.specs.Text.{bytes}
 use Rattle.sheet.specs.Sheet.{Got, got, refused, _>>=_, Rule, size, entry, mark, limit, out-of-range, no-size, absent?, any, all, checked, line, rows, row, table, Sheet, count, finished, tables, lines, read}
@@ -153,11 +154,6 @@ unfolding any
 any-none f [] h = refl
 any-none f (es ∷ t) h = rw (h 0 (omega arith)) (any-none f t (λ k q. h (suc k) (omega arith)))
 
-in-at : (t : List (List E)) (k : ℕ) → k < length t → In (getD t k []) t
-in-at [] k h = let x : ⊥ = omega arith in absurd x
-in-at (es ∷ t) zero h = inl refl
-in-at (es ∷ t) (suc k) h = inr (in-at t k (omega arith))
-
 table-row : (t : List (List E)) (k : ℕ) → table t k ≡ row (getD t k [])
 unfolding table
 table-row [] k = refl
@@ -170,7 +166,7 @@ module _ (rs : List Row) (d : Row) (lines n : ℕ) (t : List (List E)) (six : li
       ∙ strip-at (table t k) j q ∙ ap (λ v. word (v j)) (table-row t k)
 
   in-rows : (k : ℕ) → k < lines → In (getD t k []) t
-  in-rows k h = in-at t k (let p = R .tall in omega arith)
+  in-rows k h = in-at [] t k (let p = R .tall in omega arith)
 
   pub empty-found : (k : ℕ) → k < lines → EmptyWords (getD rs k d .at) true → any (all absent?) t ≡ true
   empty-found k h e = any-at (all absent?) t k (let p = R .tall in omega arith) (ap not
@@ -185,14 +181,14 @@ module _ (rs : List Row) (d : Row) (lines n : ℕ) (t : List (List E)) (six : li
       ap not (row-full (getD t k []) j (λ x. f (word-there k j h l ∙ x))))
 
 -- ---- the due marks, all present
-row-present : (es : List E) (j : ℕ) → any absent? es ≡ false → j < length es → row es j ≡ num (val (row es j))
+pub row-present : (es : List E) (j : ℕ) → any absent? es ≡ false → j < length es → row es j ≡ num (val (row es j))
 unfolding any row val
 row-present [] j g h = let x : ⊥ = omega arith in absurd x
 row-present (absent ∷ es) j g h = absurd (true-not-false g)
 row-present (num z ∷ es) zero g h = refl
 row-present (num z ∷ es) (suc j) g h = row-present es j g (omega arith)
 
-row-past : (es : List E) (j : ℕ) → length es ≤ j → row es j ≡ absent
+pub row-past : (es : List E) (j : ℕ) → length es ≤ j → row es j ≡ absent
 unfolding row
 row-past [] j h = refl
 row-past (e ∷ es) zero h = let x : ⊥ = omega arith in absurd x

@@ -3,7 +3,7 @@
 use mathlib.Core.Path.{_≡_, refl, ap, sym, subst, _∙_}
 use mathlib.Core.Logic.{_⊎_, inl, inr}
 use mathlib.Core.List.{List, [], _∷_}
-use mathlib.Core.Bool.{Bool, true, false, cond, _||_}
+use mathlib.Core.Bool.{Bool, true, false, cond}
 use Prim.Native.Nat.{ℕ, zero, suc, _≤_, _<_}
 use native.Mathlib.Omega.{arith}
 use native.Mathlib.Decide.{decLt}
@@ -17,7 +17,8 @@ use Rattle.maxplus.proofs.EntryLaws.{num-inj, absent-not}
 use Rattle.sheet.specs.Text.{bytes}
 use Rattle.sheet.specs.Sheet.{Got, got, refused, _>>=_, literal, ended, items, Rule, size, entry, mark, limit, no-size, out-of-range, absent?}
 use Rattle.sheet.specs.Sheet.{any, all, checked, line, rows, row, table, Sheet, count, finished, tables, lines, read}
-use Rattle.sheet.proofs.SheetLaws.{one-size, sheet-of}
+use Rattle.sheet.proofs.SheetLaws.{one-size, sheet-of, row-past, row-present}
+use Rattle.sheet.proofs.FaultLaws.{none-or}
 use Rattle.cue.specs.Meaning.{Readable}
 use Rattle.cue.proofs.Bounds.{Within, Limited}
 use Rattle.tables.specs.Cue.{tables-of}
@@ -34,10 +35,6 @@ bind-got (refused k) e = absurd (not-got e)
 passed : {A : Type 0} (b : Bool) (k : ℕ) (g : Got A) {a : A} {s : List ℕ} → cond b (refused k) g ≡ got a s → (b ≡ false) × (g ≡ got a s)
 passed true k g e = absurd (not-got e)
 passed false k g e = (refl, e)
-
-or-false : (a b : Bool) → a || b ≡ false → (a ≡ false) × (b ≡ false)
-or-false true b e = absurd (let z : _≡_ {A = ℕ} 0 1 = cc in let x : ⊥ = omega arith in x)
-or-false false b e = (refl, e)
 
 -- ---- a line
 items-long : (k : ℕ) (s : List ℕ) {es : List E} {r : List ℕ} → items k s ≡ got es r → length es ≡ k
@@ -86,7 +83,7 @@ module _ {n : ℕ} {es : List E} where
 entry-within : (e : E) → out-of-range e ≡ false → Within limit limit e
 entry-within absent h = record { low = record { above = λ z e. absurd (absent-not e) }; high = record { below = λ z e. absurd (absent-not e) } }
 entry-within (num z) h =
-    let p = or-false (ltb limit (up z)) (ltb limit (dn z)) h in
+    let p = none-or (ltb limit (up z)) (ltb limit (dn z)) h in
     let u = ltb-false limit (up z) (p .0) in
     let d = ltb-false limit (dn z) (p .1) in
     record { low = record { above = λ y e. rw (← num-inj e) (omega arith) }; high = record { below = λ y e. rw (← num-inj e) (omega arith) } }
@@ -94,21 +91,8 @@ entry-within (num z) h =
 row-within : (es : List E) (j : ℕ) → any out-of-range es ≡ false → Within limit limit (row es j)
 unfolding row any
 row-within [] j h = entry-within absent refl
-row-within (e ∷ es) zero h = entry-within e (or-false (out-of-range e) (any out-of-range es) h .0)
-row-within (e ∷ es) (suc j) h = row-within es j (or-false (out-of-range e) (any out-of-range es) h .1)
-
-row-past : (es : List E) (j : ℕ) → length es ≤ j → row es j ≡ absent
-unfolding row
-row-past [] j h = refl
-row-past (e ∷ es) zero h = let x : ⊥ = omega arith in absurd x
-row-past (e ∷ es) (suc j) h = row-past es j (omega arith)
-
-row-there : (es : List E) (j : ℕ) → any absent? es ≡ false → j < length es → row es j ≡ num (val (row es j))
-unfolding row any val
-row-there [] j g h = let x : ⊥ = omega arith in absurd x
-row-there (absent ∷ es) j g h = absurd (let z : _≡_ {A = ℕ} 0 1 = cc in let x : ⊥ = omega arith in x)
-row-there (num z ∷ es) zero g h = refl
-row-there (num z ∷ es) (suc j) g h = row-there es j g (omega arith)
+row-within (e ∷ es) zero h = entry-within e (none-or (out-of-range e) (any out-of-range es) h .0)
+row-within (e ∷ es) (suc j) h = row-within es j (none-or (out-of-range e) (any out-of-range es) h .1)
 
 row-some : (es : List E) → all absent? es ≡ false → (j : ℕ) × (j < length es) × Present (row es j)
 unfolding row any
@@ -145,8 +129,8 @@ rows-past key r (suc m) n s {t} e (suc i) h =
 
 any-in : (f : List E → Bool) (t : List (List E)) (es : List E) → any f t ≡ false → In es t → f es ≡ false
 unfolding any
-any-in f (fs ∷ t) es h (inl e) = rw e (or-false (f fs) (any f t) h .0)
-any-in f (fs ∷ t) es h (inr q) = any-in f t es (or-false (f fs) (any f t) h .1) q
+any-in f (fs ∷ t) es h (inl e) = rw e (none-or (f fs) (any f t) h .0)
+any-in f (fs ∷ t) es h (inr q) = any-in f t es (none-or (f fs) (any f t) h .1) q
 
 module _ (key : List ℕ) (m n : ℕ) (s : List ℕ) {t : List (List E)} {x : List ℕ} (e : rows key entry m n s ≡ got t x) where
   table-within : (i j : ℕ) → i < m → Within limit limit (table t i j)
@@ -206,7 +190,7 @@ module _ (m n : ℕ) (some-m : 1 ≤ m) (few-m : m ≤ 6) (some-n : 1 ≤ n) (fe
       lags = λ i j hi hj. table-within (bytes "lag=") m n (T .x₁) (T .lags) i j hi;
       floors = λ i h. row-within floor i (entries-in (T .floors));
       dues = λ j h. let p = marks-in (T .dues) in
-          subst (Within limit limit) (row-there due j (p .1) (let c = T .dues .long in omega arith)) (row-within due j (p .0));
+          subst (Within limit limit) (row-present due j (p .1) (let c = T .dues .long in omega arith)) (row-within due j (p .0));
       afters = λ i j hi hj. table-within (bytes "after=") n n (T .x₂) (T .afters) i j hi;
     };
     lag-past = table-past (bytes "lag=") m n (T .x₁) (T .lags);

@@ -1,6 +1,6 @@
 -- For a sheet whose tables arrays of words hold: what each function's result is, in the words of the method, and how far its words go.
 use mathlib.Core.Path.{_≡_, refl, ap, ap₂, sym, subst, _∙_}
-use mathlib.Core.Logic.{inl, inr}
+use mathlib.Core.Logic.{inl}
 use mathlib.Core.List.{List, [], _∷_}
 use mathlib.Core.Bool.{Bool, true, false, cond, _&&_}
 use Prim.Native.Nat.{ℕ, zero, suc, _*_, _≤_, _<_}
@@ -14,11 +14,11 @@ use lib.ListN.{length, getD, take}
 use lib.Seq.{getD-take}
 use borrow.Author.Tests.{lt-ltb}
 use Rattle.maxplus.specs.Entry.{E, absent, num, _⊗_, inv, leqE, Present, present?}
-use Rattle.maxplus.specs.Finite.{In, onlyIf, mapL}
+use Rattle.maxplus.specs.Finite.{In, onlyIf}
 use Rattle.maxplus.specs.Tables.{Vec, Mat, sup, mv, mm, power, star, NoGain}
 use Rattle.maxplus.proofs.EntryLaws.{_▸_, ≼-of, ≼-back, inv-num, present?-yes}
-use Rattle.maxplus.proofs.FiniteLaws.{each-in}
-use Rattle.maxplus.proofs.EachLaws.{each-same}
+use Rattle.maxplus.proofs.FiniteLaws.{each-in, in-at}
+use Rattle.maxplus.proofs.EachLaws.{each-same, map-at}
 use Rattle.maxplus.proofs.SupLaws.{sup-ext}
 use Rattle.words.specs.Words.{word, entry, Close}
 use Rattle.words.proofs.Laws.{entry-word, word-order}
@@ -93,18 +93,6 @@ power-ext : (n : ℕ) (A B : Mat) → ((i j : ℕ) → i < n → j < n → A i j
 unfolding power mm
 power-ext n A B h zero i j hi hj = refl
 power-ext n A B h (suc k) i j hi hj = sup-ext n (λ l hl. ap₂ _⊗_ (h i l hi hl) (power-ext n A B h k l j hl hj))
-
--- ---- the places of a list
-pub at-in : (l : List ℕ) (k : ℕ) → k < length l → In (getD l k 0) l
-at-in [] k h = let x : ⊥ = omega arith in absurd x
-at-in (a ∷ l) zero h = inl refl
-at-in (a ∷ l) (suc k) h = inr (at-in l k (omega arith))
-
-pub map-at : (f : ℕ → ℕ) (l : List ℕ) (k : ℕ) → k < length l → getD (mapL f l) k 0 ≡ f (getD l k 0)
-unfolding mapL
-map-at f [] k h = let x : ⊥ = omega arith in absurd x
-map-at f (a ∷ l) zero h = refl
-map-at f (a ∷ l) (suc k) h = map-at f l k (omega arith)
 
 -- ---- the bits of a kept byte, for any tables
 module _ (n : ℕ) (P : Tables) (D : ℤ) (i : ℕ) where
@@ -227,11 +215,11 @@ module _ (n : ℕ) (P : Tables) (lag after : List (List ℕ)) (floor due : List 
         packed-at l h = sym (getD-take (k .panels) (k .at) l 0 h) ∙ ap (λ a. getD a l 0) packed-panels
 
         pub level-panel : (l : ℕ) → l < k .panels → (getD (k .at) l 0 < P .panels) × Present (P .floor (getD (k .at) l 0))
-        level-panel l h = rw (packed-at l h) (level-floored _ (at-in (floor-panels n P) l (let q = packed-many in omega arith)))
+        level-panel l h = rw (packed-at l h) (level-floored _ (in-at 0 (floor-panels n P) l (let q = packed-many in omega arith)))
 
         pub packed-byte : (l : ℕ) → l < k .panels → getD (k .kept) l 0 ≡ kept-byte n P D (getD (k .at) l 0)
         packed-byte l h = sym (getD-take (k .panels) (k .kept) l 0 h) ∙ ap (λ a. getD a l 0) (hk .bytes-are) ∙
-            map-at (λ i. getD r i 0) (floored (P .panels) (meantV floor)) l (let q = hk .many in omega arith) ∙
+            map-at (λ i. getD r i 0) (floored (P .panels) (meantV floor)) l 0 0 (let q = hk .many in omega arith) ∙
             ap (λ i. getD r i 0) (ap (λ a. getD a l 0) (sym (hk .panels-are)) ∙ getD-take (k .panels) (k .at) l 0 h) ∙
             kept-held _ (level-panel l h .0)
 

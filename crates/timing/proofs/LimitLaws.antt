@@ -20,10 +20,6 @@ pub clash : {A : Type 0} → true ≡ false → A
 clash e = let z : _≡_ {A = ℕ} 0 1 = cc in let x : ⊥ = omega arith in absurd x
 
 -- ---- some of the first places pass a test
-pub neither : (a b : Bool) → (a || b) ≡ false → (a ≡ false) × (b ≡ false)
-neither true b e = clash e
-neither false b e = (refl, e)
-
 module _ {A : Type 0} (f : A → Bool) where
   any-end : (l : List A) (a : A) → any f (l ++ (a ∷ [])) ≡ (any f l || f a)
   unfolding any

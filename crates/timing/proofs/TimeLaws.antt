@@ -21,12 +21,13 @@ use Rattle.words.specs.Words.{word, entry, Close}
 use Rattle.words.proofs.Laws.{entry-word, close-of}
 use Rattle.tables.specs.Held.{meantV}
 use Rattle.tables.proofs.Loops.{Filled, filled-none, filled-more}
+use Rattle.sheet.proofs.FaultLaws.{none-or}
 use Rattle.timing.specs.Times.{far-limit, beyond, some-beyond, TimingWords}
-use Rattle.timing.proofs.LimitLaws.{clash, neither, none-at, read}
+use Rattle.timing.proofs.LimitLaws.{clash, none-at, read}
 
 -- ---- the word of a component, by its sign
 near : (x : ℤ) → beyond x ≡ false → (up x ≤ far-limit) × (dn x ≤ far-limit)
-near x b = let e = neither (ltb far-limit (up x)) (ltb far-limit (dn x)) b in (ltb-false _ _ (e .0), ltb-false _ _ (e .1))
+near x b = let e = none-or (ltb far-limit (up x)) (ltb far-limit (dn x)) b in (ltb-false _ _ (e .0), ltb-false _ _ (e .1))
 
 -- what the code makes of a number below 0, by the machine's difference
 abbrev pub turned : ℤ → ℤ

@@ -1,0 +1,3 @@
+-- How far the numbers of an answer go.
+pub mod Few
+pub mod Storing

@@ -1,0 +1,30 @@
+-- `planner_c::tuzhelar_kept` meets its contract. Assumes nothing.
+use mathlib.Core.Path.{ap, sym, subst, _∙_}
+use Prim.Native.Nat.{_≤_}
+use Rattle.planner.specs.declared.kept.KeptTable.{KeptTable}
+use Rattle.planner_c.specs.Words.{kept-words}
+use Rattle.planner_c.proofs.Few.{panels-few}
+use borrow.Author.Needs.{needs}
+use Rattle.planner_c.proofs.tuzhelar_kept.Statement.{statement}
+use Rattle.planner_c.proofs.tuzhelar_kept.Tie as tie
+
+kept-table-requires : tie.Need-kept-table-requires
+kept-table-requires c κs = search needs
+
+write-kept-requires : tie.Need-write-kept-requires
+write-kept-requires c κs = subst (λ (r : KeptTable). r .panels ≤ 6) (sym (c .before .kept-table .ensures)) (panels-few _)
+
+cast-result : tie.Need-cast-result
+cast-result c = search needs
+
+same-length : tie.Need-same-length
+same-length c = search needs
+
+returns : tie.Need-returns
+returns c =
+    let p = c .before .before .before .before .kept-table .ensures in
+    (ap (λ (r : KeptTable). r .refusal) p, c .before .before .write-kept .ensures ∙ ap (λ (r : KeptTable). kept-words r (c .before .before .before .before .before .before .args .answer .now)) p)
+
+pub tuzhelar-kept-spec : {M : Type 1} → statement M
+tuzhelar-kept-spec =
+    tie.close (tie.spec kept-table-requires write-kept-requires cast-result same-length returns)

@@ -1,0 +1,34 @@
+-- `planner_c::tuzhelar_plan` meets its contract. Assumes nothing.
+use mathlib.Core.Path.{ap, sym, subst, _∙_}
+use Prim.Native.Nat.{_≤_}
+use Rattle.planner.specs.declared.plan.CuePlan.{CuePlan}
+use Rattle.planner_c.specs.Words.{plan-words}
+use Rattle.planner_c.proofs.Few.{count-few}
+use borrow.Author.Needs.{needs}
+use Rattle.planner_c.proofs.tuzhelar_plan.Statement.{statement}
+use Rattle.planner_c.proofs.tuzhelar_plan.Tie as tie
+
+plan-requires : tie.Need-plan-requires
+plan-requires c κs = search needs
+
+write-plan-requires : tie.Need-write-plan-requires
+write-plan-requires c κs = subst (λ (r : CuePlan). r .count ≤ 279936) (sym (c .before .before .plan .ensures .0)) (count-few _ _)
+
+cast-result : tie.Need-cast-result
+cast-result c = search needs
+
+same-length : tie.Need-same-length
+same-length c = search needs
+
+same-length-2 : tie.Need-same-length-2
+same-length-2 c = search needs
+
+returns : tie.Need-returns
+returns c =
+    let p = c .before .before .before .before .before .plan .ensures in
+    (ap (λ (r : CuePlan). r .refusal) (p .0), (p .1, c .before .before .write-plan .ensures ∙ ap (λ (r : CuePlan). plan-words r (c .before .before .before .before .before .before .before .before .args .answer .now)) (p .0)))
+
+pub tuzhelar-plan-spec : {M : Type 1} → statement M
+tuzhelar-plan-spec =
+    tie.close
+    (tie.spec plan-requires write-plan-requires cast-result same-length same-length-2 returns)

@@ -1,0 +1,53 @@
+// The three operations for C and Rust. Lengths are the caller's affair: nothing is asked of any of them.
+ghost use mathlib.Core.Path.{_≡_};
+ghost use Rattle.planner.specs.Outcome.{TestOutcome, planning, space-after, keeping, Testing};
+ghost use Rattle.planner.specs.Answers.{plan-answer, kept-answer};
+ghost use Rattle.timing.specs.Times.{component};
+ghost use Rattle.planner_c.specs.Words.{plan-words, kept-words, six-times, test-number};
+use crate::answers::six_times;
+use crate::answers::write_kept;
+use crate::answers::write_plan;
+use planner::test::Tested;
+use timing::Timing;
+
+mod answers;
+
+// 0 or the refusal. The list goes to the front of the space, deviation, steps, selections and count to the answer; for 9 the count alone.
+#[no_mangle]
+pub extern "C" fn tuzhelar_plan(sheet: &[u8], space: &mut [i32], answer: &mut [i64]) -> u32
+    ensures returned { λ r. ⌜ r ≡ plan-answer (planning (now (sheet .entry)) (now (space .entry))) .refusal ⌝ }
+    ensures listed { λ r. ⌜ now (space .exit) ≡ space-after (planning (now (sheet .entry)) (now (space .entry))) (now (space .entry)) ⌝ }
+    ensures answered { λ r. ⌜ now (answer .exit) ≡ plan-words (plan-answer (planning (now (sheet .entry)) (now (space .entry)))) (now (answer .entry)) ⌝ }
+{
+    let r = planner::plan::plan(sheet, space);
+    write_plan(answer, r);
+    r.refusal as u32
+}
+
+// 0 or the refusal. Deviation, steps, selections, panels, and byte and count for each of six panels go to the answer.
+#[no_mangle]
+pub extern "C" fn tuzhelar_kept(sheet: &[u8], answer: &mut [i64]) -> u32
+    ensures returned { λ r. ⌜ r ≡ kept-answer (keeping (now (sheet .entry))) .refusal ⌝ }
+    ensures answered { λ r. ⌜ now (answer .exit) ≡ kept-words (kept-answer (keeping (now (sheet .entry)))) (now (answer .entry)) ⌝ }
+{
+    let r = planner::kept::kept_table(sheet);
+    write_kept(answer, r);
+    r.refusal as u32
+}
+
+// 100 if the first `count` times are tightest, 101 if they are not, or the refusal.
+#[no_mangle]
+pub extern "C" fn tuzhelar_test(sheet: &[u8], count: usize, times: &[i64]) -> u32
+    ensures { λ r. ⌜ ((o : TestOutcome) × Testing (now (sheet .entry)) count (component (six-times (now (times .entry)))) o × (r ≡ test-number o)) ⌝ }
+{
+    let at = six_times(times);
+    let timing = Timing {
+        count: count,
+        at: at,
+    };
+    match planner::test::test_timing(sheet, timing) {
+        Tested::Yes => 100,
+        Tested::No => 101,
+        Tested::Refused(k) => k as u32,
+    }
+}
