@@ -29,6 +29,7 @@ fn put(lent: &mut [i64], at: usize, v: i64)
     }
 }
 
+// There are at most 6 · 6⁶ lines, so that their count is a word of 64 bits with a sign.
 pub fn write_plan(lent: &mut [i64], r: CuePlan)
     requires { ⌜ r .count ≤ 279936 ⌝ }
     ensures { λ _. ⌜ now (lent .exit) ≡ plan-words r (now (lent .entry)) ⌝ }

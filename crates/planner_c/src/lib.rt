@@ -1,4 +1,5 @@
-// The three operations for C and Rust. Lengths are the caller's affair: nothing is asked of any of them.
+// The three operations for C and Rust. Nothing is asked of a length: a word that does not fit an answer is dropped, a time that is not lent
+// is 0, and no time past the sixth is looked at.
 ghost use mathlib.Core.Path.{_≡_};
 ghost use Rattle.planner.specs.Outcome.{TestOutcome, planning, space-after, keeping, Testing};
 ghost use Rattle.planner.specs.Answers.{plan-answer, kept-answer};
