@@ -100,7 +100,8 @@ module _ (n : ℕ) (P : Tables) where
 
   in-drawn-all : (S : List Selection) (s : Selection) (t : ℕ) → t < n → In s S → In (candidate n P (least n P) s t) (drawn-all n P S)
   unfolding drawn-all drawn
-  in-drawn-all (q ∷ S) s t h (inl e) = in-left (drawn n P n q) (drawn-all n P S) _ (in-each n _ _ t h (inl (ap (λ s. candidate n P (least n P) s t) e)))
+  in-drawn-all (q ∷ S) s t h (inl e) = in-left (drawn n P n q) (drawn-all n P S) _
+      (in-each n _ _ t h (inl (ap (λ s. candidate n P (least n P) s t) e)))
   in-drawn-all (q ∷ S) s t h (inr k) = in-right (drawn n P n q) (drawn-all n P S) _ (in-drawn-all S s t h k)
 
   drawn-all-in : (S : List Selection) (c : Line n) → In c (drawn-all n P S) →

@@ -24,7 +24,7 @@ use Rattle.candidates.specs.Lines.{line-of, Sized}
 use Rattle.candidates.proofs.OrderLaws.{below-says}
 use Rattle.lines.specs.Buffer.{room, row, Before, Ordered, Placed, Fresh, between, Inserted, held, Stored}
 use Rattle.lines.specs.Space.{laid}
-use Rattle.lines.proofs.SpaceLaws.{laid-more, list-words-more, list-words-one}
+use Rattle.lines.proofs.SpaceLaws.{laid-more, list-words-more, list-words-single}
 use Rattle.lines.proofs.ListLaws.{in-take, in-drop, sorted-at, put-new, put-there, map-take, map-drop}
 
 module _ (n : ℕ) (buf : List (List ℕ)) where
@@ -55,7 +55,7 @@ module _ (n : ℕ) (buf : List (List ℕ)) where
       q ∙ ap₂ (λ o m. laid o m (line-words n c)) p (let e : at + 7 * k ≡ at + length W = omega (arith, size) in e) ∙
       laid-more before at W (line-words n c) (omega (arith, size, line-words-length n c)) ∙
       ap (laid before at) (sym (ap (list-words n) (held-more k h) ∙ list-words-more n (held n k buf) (c ∷ []) ∙
-      ap (λ m. W ++ m) (list-words-one n c)))
+      ap (λ m. W ++ m) (list-words-single n c)))
     where
       c : Line n
       c = line-of n (row buf k)
@@ -120,7 +120,8 @@ module _ {n len : ℕ} {buf : List (List ℕ)} {L : List (Line n)} (few : n ≤ 
             full (yes k) = absurd (f (k, λ q. absurd (h q)))
             full (no k) = let e : length L ≡ room = omega (arith, stored-length, s .few, p .few) in
                 ap (take room) (put-new (ltL n) (strict n) (line-of n []) (line-of n c) L at (omega (arith, stored-length, p .few)) below-it
-                (λ q. let x : ⊥ = omega (arith, stored-length) in absurd x) ∙ ap (λ l. l ++ line-of n c ∷ drop at L) (take-all at L (omega (arith, p .few)))) ∙
+                (λ q. let x : ⊥ = omega (arith, stored-length) in absurd x) ∙
+                ap (λ l. l ++ line-of n c ∷ drop at L) (take-all at L (omega (arith, p .few)))) ∙
                 take-at L (line-of n c ∷ drop at L) room e
 
     -- a new one is put in at its place

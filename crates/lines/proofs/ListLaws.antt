@@ -5,9 +5,9 @@ use mathlib.Core.List.{List, [], _∷_}
 use Prim.Native.Nat.{ℕ, zero, suc, _≤_, _<_}
 use native.Mathlib.Omega.{arith}
 use lib.ListN.{length, getD, take, drop}
-use Rattle.maxplus.proofs.FiniteLaws.{in-at}
 use Rattle.maxplus.specs.Finite.{In, mapL}
 use Rattle.maxplus.specs.Sorted.{Cmp, less, same, more, Strict, Sorted, put}
+use Rattle.maxplus.proofs.FiniteLaws.{in-at}
 use Rattle.lines.specs.Buffer.{between}
 
 -- ---- members

@@ -2,7 +2,7 @@
 use mathlib.Core.Path.{_≡_, refl, ap, ap₂, sym, subst, _∙_}
 use mathlib.Core.Logic.{inl, inr}
 use mathlib.Core.List.{List, [], _∷_, _++_, zip}
-use Prim.Native.Nat.{ℕ, zero, suc, _*_, _≤_, _<_}
+use Prim.Native.Nat.{ℕ, zero, suc, _+_, _*_, _≤_, _<_}
 use native.Mathlib.Omega.{arith}
 use lib.IntN.{pos}
 use lib.ListN.{length, getD, take, drop, length-take, length-append, take-append-drop}
@@ -53,7 +53,8 @@ below-some (suc n) x c (suc j) h e p = go (c .0) refl (below-some n (λ k. x (su
 
 blank-below : (n : ℕ) (c : Line n) → Normal n c → ltL n (line-of n blank) c
 unfolding line-of meantV
-blank-below n c h = below-some n (meantV blank) c (h .top) (h .here) (λ k. ap entry (sized-none 0 .past k (omega arith)) ∙ entry-zero) (pos 0, h .zero-there)
+blank-below n c h = below-some n (meantV blank) c (h .top) (h .here)
+    (λ k. ap entry (sized-none 0 .past k (omega arith)) ∙ entry-zero) (pos 0, h .zero-there)
 
 pub above-blank : (n : ℕ) (P : Tables) → above (ltL n) (strict n) (line-of n blank) (lines n P) ≡ lines n P
 above-blank n P = sorted-eq (ltL n) (strict n) _ (lines n P) (above-sorted (ltL n) (strict n) (line-of n blank) (lines n P)) (lines-increasing n P)
@@ -143,7 +144,8 @@ unfolding each
 each-few zero f h = omega arith
 each-few (suc n) f h = omega (arith, length-append (each n f) (f n), each-few n f h, h n)
 
-pub lines-few : {P : Tables} {M : Marks} {stars lags needs gains : List (List ℕ)} → Given P M stars lags needs gains → length (lines (M .triggers) P) ≤ most
+pub lines-few : {P : Tables} {M : Marks} {stars lags needs gains : List (List ℕ)} → Given P M stars lags needs gains →
+    length (lines (M .triggers) P) ≤ most
 unfolding lines minimal candidates
 lines-few {P} {M} {gains = gains} g = omega (
   arith,

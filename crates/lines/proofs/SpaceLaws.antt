@@ -7,7 +7,7 @@ use native.Mathlib.Nat.{add-zero}
 use native.Mathlib.Decide.{decLt}
 use native.Mathlib.Numerals.{add-one}
 use lib.IntN.{ℤ, pos, negsuc, subℕ, _-ℤ_}
-use lib.ListN.{length, getD, take, drop, set, take-append-drop, length-append, length-drop}
+use lib.ListN.{length, getD, take, drop, set, take-append-drop, length-append}
 use lib.Seq.{paste, paste-suc, take-all, take-suc-set, drop-set-lt, append-snoc, take-at, drop-at, drop-drop, length-take-le}
 use mir.Syntax.{w32}
 use mir.Val.{toZ, SFits}
@@ -69,14 +69,15 @@ entry-at n c j s = elim (decLt j n) [
   | no k ↦ ap entry (s .past j (omega arith)) ∙ entry-zero ∙ sym (at-past n (line-of n c) j (omega arith))
 ]
 
-pub component-words-length : (n : ℕ) (c : Line n) → length (component-words n c) ≡ 6
+component-words-length : (n : ℕ) (c : Line n) → length (component-words n c) ≡ 6
 component-words-length n c = length-each 6 (λ i. signed (at n c i))
 
 pub component-more : (out : List ℤ) (at n : ℕ) (c : List ℕ) (j : ℕ) (z : ℤ) → at + 7 ≤ length out → j < 6 → Sized n c →
     z ≡ signed (entry (getD c j 0)) →
     set (paste out (at + 1) (component-words n (line-of n c)) j) (at + 1 + j) z ≡ paste out (at + 1) (component-words n (line-of n c)) (j + 1)
 component-more out at n c j z h k s e =
-    ap (set (paste out (at + 1) W j) (at + 1 + j)) (e ∙ ap signed (entry-at n c j s) ∙ sym (each-at 6 j (λ i. signed (line.at n (line-of n c) i)) (pos 0) k)) ∙
+    ap (set (paste out (at + 1) W j) (at + 1 + j)) (e ∙ ap signed (entry-at n c j s) ∙
+    sym (each-at 6 j (λ i. signed (line.at n (line-of n c) i)) (pos 0) k)) ∙
     paste-suc out (at + 1) W j (pos 0) (omega arith) (omega (arith, component-words-length n (line-of n c))) ∙
     ap (paste out (at + 1) W) (sym (add-one j))
   where
@@ -88,10 +89,6 @@ pub close-all : {n k : ℕ} {c : List ℕ} (j : ℕ) → Sized n c → CloselyV 
 close-all {n} {k} j s h = elim (decLt j n) [ yes l ↦ h .at j l | no l ↦ rw (s .past j (omega arith)) (close-none k) ]
 
 -- ---- words laid in the space
-pub laid-length : (before : List ℤ) (at : ℕ) (ws : List ℤ) → at + length ws ≤ length before → length (laid before at ws) ≡ length before
-unfolding laid
-laid-length before at ws h = simp length-append (omega (arith, length-take-le at before (omega arith), length-drop (at + length ws) before))
-
 pub laid-none : (before : List ℤ) (at : ℕ) → before ≡ laid before at []
 unfolding laid
 laid-none before at = sym (ap₂ _++_ (append-nil (take at before)) (ap (λ k. drop k before) (add-zero at)) ∙ take-append-drop at before)
@@ -109,7 +106,8 @@ pub laid-more : (before : List ℤ) (at : ℕ) (u v : List ℤ) → at + length 
     laid (laid before at u) (at + length u) v ≡ laid before at (u ++ v)
 unfolding laid
 laid-more before at u v h =
-    ap₂ _++_ (ap (λ l. l ++ v) (take-at (take at before ++ u) (drop (at + length u) before) (at + length u) front) ∙ append-assoc (take at before) u v)
+    ap₂ _++_ (ap (λ l. l ++ v) (take-at (take at before ++ u) (drop (at + length u) before) (at + length u) front) ∙
+    append-assoc (take at before) u v)
     (sym (drop-drop (length v) (at + length u) _) ∙
     ap (drop (length v)) (drop-at (take at before ++ u) (drop (at + length u) before) (at + length u) front) ∙
     drop-drop (length v) (at + length u) before ∙
@@ -121,8 +119,9 @@ laid-more before at u v h =
 pub list-words-more : (n : ℕ) (L M : List (Line n)) → list-words n (L ++ M) ≡ list-words n L ++ list-words n M
 unfolding list-words
 list-words-more n [] M = refl
-list-words-more n (c ∷ L) M = ap (λ l. line-words n c ++ l) (list-words-more n L M) ∙ sym (append-assoc (line-words n c) (list-words n L) (list-words n M))
+list-words-more n (c ∷ L) M = ap (λ l. line-words n c ++ l) (list-words-more n L M) ∙
+    sym (append-assoc (line-words n c) (list-words n L) (list-words n M))
 
-pub list-words-one : (n : ℕ) (c : Line n) → list-words n (c ∷ []) ≡ line-words n c
+pub list-words-single : (n : ℕ) (c : Line n) → list-words n (c ∷ []) ≡ line-words n c
 unfolding list-words
-list-words-one n c = append-nil (line-words n c)
+list-words-single n c = append-nil (line-words n c)

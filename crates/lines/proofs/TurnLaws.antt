@@ -173,7 +173,8 @@ module _ {M : Marks} {stars lags needs gains : List (List ℕ)} where
     pub whole-count : len ≡ length (lines (M .triggers) P)
     whole-count = sym (many-held s g) ∙ ap length whole-held
 
-    pub answers-held : (before after : List ℤ) → len ≤ length before / 7 → after ≡ laid before 0 (list-words (M .triggers) (held (M .triggers) len buf)) →
+    pub answers-held : (before after : List ℤ) → len ≤ length before / 7 →
+        after ≡ laid before 0 (list-words (M .triggers) (held (M .triggers) len buf)) →
         Answers (M .triggers) (lines (M .triggers) P) before after (Lines len)
     answers-held before after k e = answers-lines (M .triggers) (lines (M .triggers) P) before after len whole-count k
         (e ∙ ap (λ L. laid before 0 (list-words (M .triggers) L)) whole-held)

@@ -92,7 +92,7 @@ fn consider_selection(
     held
 }
 
-// The least lines above the last one, as many as there is room for.
+// The least lines above the last one, as many as there is room for. Six words of 0, no component at all, stand below every line.
 pub fn gather(
     buf: &mut [[u64; 6]; 128],
     last: [u64; 6],

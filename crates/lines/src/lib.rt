@@ -1,5 +1,4 @@
 // From prepared tables to document 01's list in a lent space. A buffer gathers the lines in order, in one walk for each buffer-full.
-ghost use mathlib.Core.Path.{_≡_};
 ghost use Rattle.cue.specs.Meaning.{Tables};
 ghost use Rattle.cue.specs.Method.{lines};
 ghost use Rattle.lines.specs.Given.{Given};

@@ -1,9 +1,9 @@
 -- `lines::buffer::insert` meets its contract: the lines above `k` have moved.
-use mathlib.Core.Path.{_≡_, refl, ap, sym, _∙_}
+use mathlib.Core.Path.{_≡_, _∙_}
 use mathlib.Core.List.{[]}
-use Prim.Native.Nat.{ℕ, _+_, _-_, _≤_, _<_, min}
+use Prim.Native.Nat.{_-_, _≤_}
 use native.Mathlib.Omega.{arith}
-use lib.ListN.{length, length-set}
+use lib.ListN.{length-set}
 use Rattle.lines.specs.Buffer.{room}
 use Rattle.lines.proofs.BufferLaws.{Moved, moved-start, moved-more, moved-end}
 use Rattle.lines.proofs.buffer.insert.Statement.{statement}

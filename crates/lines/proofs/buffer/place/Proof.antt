@@ -1,8 +1,6 @@
 -- `lines::buffer::place` meets its contract: the place is from `low` to `high`, and the middle line tells which half it is in.
-use Prim.Native.Nat.{ℕ, _+_, _-_, _/_, _≤_, _<_}
-use mathlib.Core.Bool.{true, false}
+use Prim.Native.Nat.{_+_, _-_, _/_}
 use native.Mathlib.Omega.{arith}
-use Rattle.lines.specs.Buffer.{room}
 use Rattle.lines.proofs.BufferLaws.{Between, between-start, between-up, between-down, between-end}
 use Rattle.lines.proofs.buffer.place.Statement.{statement}
 use Rattle.lines.proofs.buffer.place.Tie as tie

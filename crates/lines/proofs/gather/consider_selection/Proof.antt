@@ -24,14 +24,14 @@ loop-holds c = drawing-start
 
 candidate-requires : tie.Need-candidate-requires Inv-loop μ-loop
 candidate-requires c κs = let p = c .before .before .before .before .before .pre .0 .2 in
-    (p .few, c .loop-test .taken, stars-close p, pulls-close p, c .before .before .starred .ensures .1)
+    (p .few, omega (arith, p .some), stars-close p, pulls-close p, c .before .before .starred .ensures .1)
 
 consider-requires : tie.Need-consider-requires Inv-loop μ-loop
 consider-requires c κs =
-    let s = c .before .before .before .before .before .before .before in let w = c .before .before .before .before .before .need in let (P, C, p, g) = s .pre .0 in
-    let d = c .before .candidate .ensures in let y = c .before .before .before .before .starred .ensures .0 in
-    let h = c .before .before .before .loop .inv .gathered P C _ (w .result) p (s .pre .2) (w .ensures) y g in
-    ((P, s .args .needs .now, _, p, h), s .pre .1, d .written .sized, d .close)
+    let y = c .before .before .before .before in let s = y .before .before .before in let (P, C, p, g) = s .pre .0 in
+    let w = y .before .need in let d = c .before .candidate .ensures in
+    let i = c .before .before .before .loop .inv .gathered P C _ (w .result) p (s .pre .2) (w .ensures) (y .starred .ensures .0) g in
+    ((P, s .args .needs .now, _, p, i), s .pre .1, d .written .sized, d .close)
 
 add-t : tie.Need-add-t Inv-loop μ-loop
 add-t c = omega arith
@@ -40,12 +40,13 @@ loop-less : tie.Need-loop-less Inv-loop μ-loop
 loop-less c = omega arith
 
 loop-again : tie.Need-loop-again Inv-loop μ-loop
-loop-again c = drawing-more (c .before .before .before .before .loop .inv) (c .before .before .before .loop-test .taken) (c .before .before .candidate .ensures) (c .consider .ensures)
+loop-again c = let l = c .before .before .before in let p = l .before .before .before .before .before .pre .0 .2 in
+    drawing-more (l .before .loop .inv) (omega (arith, p .some)) (c .before .before .candidate .ensures) (c .consider .ensures)
 
 returns : tie.Need-returns Inv-loop μ-loop
 returns c P C p g =
-    let w = c .before .before .before .need in let y = c .before .before .starred .ensures .0 in
-    drawing-end (c .before .loop .inv) (c .loop-test .left) .gathered P C _ (w .result) p (c .before .before .before .before .before .pre .2) (w .ensures) y g
+    let y = c .before .before in let w = y .before .need in let s = y .before .before .before in
+    drawing-end (c .before .loop .inv) (c .loop-test .left) .gathered P C _ (w .result) p (s .pre .2) (w .ensures) (y .starred .ensures .0) g
 
 pub consider-selection-spec : {M : Type 1} → statement M
 consider-selection-spec =

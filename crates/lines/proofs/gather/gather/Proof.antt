@@ -26,23 +26,24 @@ enum-told : tie.Need-enum-told Inv-loop μ-loop
 enum-told c = search needs
 
 returns : tie.Need-returns Inv-loop μ-loop
-returns c P g = gathering-end (c .before .before .before .before .before .loop .inv) (c .before .before .before .step .ensures) (c .enum-told .given .1) P g
+returns c P g = let s = c .before .before .before in gathering-end (s .before .before .loop .inv) (s .step .ensures) (c .enum-told .given .1) P g
 
 enum-told-2 : tie.Need-enum-told-2 Inv-loop μ-loop
 enum-told-2 c = search needs
 
 consider-selection-requires : tie.Need-consider-selection-requires Inv-loop μ-loop
 consider-selection-requires c κs =
-    let ((P, g), z, b) = c .before .before .before .before .before .before .before .before .before .before .before .pre in let i = c .before .before .before .before .before .before .before .loop .inv in
-    let k = gathering-picks i (c .before .before .before .before .before .step .ensures) (c .before .before .enum-told2 .given .1) g in
-    ((P, _, g .prepared, i .gathered P g), z, k)
+    let s = c .before .before .before .before .before in let l = s .before .before in let ((P, g), z, b) = l .before .before .before .before .pre in
+    let k = gathering-picks (l .loop .inv) (s .step .ensures) (c .before .before .enum-told2 .given .1) g in
+    ((P, _, g .prepared, l .loop .inv .gathered P g), z, k)
 
 loop-less : tie.Need-loop-less Inv-loop μ-loop
-loop-less c = walked-less (c .before .before .before .before .before .before .before .before .loop .inv .walked) (c .before .before .before .before .before .before .step .ensures) (c .before .before .before .enum-told2 .given .1)
+loop-less c = let o = c .before .before .before in let s = o .before .before .before in
+    walked-less (s .before .before .loop .inv .walked) (s .step .ensures) (o .enum-told2 .given .1)
 
 loop-again : tie.Need-loop-again Inv-loop μ-loop
-loop-again c = gathering-more (c .before .before .before .before .before .before .before .before .loop .inv) (c .before .before .before .before .before .before .step .ensures)
-    (c .before .before .before .enum-told2 .given .1) (c .consider-selection .ensures)
+loop-again c = let o = c .before .before .before in let s = o .before .before .before in
+    gathering-more (s .before .before .loop .inv) (s .step .ensures) (o .enum-told2 .given .1) (c .consider-selection .ensures)
 
 pub gather-spec : {M : Type 1} → statement M
 gather-spec =

@@ -1,11 +1,9 @@
 -- `lines::write::write_line` meets its contract: the count, then `j` of the components' words are written.
-use mathlib.Core.Path.{_≡_, refl, ap, sym, _∙_}
-use Prim.Native.Nat.{ℕ, _+_, _-_, _≤_, _<_}
+use mathlib.Core.Path.{_≡_, refl, ap, _∙_}
+use Prim.Native.Nat.{_+_, _-_, _≤_}
 use native.Mathlib.Omega.{arith}
-use native.Mathlib.Numerals.{add-one}
-use lib.IntN.{pos}
-use lib.ListN.{length, set, getD, length-set}
-use lib.Seq.{paste, paste-zero, paste-suc}
+use lib.ListN.{length, set, length-set}
+use lib.Seq.{paste, paste-zero}
 use mir.Syntax.{w32}
 use mir.Val.{toZ}
 use mir.Facts.{toZ-ofZ, toZ-pos}
@@ -19,6 +17,10 @@ Inv-loop out₀ at n c j₀ out j = (j ≤ 6) × (length out ≡ length out₀) 
 
 abbrev μ-loop : tie.MeasureT-loop
 μ-loop out₀ at n c j₀ out j = 6 - j
+
+-- the first store keeps the length
+stored-length : (c : tie.In-loop Inv-loop μ-loop) → length (c .before .loop .out) ≡ length (c .before .before .args .out .now)
+stored-length c = let a = c .before .before .args in c .before .loop .inv .1 ∙ length-set (a .out .now) (a .at) (toZ w32 (a .n))
 
 cast-out : tie.Need-cast-out Inv-loop μ-loop
 cast-out c = omega arith
@@ -53,12 +55,10 @@ add-t17 : tie.Need-add-t17 Inv-loop μ-loop
 add-t17 c = omega arith
 
 mul-t18 : tie.Need-mul-t18 Inv-loop μ-loop
-mul-t18 c = let e = length-set (c .before .before .before .args .out .now) (c .before .before .before .args .at) (toZ w32 (c .before .before .before .args .n)) in
-    omega arith
+mul-t18 c = omega (arith, stored-length (c .before))
 
 slice-set-from-out-2 : tie.Need-slice-set-from-out-2 Inv-loop μ-loop
-slice-set-from-out-2 c = let e = length-set (c .before .before .before .args .out .now) (c .before .before .before .args .at) (toZ w32 (c .before .before .before .args .n)) in
-    omega arith
+slice-set-from-out-2 c = omega (arith, stored-length (c .before))
 
 add-j : tie.Need-add-j Inv-loop μ-loop
 add-j c = omega arith
@@ -71,7 +71,8 @@ loop-again c = let s = c .before .before .before in let l = c .before .before .l
     let e = length-set (a .out .now) (a .at) (toZ w32 (a .n)) in (
       omega arith,
       length-set (l .out) _ _ ∙ l .inv .1,
-      rw (l .inv .2) (component-more (set (a .out .now) (a .at) (toZ w32 (a .n))) (a .at) (a .n) (a .t4) (l .j) _ (omega arith) (omega arith) (s .pre .2)
+      rw (l .inv .2)
+          (component-more (set (a .out .now) (a .at) (toZ w32 (a .n))) (a .at) (a .n) (a .t4) (l .j) _ (omega arith) (omega arith) (s .pre .2)
           (toZ-ofZ {w = w32} (record { sfits = c .signed-word .ok }) ∙ c .signed-word .ensures)),
     )
 

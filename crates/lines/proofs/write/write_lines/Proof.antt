@@ -1,6 +1,6 @@
 -- `lines::write::write_lines` meets its contract: the lines that are not above `last` are written, `at` words of them.
 use mathlib.Core.Path.{_≡_, refl, _∙_}
-use Prim.Native.Nat.{_-_}
+use Prim.Native.Nat.{_+_, _-_, _*_, _≤_}
 use native.Mathlib.Omega.{arith}
 use lib.ListN.{length}
 use Rattle.lines.specs.Buffer.{room}
@@ -16,6 +16,11 @@ Inv-loop out₀ marks star lag needs gains buf₀ last₀ at₀ out buf last at 
 abbrev μ-loop : tie.MeasureT-loop
 μ-loop out₀ marks star lag needs gains buf₀ last₀ at₀ out buf last at = length out₀ - at
 
+-- what is held fits in what is left of the space
+room-left : (c : tie.After-gather Inv-loop μ-loop) →
+    c .before .before .loop .at + 7 * c .gather .result ≤ length (c .before .before .before .args .out .now)
+room-left c = let (P, g, h) = c .before .before .before .pre in writing-room (c .gather .ensures) (c .before .before .loop .inv .1) g h
+
 loop-holds : tie.Need-loop-holds Inv-loop μ-loop
 loop-holds c = (refl, writing-start)
 
@@ -24,23 +29,22 @@ gather-requires c κs = let (P, g, h) = c .before .before .pre in ((P, g), c .be
 
 write-held-requires : tie.Need-write-held-requires Inv-loop μ-loop
 write-held-requires c κs =
-    let (P, g, h) = c .before .before .before .before .before .pre in let r = c .before .before .gather .ensures in let w = c .before .before .before .before .loop .inv .1 in
-    (g .prepared .few, r P g .stored .few, r P g .stored .size, omega (arith, w .size, writing-room r w g h), held-close (g .prepared) (r P g))
+    let (P, g, h) = c .before .before .before .before .before .pre in let r = c .before .before .gather .ensures P g in
+    let e = c .before .before .before .before .loop .inv .1 .size in
+    (g .prepared .few, r .stored .few, r .stored .size, omega (arith, e, room-left (c .before .before)), held-close (g .prepared) r)
 
 same-length : tie.Need-same-length Inv-loop μ-loop
 same-length c = c .before .before .write-held .kept .0 ∙ c .before .before .before .before .before .before .before .loop .inv .1 .size
 
 returns : tie.Need-returns Inv-loop μ-loop
-returns c P g h = writing-end (c .before .before .before .before .before .gather .ensures) (c .before .before .before .before .before .before .before .loop .inv .1) g h
-    (c .before .before .write-held .ensures) (c .if1 .taken)
+returns c P g h = let r = c .before .before .before .before .before in
+    writing-end (r .gather .ensures) (r .before .before .loop .inv .1) g h (c .before .before .write-held .ensures) (c .if1 .taken)
 
 mul-at : tie.Need-mul-at Inv-loop μ-loop
-mul-at c = let (P, g, h) = c .before .before .before .before .before .before .before .before .pre in
-    omega (arith, writing-room (c .before .before .before .before .before .gather .ensures) (c .before .before .before .before .before .before .before .loop .inv .1) g h)
+mul-at c = omega (arith, room-left (c .before .before .before .before .before))
 
 add-at : tie.Need-add-at Inv-loop μ-loop
-add-at c = let (P, g, h) = c .before .before .before .before .before .before .before .before .pre in
-    omega (arith, writing-room (c .before .before .before .before .before .gather .ensures) (c .before .before .before .before .before .before .before .loop .inv .1) g h)
+add-at c = omega (arith, room-left (c .before .before .before .before .before))
 
 sub-last : tie.Need-sub-last Inv-loop μ-loop
 sub-last c = omega arith
@@ -52,14 +56,13 @@ array-copy-out-last : tie.Need-array-copy-out-last Inv-loop μ-loop
 array-copy-out-last c = omega arith
 
 loop-less : tie.Need-loop-less Inv-loop μ-loop
-loop-less c = let (P, g, h) = c .before .before .before .before .before .before .before .before .before .pre in
-    omega (arith, writing-room (c .before .before .before .before .before .before .gather .ensures) (c .before .before .before .before .before .before .before .before .loop .inv .1) g h)
+loop-less c = omega (arith, room-left (c .before .before .before .before .before .before))
 
 loop-again : tie.Need-loop-again Inv-loop μ-loop
 loop-again c =
-    let (P, g, h) = c .before .before .before .before .before .before .before .before .before .pre in let r = c .before .before .before .before .before .before .gather .ensures in
-    let o = c .before .before .before .write-held in
-    (r P g .stored .size, writing-more r (c .before .before .before .before .before .before .before .before .loop .inv .1) g (c .before .if1 .left) (o .kept .0) (o .ensures))
+    let r = c .before .before .before .before .before .before in let (P, g, h) = r .before .before .before .pre in
+    let w = writing-more (r .gather .ensures) (r .before .before .loop .inv .1) g (c .before .if1 .left) in
+    (r .gather .ensures P g .stored .size, w (c .before .before .before .write-held .kept .0) (c .before .before .before .write-held .ensures))
 
 pub write-lines-spec : {M : Type 1} → statement M
 write-lines-spec =
