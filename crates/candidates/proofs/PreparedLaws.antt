@@ -1,33 +1,30 @@
 -- What follows for a caller that has prepared a sheet's tables: its words are close, and the lines drawn are step 6's candidates.
-use mathlib.Core.Path.{_≡_, refl, ap, ap₂, sym, _∙_}
-use mathlib.Core.Logic.{inl, inr}
-use mathlib.Core.List.{List, [], _∷_, zip, zipWith}
-use Prim.Native.Nat.{ℕ, zero, suc, _*_, _≤_, _<_}
-use native.Mathlib.Decide.{ℕ-discrete}
+use mathlib.Core.Path.{_≡_, ap, ap₂, sym, _∙_}
+use mathlib.Core.List.{List, []}
+use Prim.Native.Nat.{ℕ, _*_, _≤_, _<_}
 use native.Mathlib.Omega.{arith}
-use lib.ListN.{length, getD}
-use Rattle.maxplus.specs.Entry.{E, num, _≼_, _⊗_, _⊕_, inv}
+use lib.ListN.{getD}
+use Rattle.maxplus.specs.Entry.{E, num, _⊗_, _⊕_, inv}
 use Rattle.maxplus.proofs.FiniteLaws.{in-at}
-use Rattle.maxplus.specs.Tables.{sup, supL, Vec, mv, idm, star, normal}
+use Rattle.maxplus.specs.Tables.{Vec, Mat, mv, normal}
 use Rattle.maxplus.specs.Line.{line}
-use Rattle.maxplus.proofs.EntryLaws.{_▸_, ≼-anti, ≼-back, ⊕-l, ⊕-r, ⊕-lub, ⊗-nothing, inv-num}
-use Rattle.maxplus.proofs.SupLaws.{sup-ub, sup-lub, sup-ext}
-use Rattle.maxplus.proofs.TableLaws.{idm-eq, idm-or}
+use Rattle.maxplus.proofs.EntryLaws.{inv-num}
+use Rattle.maxplus.proofs.SupLaws.{sup-ext}
 use Rattle.words.specs.Words.{word, entry, far, Close}
 use Rattle.words.proofs.Laws.{entry-word, close-minus}
 use Rattle.sheet.specs.Sheet.{limit}
 use Rattle.cue.specs.Meaning.{Tables}
-use Rattle.cue.specs.Method.{through, least, floor-panels, ask, need, candidate}
+use Rattle.cue.specs.Method.{through, least, floor-panels}
 use Rattle.cue.proofs.Walk.{floor-panels-in, floor-panels-few}
-use Rattle.cue.proofs.Candidates.{ray-split}
+use Rattle.cue.proofs.Candidates.{line-from, ray-split}
 use Rattle.cue.proofs.Bounds.{Within, star-six, through-six, pull-six, least-six}
 use Rattle.tables.specs.Held.{meant, meantV, HoldsV, Closely, CloselyV}
 use Rattle.tables.proofs.SquareLaws.{close-within, closely-within, closely-withinV}
 use Rattle.candidates.specs.declared.Marks.{Marks}
 use Rattle.candidates.specs.declared.Line.{Line}
 use Rattle.candidates.specs.Lines.{line-of, Drawn}
-use Rattle.candidates.specs.Steps.{need-of, ray-of}
-use Rattle.candidates.specs.Prepared.{picked, Prepared, Ready, Picked}
+use Rattle.candidates.specs.Steps.{ray-of}
+use Rattle.candidates.specs.Prepared.{Prepared, Ready}
 use Rattle.candidates.proofs.WordLaws.{line-same, written-line}
 
 -- an entry from −c to c has a word
@@ -35,33 +32,15 @@ word-of : {k l c : ℕ} (e : E) → k ≤ c → l ≤ c → c ≤ far → Within
 word-of {k} {l} {c} e hk hl hc w = let is = entry-word e (λ z f. let b = w .low .above z f in omega arith) in
     (word e, is, close-within c (word e) is hk hl w)
 
--- ---- largest values over the members of a list
-sup-front : (n : ℕ) (f : ℕ → E) → sup (suc n) f ≡ f 0 ⊕ sup n (λ l. f (suc l))
-sup-front n f = ≼-anti
-    (sup-lub (suc n) f (λ j h. elim (ℕ-discrete j 0) [ yes e ↦ rw e (⊕-l _ _) | no e ↦ later j (omega arith) (omega arith) ]))
-    (⊕-lub (sup-ub (suc n) f 0 (omega arith)) (sup-lub n _ (λ l h. sup-ub (suc n) f (suc l) (omega arith))))
-  where
-    later : (j : ℕ) → 0 < j → j < suc n → f j ≼ f 0 ⊕ sup n (λ l. f (suc l))
-    later zero h k = let e : ⊥ = omega arith in absurd e
-    later (suc j) h k = sup-ub n (λ l. f (suc l)) j (omega arith) ▸ ⊕-r _ _
-
-supL-zip : (is js : List ℕ) (f : ℕ × ℕ → E) → length is ≤ length js → supL (zip is js) f ≡ sup (length is) (λ l. f (getD is l 0, getD js l 0))
-unfolding zip zipWith supL
-supL-zip [] js f h = unfold sup in refl
-supL-zip (i ∷ is) [] f h = let e : ⊥ = omega arith in absurd e
-supL-zip (i ∷ is) (j ∷ js) f h = ap (λ e. f (i, j) ⊕ e) (supL-zip is js f (omega arith)) ∙
-    sym (sup-front (length is) (λ l. f (getD (i ∷ is) l 0, getD (j ∷ js) l 0)))
-
--- a row of the unit table takes one entry only
-idm-with : (i j : ℕ) {a b : E} → (i ≡ j → a ≡ b) → idm i j ⊗ a ≡ idm i j ⊗ b
-idm-with i j {a} {b} h = elim (idm-or i j) [
-  | inl e ↦ ap (λ c. idm i j ⊗ c) (h (idm-eq i j (≼-back e)))
-  | inr e ↦ ap (λ c. c ⊗ a) e ∙ ⊗-nothing a ∙ sym (⊗-nothing b) ∙ sym (ap (λ c. c ⊗ b) e)
-]
-
 normal-same : {n : ℕ} {x y : Vec} → ((i : ℕ) → i < n → x i ≡ y i) → line n (normal n x) ≡ line n (normal n y)
 unfolding normal
 normal-same {n} h = line-same (λ i k. ap₂ (λ a b. inv a ⊗ b) (sup-ext n h) (h i k))
+
+-- the words of a line that is drawn, where y is M* w
+pub drawn-line : {n d : ℕ} (S : Mat) (u : Vec) (w y : List ℕ) (t : ℕ) (r : Line) → HoldsV n (mv n S (meantV w)) y →
+    Drawn n d (normal n (ray-of S u (meantV y) t)) r → line-of n (r .at) ≡ line n (normal n (ray-of S u (mv n S (meantV w)) t))
+unfolding ray-of
+drawn-line S u w y t r h e = written-line (e .written) ∙ normal-same (λ i hi. ap (λ a. S i t ⊕ u t ⊗ a) (h .at i hi))
 
 module _ {n : ℕ} {P : Tables} {M : Marks} {stars lags needs : List (List ℕ)} (p : Prepared n P M stars lags needs) where
   open Tables P using (panels, lag, floor, due, after)
@@ -115,33 +94,10 @@ module _ {n : ℕ} {P : Tables} {M : Marks} {stars lags needs : List (List ℕ)}
         (p .needed l j hl hj ∙ ap₂ _⊗_ (sym (p .asked .at (floored l) hi)) (ap inv (sym eb))) (asks-close .at (floored l) hi) cb;
   }
 
-  -- ---- w, M* w and the candidates of the picks
-  module _ {picks : List ℕ} (k : Picked n (M .levels) picks) where
-    pub need-held : {c : ℕ} (w : Line) → Drawn n c (need-of (M .levels) (meant needs) picks) w →
-        HoldsV n (need n P (least n P) (picked n P picks)) (w .at)
-    unfolding need-of need floored
-    need-held w r = record {
-      at = λ j hj. r .written .at j hj ∙ ap (λ m. need-of m (meant needs) picks j) (p .levels) ∙
-          sup-ext (length (floor-panels n P)) (λ l hl. idm-with (getD picks l 0) j (λ e. pick-need l j e hj (omega (arith, p .levels)))) ∙
-          sym (supL-zip (floor-panels n P) picks _ (omega (arith, p .levels, k .enough)));
-    }
-      where
-        pick-need : (l j : ℕ) → getD picks l 0 ≡ j → j < n → l < M .levels →
-            meant needs l j ≡ ask n P (least n P) (floored l) ⊗ inv (through n P (floored l) (getD picks l 0))
-        pick-need l j e hj hl = rw e (p .needed l j hl hj)
-
-    pub starred-held : {c : ℕ} (w : Line) (y : List ℕ) → Drawn n c (need-of (M .levels) (meant needs) picks) w →
-        HoldsV n (mv n (meant stars) (meantV (w .at))) y → HoldsV n (mv n (star n after) (need n P (least n P) (picked n P picks))) y
-    unfolding mv
-    starred-held w y r h = record {
-      at = λ i hi. h .at i hi ∙ sup-ext n (λ j hj. ap₂ _⊗_ (p .starred .at i j hi hj) (need-held w r .at j hj));
-    }
-
-    -- step 6's candidate of the selection and t
-    pub candidate-held : {c d : ℕ} (w : Line) (y : List ℕ) (t : ℕ) (r : Line) → t < n → Drawn n c (need-of (M .levels) (meant needs) picks) w →
-        HoldsV n (mv n (meant stars) (meantV (w .at))) y → Drawn n d (normal n (ray-of (meant stars) (meantV (M .pulls)) (meantV y) t)) r →
-        line-of n (r .at) ≡ candidate n P (least n P) (picked n P picks) t
-    unfolding ray-of candidate
-    candidate-held w y t r ht a b e = written-line (e .written) ∙ normal-same (λ i hi.
-        ap₂ _⊕_ (p .starred .at i t hi ht) (ap₂ _⊗_ (p .pulled .at t ht) (starred-held w y a b .at i hi)) ∙
-        sym (ray-split n P (least n P) (picked n P picks) t i ht))
+  -- the line that is drawn from w and t is step 6's
+  pub drawn-from : (w : List ℕ) (t : ℕ) → t < n →
+      line n (normal n (ray-of (meant stars) (meantV (M .pulls)) (mv n (meant stars) (meantV w)) t)) ≡ line-from n P (meantV w) t
+  unfolding ray-of line-from mv
+  drawn-from w t ht = normal-same (λ i hi.
+      ap₂ _⊕_ (p .starred .at i t hi ht) (ap₂ _⊗_ (p .pulled .at t ht)
+      (sup-ext n (λ j hj. ap (λ a. a ⊗ meantV w j) (p .starred .at i j hi hj)))) ∙ sym (unfold mv in ray-split n P (meantV w) t i ht))

@@ -1,13 +1,13 @@
 -- What a caller has made of a sheet's tables before it draws lines.
 use mathlib.Core.Path.{_≡_}
-use mathlib.Core.List.{List, zip}
+use mathlib.Core.List.{List}
 use Prim.Native.Nat.{ℕ, _*_, _≤_, _<_}
 use lib.ListN.{length, getD}
 use Rattle.maxplus.specs.Entry.{num, _⊗_, inv}
 use Rattle.maxplus.specs.Tables.{star, NoGain}
 use Rattle.sheet.specs.Sheet.{limit}
 use Rattle.cue.specs.Meaning.{Tables, Readable}
-use Rattle.cue.specs.Method.{Selection, through, pull, least, floor-panels, ask}
+use Rattle.cue.specs.Method.{through, pull, least, floor-panels, ask}
 use Rattle.cue.proofs.Bounds.{Limited}
 use Rattle.tables.specs.Held.{meant, Holds, HoldsV, Closely, CloselyV}
 use Rattle.candidates.specs.declared.Marks.{Marks}
@@ -39,12 +39,3 @@ pub record Ready (M : Marks) (stars lags : List (List ℕ)) : Type 0 where
   pub lagged : Closely (M .panels) (M .triggers) limit lags
   pub due : CloselyV (M .triggers) limit (M .due)
   pub asked : CloselyV (M .panels) (9 * limit) (M .asks)
-
--- the selection of the picks: each panel with a floor, with the pick of its level
-abbrev pub picked : ℕ → Tables → List ℕ → Selection
-picked n P picks = zip (floor-panels n P) picks
-
--- a pick for each level, and each a trigger
-pub record Picked (n levels : ℕ) (picks : List ℕ) : Type 0 where
-  pub enough : levels ≤ length picks
-  pub trigger : (l : ℕ) → l < levels → getD picks l 0 < n

@@ -6,12 +6,8 @@ use Prim.Native.Nat.{ℕ, _<_}
 use lib.Bits.{bitAnd}
 use lib.ListN.{getD}
 use Rattle.maxplus.specs.Entry.{E, _⊗_, _⊕_, Present}
-use Rattle.maxplus.specs.Tables.{sup, Vec, Mat, idm}
+use Rattle.maxplus.specs.Tables.{sup, Vec, Mat}
 use Rattle.candidates.specs.Bits.{Has, Marked}
-
--- "w(j): the largest p(i) − Δ − d(i,j) over panels that chose j, absent if none"; row l of N is that of the l-th panel with a floor
-unfoldable pub need-of : ℕ → Mat → List ℕ → Vec
-need-of levels N picks j = sup levels (λ l. idm (getD picks l 0) j ⊗ N l j)
 
 -- M* applied to "0 at t and absent elsewhere", joined with "w minus r(t)": S is M*, u the pulls −r, y is M* w
 unfoldable pub ray-of : Mat → Vec → Vec → ℕ → Vec

@@ -1,9 +1,9 @@
 // Step 6's candidates of a selection, the test for extreme that needs no other candidate, and the order of lines.
 mod bits;
 pub mod closure;
+pub mod drawing;
 mod entries;
 pub mod order;
-pub mod selection;
 
 // A line, or w: its count of triggers and its six components as words of entries, the unused ones absent.
 pub struct Line {

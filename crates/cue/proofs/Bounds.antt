@@ -1,7 +1,7 @@
 -- How large results are, in multiples of the limit L on entries. A star entry adds up fewer than n rules, the rest adds up along the
 -- definitions. With six triggers at most: powers k L, star 5L, d 6L, r −6L to L, Δ −3L to 8L, w −15L to L, candidates before the
 -- shift −21L to 7L, lines −28L to 0.
-use mathlib.Core.Path.{_≡_, refl, sym, subst}
+use mathlib.Core.Path.{_≡_, refl, ap, sym, subst}
 use mathlib.Core.Logic.{inl, inr}
 use mathlib.Core.List.{List}
 use Prim.Native.Nat.{ℕ, zero, suc, _+_, _*_, _^_, _≤_, _<_}
@@ -22,7 +22,8 @@ use Rattle.cue.specs.Meaning.{Tables, timing, overdue}
 use Rattle.cue.specs.Method.{Selection, through, pullE, pull, mark, leastE, least, ask, selections, need, seed, ray, candidate}
 use Rattle.cue.specs.Method.{candidates, lines}
 use Rattle.cue.proofs.Deviation.{overdue-at, pull-is, due-pull, mv-through, mark-keeps}
-use Rattle.cue.proofs.Candidates.{candidate-of, candidates-normal, selection-trigger, selection-panel, need-mark, ray-overdue}
+use Rattle.cue.proofs.Candidates.{candidate-of, candidates-normal, selection-trigger, selection-panel, selection-serving}
+use Rattle.cue.proofs.Candidates.{ray-is-from, ray-overdue}
 use Rattle.cue.proofs.Extreme.{in-lines}
 
 -- −k ≤ a, and a ≤ k, where a is there
@@ -206,7 +207,7 @@ module _ (n m L : ℕ) (P : Tables) (l : Limited n L P) (few : n ≤ suc m) wher
                 (λ f q. above-more (omega arith)
                 (above-⊗ (idm (f .1) t) (ask n P D (f .0) ⊗ inv (through n P (f .0) (f .1))) (idm-above (f .1) t)
                 (fixing (f .0) (f .1) (fixed-panels f q) (fixed-trigger f q))));
-            high = up-to (need n P D s t) (pull n P t) (need-mark n P D s hs t) (pull-within t ht .low);
+            high = up-to (need n P D s t) (pull n P t) (selection-serving n P D s hs .marked t ht) (pull-within t ht .low);
           }
         where
           fixed-panels : (f : ℕ × ℕ) → In f s → f .0 < panels
@@ -233,7 +234,7 @@ module _ (n m L : ℕ) (P : Tables) (l : Limited n L P) (few : n ≤ suc m) wher
                 (λ j hj. above-more (omega arith)
                 (above-⊗ (star n after i j) (seed n P D s t j) (star-within i j hi hj .low) (seed-above j hj)));
             high = up-to (ray n P D s t i) (due i) (overdue-at n due (ray n P D s t) i hi ▸
-                ray-overdue n P D s hs t) (l .dues i hi .high) (pull-within t ht .high);
+                ≼-of (ap (overdue n due) (ray-is-from n P D s t)) ▸ ray-overdue n P D (need n P D s) (selection-serving n P D s hs) t) (l .dues i hi .high) (pull-within t ht .high);
           }
         where
           seed-above : (j : ℕ) → j < n → Above (2 * (m * L) + 6 * L) (seed n P D s t j)

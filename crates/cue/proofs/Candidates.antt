@@ -1,6 +1,6 @@
 -- Step 6: candidates lie in the cone, and every vector of the cone is the largest of candidates, each with the vector's own
 -- component for weight.
-use mathlib.Core.Path.{_≡_, ap, sym, _∙_, subst}
+use mathlib.Core.Path.{_≡_, refl, ap, sym, _∙_, subst}
 use Prim.Native.Nat.{ℕ, _<_}
 use native.Mathlib.Omega.{arith}
 use lib.Dec.{T}
@@ -9,7 +9,7 @@ use Rattle.maxplus.specs.Whole.{_+z_, neg}
 use Rattle.maxplus.specs.Entry.{E, absent, num, _≼_, _⊗_, _⊕_, inv, unit, Present, val}
 use Rattle.maxplus.specs.Finite.{In}
 use Rattle.maxplus.specs.Tables.{sup, Vec, Mat, mv, idm, star, NoGain, normal}
-use Rattle.maxplus.specs.Line.{Line, at, Normal}
+use Rattle.maxplus.specs.Line.{Line, at, line, Normal}
 use Rattle.maxplus.proofs.WholeLaws.{up-add, up-neg}
 use Rattle.maxplus.proofs.EntryLaws.{≼-refl, _▸_, ≼-anti, ≼-absent, ≼-of, ≼-back, ⊕-l, ⊕-r, ⊕-lub, ⊗-mono, ⊗-left, ⊗-right, ⊗-comm, ⊗-assoc}
 use Rattle.maxplus.proofs.EntryLaws.{⊗-nothing, ⊗-unit, distrib, ⊗-unit-r, ⊗-left-comm, present-dec, absent-of}
@@ -17,7 +17,7 @@ use Rattle.maxplus.proofs.FiniteLaws.{in-each, each-in, in-map, map-in}
 use Rattle.maxplus.proofs.SupLaws.{sup-lub, sup-⊗, sup-⊗r, supL-ub, supL-lub, supL-⊗}
 use Rattle.maxplus.proofs.TableLaws.{mv-mm, idm-same, idm-in, mv-mono, mv-shift, mv-ext, mv-⊕, mv-at}
 use Rattle.maxplus.proofs.LineLaws.{at-line, normal-line, normal-present}
-use Rattle.maxplus.proofs.CombinationLaws.{Met, Span}
+use Rattle.maxplus.proofs.CombinationLaws.{Under, Met, Span}
 use Rattle.maxplus.proofs.StarLaws.{star-diag}
 use Rattle.cue.specs.Meaning.{Tables, Keeps, overdue}
 use Rattle.cue.specs.Method.{Selection, through, pull, floor-panels, ask, kept, selections, need, seed, ray, candidate, candidates}
@@ -27,7 +27,7 @@ use Rattle.cue.proofs.Cone.{Cone, cone-⊗, cone-ext}
 use Rattle.cue.proofs.Walk.{in-floor-panels, walk-within, walk-fixes, walk-panels, kept-above, Serves, cone-selection}
 
 -- what a trigger that serves is asked for, it gives
-need-E : (d x a : E) (g : ℤ) → a ⊗ num g ≼ d ⊗ x → a ⊗ inv d ⊗ num g ≼ x
+pub need-E : (d x a : E) (g : ℤ) → a ⊗ num g ≼ d ⊗ x → a ⊗ inv d ⊗ num g ≼ x
 unfolding _⊗_ inv
 need-E d x absent g h = ≼-absent _
 need-E absent x (num a) g h = absurd (h .un)
@@ -56,32 +56,40 @@ reach-E absent (num a) r s h = absurd (h .un)
 reach-E (num d) (num a) r s h =
     omega (arith, up-add a s, up-add a r, up-neg d, up-add a (neg d), up-add (a +z neg d) r, up-add d (a +z neg d +z r))
 
-module _ (n : ℕ) (P : Tables) (D : ℤ) where
+-- step 6 for any w in the place of a selection's
+module _ (n : ℕ) (P : Tables) where
   open Tables P using (panels, lag, floor, due, after)
 
+  unfoldable pub seed-from : Vec → ℕ → Vec
+  seed-from w t j = idm t j ⊕ w j ⊗ num (pull n P t)
+
+  unfoldable pub ray-from : Vec → ℕ → Vec
+  ray-from w t = mv n (star n after) (seed-from w t)
+
+  unfoldable pub line-from : Vec → ℕ → Line n
+  line-from w t = line n (normal n (ray-from w t))
+
   -- M* was applied, so rays keep the order
-  pub ray-keeps : NoGain n after → (s : Selection) (t : ℕ) → Keeps n after (ray n P D s t)
-  unfolding ray
-  ray-keeps np s t = star-keeps n after np (seed n P D s t)
+  ray-keeps : NoGain n after → (w : Vec) (t : ℕ) → Keeps n after (ray-from w t)
+  unfolding ray-from
+  ray-keeps np w t = star-keeps n after np (seed-from w t)
 
   -- and have a component at their own trigger
-  pub ray-diag : (s : Selection) (t : ℕ) → t < n → unit ≼ ray n P D s t t
-  unfolding ray seed
-  ray-diag s t ht =
+  ray-diag : (w : Vec) (t : ℕ) → t < n → unit ≼ ray-from w t t
+  unfolding ray-from seed-from
+  ray-diag w t ht =
       ≼-back (⊗-unit unit) ▸
       (⊗-mono (star-diag n after t ht) (≼-back (idm-same t) ▸ ⊕-l _ _)) ▸
-      mv-at n (star n after) (λ j. idm t j ⊕ need n P D s j ⊗ num (pull n P t)) t t ht
+      mv-at n (star n after) (λ j. idm t j ⊕ w j ⊗ num (pull n P t)) t t ht
 
-  -- M* is applied to w once for a selection: the ray of t is column t of M*, joined with M* w − r(t)
-  pub ray-split : (s : Selection) (t i : ℕ) → t < n →
-      ray n P D s t i ≡ star n after i t ⊕ num (pull n P t) ⊗ mv n (star n after) (need n P D s) i
-  unfolding ray seed
-  ray-split s t i ht = ≼-anti
-      (mv-⊕ n M (idm t) (λ j. need n P D s j ⊗ r) i ▸
-      ⊕-lub (column ▸ ⊕-l _ _) (≼-of (mv-ext n M _ (λ j. r ⊗ need n P D s j) i (λ j hj. ⊗-comm _ _) ∙ mv-shift n M r (need n P D s) i) ▸
-      ⊕-r _ _))
-      (⊕-lub (≼-back (⊗-unit-r (M i t)) ▸ ⊗-right _ (≼-back (idm-same t) ▸ ⊕-l _ _) ▸ mv-at n M (λ j. idm t j ⊕ need n P D s j ⊗ r) i t ht)
-      (≼-back (mv-shift n M r (need n P D s) i) ▸ mv-mono n M _ _ i (λ j hj. ≼-of (⊗-comm _ _) ▸ ⊕-r _ _)))
+  -- M* is applied to w once: the ray of t is column t of M*, joined with M* w − r(t)
+  pub ray-split : (w : Vec) (t i : ℕ) → t < n → ray-from w t i ≡ star n after i t ⊕ num (pull n P t) ⊗ mv n (star n after) w i
+  unfolding ray-from seed-from
+  ray-split w t i ht = ≼-anti
+      (mv-⊕ n M (idm t) (λ j. w j ⊗ r) i ▸
+      ⊕-lub (column ▸ ⊕-l _ _) (≼-of (mv-ext n M _ (λ j. r ⊗ w j) i (λ j hj. ⊗-comm _ _) ∙ mv-shift n M r w i) ▸ ⊕-r _ _))
+      (⊕-lub (≼-back (⊗-unit-r (M i t)) ▸ ⊗-right _ (≼-back (idm-same t) ▸ ⊕-l _ _) ▸ mv-at n M (λ j. idm t j ⊕ w j ⊗ r) i t ht)
+      (≼-back (mv-shift n M r w i) ▸ mv-mono n M _ _ i (λ j hj. ≼-of (⊗-comm _ _) ▸ ⊕-r _ _)))
     where
       M : Mat
       M = star n after
@@ -91,6 +99,105 @@ module _ (n : ℕ) (P : Tables) (D : ℤ) where
 
       column : mv n M (idm t) i ≼ M i t
       column = unfold mv in sup-lub n _ (λ j hj. ≼-of (⊗-comm _ _) ▸ idm-in t j _ _ (λ e. rw e (≼-refl _)))
+
+  pub line-from-normal : (w : Vec) (t : ℕ) → t < n → Normal n (line-from w t)
+  unfolding line-from
+  line-from-normal w t ht = normal-line n (ray-from w t) t ht (ray-diag w t ht)
+
+module _ (n : ℕ) (P : Tables) (D : ℤ) where
+  open Tables P using (panels, lag, floor, due, after)
+
+  -- w gives each panel with a floor what it asks for at one of its kept triggers
+  abbrev pub Served : Vec → Type 0
+  Served w = (i : ℕ) → i < panels → Present (floor i) → (j : ℕ) × (j < n) × T (kept n P D i j) × (ask n P D i ⊗ inv (through n P i j) ≼ w j)
+
+  -- and w ≤ r
+  pub record Serving (w : Vec) : Type 0 where
+    pub marked : (t : ℕ) → t < n → w t ⊗ num (pull n P t) ≼ unit
+    pub served : Served w
+
+  -- what a kept entry asks for is no more than r
+  pub kept-mark : (i j : ℕ) → T (kept n P D i j) → (ask n P D i ⊗ inv (through n P i j)) ⊗ num (pull n P j) ≼ unit
+  kept-mark i j k = mark-E (through n P i j) (ask n P D i) (pull n P j) (kept-above n P D i j k)
+
+  -- ---- in the cone
+  module _ (w : Vec) (v : Serving w) where
+    seed-need : (t j : ℕ) → w j ⊗ num (pull n P t) ≼ seed-from n P w t j
+    unfolding seed-from
+    seed-need t j = ⊕-r _ _
+
+    seed-pull : (t j : ℕ) → j < n → seed-from n P w t j ⊗ num (pull n P j) ≼ num (pull n P t)
+    unfolding seed-from
+    seed-pull t j hj = rw (⊗-comm, distrib) (⊕-lub
+        (rw ⊗-comm (idm-in t j _ _ (λ e. rw e (≼-refl _))))
+        ((rw (← ⊗-assoc, ⊗-comm (num (pull n P j))) (⊗-left _ (v .marked j hj))) ▸ ≼-of (⊗-unit _)))
+
+    -- a candidate is no further past due than its seed's first part
+    pub ray-overdue : (t : ℕ) → overdue n due (ray-from n P w t) ≼ num (pull n P t)
+    unfolding overdue ray-from mv
+    ray-overdue t = sup-lub n _ (λ i hi. rw sup-⊗r (sup-lub n _ (λ j hj. rw (⊗-comm (star n after i j), ⊗-assoc)
+        (⊗-right _ (pull-at n P i j hi hj) ▸ seed-pull t j hj))))
+
+    ray-cone : NoGain n after → (t : ℕ) → Cone n P D (ray-from n P w t)
+    unfolding ray-from
+    ray-cone np t =
+        record {
+          order = unfold ray-from in ray-keeps n P np w t;
+          landed = λ i hi. ⊗-right _ (unfold ray-from in ray-overdue t) ▸ go i hi (present-dec (floor i));
+        }
+      where
+        go : (i : ℕ) → i < panels → Dec (Present (floor i)) →
+            ask n P D i ⊗ num (pull n P t) ≼ mv n lag (mv n (star n after) (seed-from n P w t)) i
+        go i hi (yes p) = let (j, hj, k, b) = v .served i hi p in rw (← mv-mm)
+            (reach-E (through n P i j) (ask n P D i) (pull n P t) (pull n P j) (kept-above n P D i j k) ▸
+            (⊗-right _ (⊗-left _ b ▸ seed-need t j)) ▸
+            (unfold through in mv-at n (through n P) (seed-from n P w t) i j hj))
+        go i hi (no p) = rw (absent-of (floor i) p) (rw (⊗-nothing, ⊗-nothing) (≼-absent _))
+
+    pub line-from-cone : NoGain n after → (t : ℕ) → Cone n P D (at n (line-from n P w t))
+    unfolding line-from normal
+    line-from-cone np t = cone-ext n P D (normal n y) (at n (line n (normal n y))) (λ i hi. sym (at-line n (normal n y) i hi))
+        (cone-⊗ n P D (inv (sup n y)) y (ray-cone np t))
+      where
+        y : Vec
+        y = ray-from n P w t
+
+  -- ---- below a vector of the cone
+  -- x keeps the order, is g past due, and w + g lies below x: then x(t) + the ray of w and t lies below x
+  module _ (x : Vec) (g : ℤ) (k : Keeps n after x) (e : overdue n due x ≡ num g)
+      (w : Vec) (b : (t : ℕ) → t < n → w t ⊗ num g ≼ x t) where
+    seed-below : (t j : ℕ) → t < n → j < n → x t ⊗ seed-from n P w t j ≼ x j
+    unfolding seed-from
+    seed-below t j ht hj = rw distrib (⊕-lub
+        (rw ⊗-comm (idm-in t j _ _ (λ f. rw f (≼-refl _))))
+        (seed-E (x t) (w j) (x j) (pull n P t) g (rw e at (pull-overdue n P x k t ht)) (b j hj)))
+
+    ray-below : (t i : ℕ) → t < n → i < n → x t ⊗ ray-from n P w t i ≼ x i
+    unfolding ray-from mv
+    ray-below t i ht hi = rw sup-⊗
+        (sup-lub n _ (λ j hj. rw ⊗-left-comm (⊗-right _ (seed-below t j ht hj) ▸ keeps-star n after x k i j hi hj)))
+
+    -- so the line of j, shifted, lies below x and meets it at j
+    pub line-from-under : (j : ℕ) → j < n → Present (at n (line-from n P w j) j) × Under n j (line-from n P w j) x
+    unfolding line-from
+    line-from-under j hj = (
+      normal-present n y j hj (ray-diag n P w j hj),
+      λ i hi. rw (at-line n (normal n y) i hi, at-line n (normal n y) j hj)
+          (unfold normal in (rw (⊗-assoc, ⊗-left-comm (x i)) (⊗-right _
+          (≼-of (⊗-comm (y i) (x j)) ▸ ray-below j i hj hi ▸ ≼-back (⊗-unit-r (x i)) ▸ ⊗-right _ (ray-diag n P w j hj))))),
+    )
+      where
+        y : Vec
+        y = ray-from n P w j
+
+  -- ---- candidates are the lines from the w of selections
+  pub ray-is-from : (s : Selection) (t : ℕ) → ray n P D s t ≡ ray-from n P (need n P D s) t
+  unfolding ray seed ray-from seed-from
+  ray-is-from s t = refl
+
+  pub candidate-from : (s : Selection) (t : ℕ) → candidate n P D s t ≡ line-from n P (need n P D s) t
+  unfolding candidate line-from
+  candidate-from s t = ap (λ x. line n (normal n x)) (ray-is-from s t)
 
   pub in-candidates : (s : Selection) (t : ℕ) → t < n → In s (selections n P D) → In (candidate n P D s t) (candidates n P D)
   unfolding candidates
@@ -102,11 +209,9 @@ module _ (n : ℕ) (P : Tables) (D : ℤ) where
   candidate-of c h = let (t, ht, k) = each-in n _ c h in let (s, hs, e) = map-in (λ s. candidate n P D s t) _ c k in (t, s, ht, hs, e)
 
   pub candidates-normal : (c : Line n) → In c (candidates n P D) → Normal n c
-  unfolding candidate
   candidates-normal c h = let (t, s, ht, hs, e) = candidate-of c h in
-      subst (λ c. Normal n c) (sym e) (normal-line n (ray n P D s t) t ht (ray-diag s t ht))
+      subst (λ c. Normal n c) (sym (e ∙ candidate-from s t)) (line-from-normal n P (need n P D s) t ht)
 
-  -- ---- in the cone
   module _ (s : Selection) (hs : In s (selections n P D)) where
     fixed-kept : (i j : ℕ) → In (i, j) s → (j < n) × T (kept n P D i j)
     fixed-kept i j q = unfold selections in walk-within n P (floor-panels n P) (kept n P D) s hs i j q
@@ -120,79 +225,29 @@ module _ (n : ℕ) (P : Tables) (D : ℤ) where
     fixed-panel : (i : ℕ) → i < panels → Present (floor i) → (j : ℕ) × In (i, j) s
     fixed-panel i hi p = unfold selections in walk-fixes n P (floor-panels n P) (kept n P D) s hs i (in-floor-panels n P i hi p)
 
-    -- w ≤ r
-    pub need-mark : (t : ℕ) → need n P D s t ⊗ num (pull n P t) ≼ unit
-    unfolding need
-    need-mark t = rw ⊗-comm (rw (supL-⊗)
-        (supL-lub s _ (λ f q. rw (⊗-left-comm, ⊗-comm (num (pull n P t))) (idm-in (f .1) t _ _ (λ e. rw (← e)
-        (mark-E (through n P (f .0) (f .1)) (ask n P D (f .0)) (pull n P (f .1))
-        (kept-above n P D (f .0) (f .1) (fixed-kept (f .0) (f .1) q .1))))))))
-
-    pub need-at : (i j : ℕ) → In (i, j) s → ask n P D i ⊗ inv (through n P i j) ≼ need n P D s j
+    need-at : (i j : ℕ) → In (i, j) s → ask n P D i ⊗ inv (through n P i j) ≼ need n P D s j
     unfolding need
     need-at i j q = ≼-of (sym (⊗-unit _) ∙ ap (λ e. e ⊗ (ask n P D i ⊗ inv (through n P i j))) (sym (idm-same j))) ▸
         supL-ub s (λ f. idm (f .1) j ⊗ (ask n P D (f .0) ⊗ inv (through n P (f .0) (f .1)))) (i, j) q
 
-    seed-need : (t j : ℕ) → need n P D s j ⊗ num (pull n P t) ≼ seed n P D s t j
-    unfolding seed
-    seed-need t j = ⊕-r _ _
-
-    seed-pull : (t j : ℕ) → seed n P D s t j ⊗ num (pull n P j) ≼ num (pull n P t)
-    unfolding seed
-    seed-pull t j = rw (⊗-comm, distrib) (⊕-lub
-        (rw ⊗-comm (idm-in t j _ _ (λ e. rw e (≼-refl _))))
-        ((rw (← ⊗-assoc, ⊗-comm (num (pull n P j))) (⊗-left _ (need-mark j))) ▸ ≼-of (⊗-unit _)))
-
-    -- a candidate is no further past due than its seed's first part
-    pub ray-overdue : (t : ℕ) → overdue n due (ray n P D s t) ≼ num (pull n P t)
-    unfolding overdue ray mv
-    ray-overdue t = sup-lub n _ (λ i hi. rw sup-⊗r (sup-lub n _ (λ j hj. rw (⊗-comm (star n after i j), ⊗-assoc)
-        (⊗-right _ (pull-at n P i j hi hj) ▸ seed-pull t j))))
-
-    pub ray-cone : NoGain n after → (t : ℕ) → Cone n P D (ray n P D s t)
-    unfolding ray
-    ray-cone np t =
-        record {
-          order = unfold ray in ray-keeps np s t;
-          landed = λ i hi. ⊗-right _ (unfold ray in ray-overdue t) ▸ go i hi (present-dec (floor i));
-        }
-      where
-        reach : (i j : ℕ) → In (i, j) s → ask n P D i ⊗ num (pull n P t) ≼ mv n lag (mv n (star n after) (seed n P D s t)) i
-        reach i j q = rw (← mv-mm) (reach-E (through n P i j) (ask n P D i) (pull n P t) (pull n P j)
-            (kept-above n P D i j (fixed-kept i j q .1)) ▸
-            (⊗-right _ (⊗-left _ (need-at i j q) ▸ seed-need t j)) ▸
-            (unfold through in mv-at n (through n P) (seed n P D s t) i j (fixed-kept i j q .0)))
-
-        go : (i : ℕ) → i < panels → Dec (Present (floor i)) →
-            ask n P D i ⊗ num (pull n P t) ≼ mv n lag (mv n (star n after) (seed n P D s t)) i
-        go i hi (yes p) = let (j, q) = fixed-panel i hi p in reach i j q
-        go i hi (no p) = rw (absent-of (floor i) p) (rw (⊗-nothing, ⊗-nothing) (≼-absent _))
+    pub selection-serving : Serving (need n P D s)
+    selection-serving = record {
+      marked = λ t ht. unfold need in (rw ⊗-comm (rw (supL-⊗)
+          (supL-lub s _ (λ f q. rw (⊗-left-comm, ⊗-comm (num (pull n P t))) (idm-in (f .1) t _ _ (λ e. rw (← e)
+          (kept-mark (f .0) (f .1) (fixed-kept (f .0) (f .1) q .1))))))));
+      served = λ i hi p. let (j, q) = fixed-panel i hi p in (j, fixed-kept i j q .0, fixed-kept i j q .1, need-at i j q);
+    }
 
   pub candidates-cone : NoGain n after → (c : Line n) → In c (candidates n P D) → Cone n P D (at n c)
-  unfolding candidate normal
   candidates-cone np c h = let (t, s, ht, hs, e) = candidate-of c h in
-      cone-ext n P D (normal n (ray n P D s t)) (at n c) (λ i hi. sym (ap (λ c. at n c i) e ∙ at-line n (normal n (ray n P D s t)) i hi))
-      (cone-⊗ n P D (inv (sup n (ray n P D s t))) (ray n P D s t) (ray-cone s hs np t))
+      subst (λ c. Cone n P D (at n c)) (sym (e ∙ candidate-from s t)) (line-from-cone (need n P D s) (selection-serving s hs) np t)
 
-  -- ---- and they generate it
-  -- x keeps the order, is g past due, and every fixing of s serves it: then x(t) + the ray of s and t lies below x
-  module _ (x : Vec) (g : ℤ) (k : Keeps n after x) (e : overdue n due x ≡ num g)
-      (s : Selection) (v : (i j : ℕ) → In (i, j) s → Serves n P D x g i j) where
-    need-below : (t : ℕ) → need n P D s t ⊗ num g ≼ x t
-    unfolding need
-    need-below t = rw ⊗-comm (rw supL-⊗
-        (supL-lub s _ (λ f q. rw (⊗-left-comm, ⊗-comm (num g))
-        (idm-in (f .1) t _ _ (λ e. rw (← e) (need-E (through n P (f .0) (f .1)) (x (f .1)) (ask n P D (f .0)) g (v (f .0) (f .1) q .1)))))))
-
-    seed-below : (t j : ℕ) → t < n → x t ⊗ seed n P D s t j ≼ x j
-    unfolding seed
-    seed-below t j ht = rw distrib (⊕-lub
-        (rw ⊗-comm (idm-in t j _ _ (λ f. rw f (≼-refl _))))
-        (seed-E (x t) (need n P D s j) (x j) (pull n P t) g (rw e at (pull-overdue n P x k t ht)) (need-below j)))
-
-    pub ray-below : (t i : ℕ) → t < n → i < n → x t ⊗ ray n P D s t i ≼ x i
-    unfolding ray mv
-    ray-below t i ht hi = rw sup-⊗ (sup-lub n _ (λ j hj. rw ⊗-left-comm (⊗-right _ (seed-below t j ht) ▸ keeps-star n after x k i j hi hj)))
+  -- ---- and they generate it: every fixing of s serves x, which is g past due
+  need-below : (x : Vec) (g : ℤ) (s : Selection) → ((i j : ℕ) → In (i, j) s → Serves n P D x g i j) → (t : ℕ) → need n P D s t ⊗ num g ≼ x t
+  unfolding need
+  need-below x g s v t = rw ⊗-comm (rw supL-⊗
+      (supL-lub s _ (λ f q. rw (⊗-left-comm, ⊗-comm (num g))
+      (idm-in (f .1) t _ _ (λ e. rw (← e) (need-E (through n P (f .0) (f .1)) (x (f .1)) (ask n P D (f .0)) g (v (f .0) (f .1) q .1)))))))
 
   -- at each component that is there, a candidate lies below x and meets it
   pub cone-span : (x : Vec) → Cone n P D x → Span n (candidates n P D) x
@@ -202,15 +257,6 @@ module _ (n : ℕ) (P : Tables) (D : ℤ) where
       go g e = fin (cone-selection n P D x g c e)
         where
           fin : (s : Selection) × In s (selections n P D) × ((i j : ℕ) → In (i, j) s → Serves n P D x g i j) → Met n (candidates n P D) x j
-          fin (s, hs, v) = (
-            candidate n P D s j,
-            in-candidates s j hj hs,
-            unfold candidate in normal-present n y j hj (ray-diag s j hj),
-            unfold candidate in (λ i hi. rw (at-line n (normal n y) i hi, at-line n (normal n y) j hj)
-                (unfold normal in (rw (⊗-assoc, ⊗-left-comm (x i)) (⊗-right _
-                (≼-of (⊗-comm (y i) (x j)) ▸ ray-below x g (c .order) e s v j i hj hi ▸ ≼-back (⊗-unit-r (x i)) ▸
-                ⊗-right _ (ray-diag s j hj)))))),
-          )
-            where
-              y : Vec
-              y = ray n P D s j
+          fin (s, hs, v) =
+              let (p, u) = line-from-under x g (c .order) e (need n P D s) (λ t ht. need-below x g s v t) j hj in
+              (line-from n P (need n P D s) j, rw (← candidate-from s j) (in-candidates s j hj hs), p, u)

@@ -44,7 +44,7 @@ module _ (n : ℕ) (P : Tables) (D : ℤ) where
     pub alone : Alone (at n c) where-at
 
   -- an extreme line is the only normal line of the cone under it, seen from its place
-  extreme-only : (c : Line n) (x : Extreme c) (d : Line n) → Cone n P D (at n d) → Normal n d → Present (at n d (x .where-at)) →
+  pub extreme-only : (c : Line n) (x : Extreme c) (d : Line n) → Cone n P D (at n d) → Normal n d → Present (at n d (x .where-at)) →
       Under n (x .where-at) d (at n c) → d ≡ c
   extreme-only c x d cd nd pd ld =
       under-anti n j d c nd (x .shape) pd ld (λ i hi. unshift-E (at n d i) (at n d j) (at n c i) (at n c j) pd (same i hi))

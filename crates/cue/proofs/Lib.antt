@@ -7,7 +7,9 @@ pub mod Candidates
 pub mod Extreme
 pub mod LocalTest
 pub mod Closure
+pub mod Covering
 pub mod Bounds
+pub mod Few
 pub mod WrittenLaws
 pub mod Weights
 pub mod TwoSheets

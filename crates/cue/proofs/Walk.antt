@@ -325,6 +325,10 @@ module _ (n : ℕ) (P : Tables) where
               ((z, ez), ≼-back a ▸ h),
             )
 
+    pub cone-trigger : Cone n P D x → overdue n due x ≡ num g → (i : ℕ) → i < panels → Present (floor i) →
+        (j : ℕ) × (j < n) × T (kept n P D i j) × Serves i j
+    cone-trigger c e i hi p = cone-kept c e i (in-floor-panels i hi p)
+
     -- every vector of the cone has a selection whose every fixing serves it
     pub cone-selection : Cone n P D x → overdue n due x ≡ num g →
         (s : Selection) × In s (selections n P D) × ((i j : ℕ) → In (i, j) s → Serves i j)

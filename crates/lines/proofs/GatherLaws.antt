@@ -1,4 +1,4 @@
--- Laws of gathering: one candidate more, those of a selection, and the list when the walk has ended.
+-- Laws of gathering: one line more, those of a bound, and the list when the lines considered cover the cone.
 use mathlib.Core.Path.{_≡_, refl, ap, sym, subst, _∙_}
 use mathlib.Core.Logic.{inl, inr}
 use mathlib.Core.Bool.{true, false}
@@ -8,8 +8,8 @@ use native.Mathlib.Omega.{arith}
 use native.Mathlib.Numerals.{add-one}
 use lib.ListN.{take}
 use Rattle.maxplus.specs.Finite.{In, each}
-use Rattle.maxplus.specs.Tables.{mv, normal}
-use Rattle.maxplus.specs.Line.{Line, ltL}
+use Rattle.maxplus.specs.Tables.{Vec, Mat, mv, NoGain, normal}
+use Rattle.maxplus.specs.Line.{Line, line, ltL}
 use Rattle.maxplus.specs.Sorted.{put, sift}
 use Rattle.maxplus.proofs.FiniteLaws.{in-app, in-left, in-right, in-each, each-in}
 use Rattle.maxplus.proofs.LineLaws.{strict}
@@ -17,18 +17,18 @@ use Rattle.maxplus.proofs.SortedLaws.{above, in-above, above-sorted, sorted-eq,
 use Rattle.maxplus.proofs.GatherLaws.{sift-last, sift-skip, put-take}
 use Rattle.generators.proofs.MinimalLaws.{Increasing}
 use Rattle.cue.specs.Meaning.{Tables}
-use Rattle.cue.specs.Method.{Selection, least, selections, candidate, lines}
-use Rattle.cue.proofs.Candidates.{in-candidates, candidate-of}
-use Rattle.cue.proofs.Closure.{Common, lines-common}
+use Rattle.cue.specs.Method.{least, lines}
+use Rattle.cue.proofs.Closure.{Common}
+use Rattle.cue.proofs.Covering.{Covering, lines-covered}
 use Rattle.sheet.specs.Sheet.{limit}
 use Rattle.tables.specs.Held.{meant, meantV, HoldsV}
 use Rattle.candidates.specs.Lines.{line-of, Sized, Drawn}
-use Rattle.candidates.specs.Steps.{need-of, ray-of}
-use Rattle.candidates.specs.Prepared.{picked, Prepared, Picked}
+use Rattle.candidates.specs.Steps.{ray-of}
+use Rattle.candidates.specs.Prepared.{Prepared}
 use Rattle.candidates.specs.declared.Line as candidates
 use Rattle.candidates.specs.declared.Marks.{Marks}
 use Rattle.candidates.proofs.OrderLaws.{below-says}
-use Rattle.candidates.proofs.PreparedLaws.{candidate-held}
+use Rattle.candidates.proofs.PreparedLaws.{drawn-line}
 use Rattle.lines.specs.Buffer.{room, Before, Ordered, Placed, Fresh, Inserted}
 use Rattle.lines.specs.Listing.{Wanted, wanted?, first, Gathered, drawn, drawn-all, rest}
 use Rattle.lines.proofs.ListLaws.{sorted-take}
@@ -83,93 +83,95 @@ module _ {n : ℕ} {P : Tables} {last c : List ℕ} {C : List (Line n)} {len : �
   pub gathered-ordered : Ordered len buf
   gathered-ordered = stored-ordered few (g .stored) (first-increasing n P (line-of n last) C)
 
-module _ (n : ℕ) (P : Tables) where
-  pub drawn-none : (C : List (Line n)) (s : Selection) → C ≡ C ++ drawn n P 0 s
+module _ (n : ℕ) (S : Mat) (u : Vec) where
+  pub drawn-none : (C : List (Line n)) (w : List ℕ) → C ≡ C ++ drawn n S u 0 w
   unfolding drawn each
-  drawn-none C s = sym (append-nil C)
+  drawn-none C w = sym (append-nil C)
 
-  pub drawn-more : (C : List (Line n)) (s : Selection) (t : ℕ) →
-      (C ++ drawn n P t s) ++ candidate n P (least n P) s t ∷ [] ≡ C ++ drawn n P (t + 1) s
+  pub drawn-more : (C : List (Line n)) (w : List ℕ) (t : ℕ) →
+      (C ++ drawn n S u t w) ++ line n (normal n (ray-of S u (mv n S (meantV w)) t)) ∷ [] ≡ C ++ drawn n S u (t + 1) w
   unfolding drawn each
-  drawn-more C s t = rw add-one (append-assoc C _ _)
+  drawn-more C w t = rw add-one (append-assoc C _ _)
 
-  pub drawn-snoc : (S : List Selection) (s : Selection) → drawn-all n P S ++ drawn n P n s ≡ drawn-all n P (S ++ s ∷ [])
+  pub all-none : (C : List (Line n)) → C ≡ C ++ drawn-all n S u []
   unfolding drawn-all
-  drawn-snoc [] s = sym (append-nil (drawn n P n s))
-  drawn-snoc (q ∷ S) s = append-assoc (drawn n P n q) (drawn-all n P S) (drawn n P n s) ∙ ap (λ l. drawn n P n q ++ l) (drawn-snoc S s)
+  all-none C = sym (append-nil C)
 
-  in-drawn-all : (S : List Selection) (s : Selection) (t : ℕ) → t < n → In s S → In (candidate n P (least n P) s t) (drawn-all n P S)
+  pub all-append : (U W : List (List ℕ)) → drawn-all n S u U ++ drawn-all n S u W ≡ drawn-all n S u (U ++ W)
+  unfolding drawn-all
+  all-append [] W = refl
+  all-append (v ∷ U) W = append-assoc (drawn n S u n v) (drawn-all n S u U) (drawn-all n S u W) ∙ ap (λ l. drawn n S u n v ++ l) (all-append U W)
+
+  pub all-snoc : (C : List (Line n)) (W : List (List ℕ)) (w : List ℕ) →
+      (C ++ drawn-all n S u W) ++ drawn n S u n w ≡ C ++ drawn-all n S u (W ++ w ∷ [])
+  all-snoc C W w = append-assoc C _ _ ∙ ap (λ l. C ++ l) (ap (λ l. drawn-all n S u W ++ l) single ∙ all-append W (w ∷ []))
+    where
+      single : drawn n S u n w ≡ drawn-all n S u (w ∷ [])
+      single = unfold drawn-all in sym (append-nil (drawn n S u n w))
+
+  pub in-drawn-all : (W : List (List ℕ)) (w : List ℕ) (t : ℕ) → t < n → In w W →
+      In (line n (normal n (ray-of S u (mv n S (meantV w)) t))) (drawn-all n S u W)
   unfolding drawn-all drawn
-  in-drawn-all (q ∷ S) s t h (inl e) = in-left (drawn n P n q) (drawn-all n P S) _
-      (in-each n _ _ t h (inl (ap (λ s. candidate n P (least n P) s t) e)))
-  in-drawn-all (q ∷ S) s t h (inr k) = in-right (drawn n P n q) (drawn-all n P S) _ (in-drawn-all S s t h k)
+  in-drawn-all (v ∷ W) w t h (inl e) = in-left (drawn n S u n v) (drawn-all n S u W) _
+      (in-each n _ _ t h (inl (ap (λ w. line n (normal n (ray-of S u (mv n S (meantV w)) t))) e)))
+  in-drawn-all (v ∷ W) w t h (inr k) = in-right (drawn n S u n v) (drawn-all n S u W) _ (in-drawn-all W w t h k)
 
-  drawn-all-in : (S : List Selection) (c : Line n) → In c (drawn-all n P S) →
-      (s : Selection) × (t : ℕ) × (t < n) × In s S × (c ≡ candidate n P (least n P) s t)
+  pub drawn-all-in : (W : List (List ℕ)) (c : Line n) → In c (drawn-all n S u W) →
+      (w : List ℕ) × (t : ℕ) × (t < n) × In w W × (c ≡ line n (normal n (ray-of S u (mv n S (meantV w)) t)))
   unfolding drawn-all drawn
   drawn-all-in [] c h = absurd h
-  drawn-all-in (q ∷ S) c h = elim (in-app (drawn n P n q) (drawn-all n P S) c h) [
-    | inl k ↦ let (t, ht, i) = each-in n _ c k in elim i [ inl e ↦ (q, t, ht, inl refl, e) | inr e ↦ absurd e ]
-    | inr k ↦ let (s, t, ht, i, e) = drawn-all-in S c k in (s, t, ht, inr i, e)
+  drawn-all-in (v ∷ W) c h = elim (in-app (drawn n S u n v) (drawn-all n S u W) c h) [
+    | inl k ↦ let (t, ht, i) = each-in n _ c k in elim i [ inl e ↦ (v, t, ht, inl refl, e) | inr e ↦ absurd e ]
+    | inr k ↦ let (w, t, ht, i, e) = drawn-all-in W c k in (w, t, ht, inr i, e)
   ]
 
-  -- when all selections have been walked, the least lines above last are there
-  module _ {M : Marks} {stars lags needs : List (List ℕ)} (p : Prepared n P M stars lags needs) (last : Line n) where
-    abbrev all : List (Line n)
-    all = drawn-all n P (selections n P (least n P))
+-- when the lines considered cover the cone, the least lines above last are there
+pub first-all : {n : ℕ} {P : Tables} → NoGain n (P .after) → (C : List (Line n)) → Covering n P C → (last : Line n) →
+    first n P last C ≡ take room (rest n P last)
+unfolding first
+first-all {n} {P} np C v last = ap (take room) (sorted-eq (ltL n) (strict n) (sift (ltL n) (strict n) (wanted? n P last) C)
+    (above (ltL n) (strict n) last (lines n P)) (sift-sorted (ltL n) (strict n) (wanted? n P last) C)
+    (above-sorted (ltL n) (strict n) last (lines n P)) to from)
+  where
+    to : (c : Line n) → In c (sift (ltL n) (strict n) (wanted? n P last) C) → In c (above (ltL n) (strict n) last (lines n P))
+    to c h = let (i, q) = sift-in (ltL n) (strict n) (wanted? n P last) C c h in
+        in-above (ltL n) (strict n) last (lines n P) c .1 (lines-covered n P np C v c .1 (i, q .1), q .0)
 
-    sifted-all : sift (ltL n) (strict n) (wanted? n P last) all ≡ above (ltL n) (strict n) last (lines n P)
-    sifted-all = sorted-eq (ltL n) (strict n) (sift (ltL n) (strict n) (wanted? n P last) all) (above (ltL n) (strict n) last (lines n P))
-        (sift-sorted (ltL n) (strict n) (wanted? n P last) all) (above-sorted (ltL n) (strict n) last (lines n P)) to from
-      where
-        to : (c : Line n) → In c (sift (ltL n) (strict n) (wanted? n P last) all) → In c (above (ltL n) (strict n) last (lines n P))
-        to c h = let (i, q) = sift-in (ltL n) (strict n) (wanted? n P last) all c h in
-            let (s, t, ht, k, e) = drawn-all-in (selections n P (least n P)) c i in
-            in-above (ltL n) (strict n) last (lines n P) c .1
-            (lines-common n P (p .order) c .1 (rw e (in-candidates n P (least n P) s t ht k), q .1), q .0)
+    from : (c : Line n) → In c (above (ltL n) (strict n) last (lines n P)) → In c (sift (ltL n) (strict n) (wanted? n P last) C)
+    from c h = let (i, l) = in-above (ltL n) (strict n) last (lines n P) c .0 h in
+        let (k, q) = lines-covered n P np C v c .0 i in in-sift (ltL n) (strict n) (wanted? n P last) C c k (l, q)
 
-        from : (c : Line n) → In c (above (ltL n) (strict n) last (lines n P)) → In c (sift (ltL n) (strict n) (wanted? n P last) all)
-        from c h = let (i, l) = in-above (ltL n) (strict n) last (lines n P) c .0 h in
-            let (k, q) = lines-common n P (p .order) c .0 i in
-            let (t, s, ht, hs, e) = candidate-of n P (least n P) c k in
-            in-sift (ltL n) (strict n) (wanted? n P last) all c (rw e (in-drawn-all (selections n P (least n P)) s t ht hs)) (l, q)
-
-    pub first-all : first n P last all ≡ take room (rest n P last)
-    unfolding first
-    first-all = ap (take room) sifted-all
-
--- ---- the candidates of a selection: those of the first t triggers have been considered. The words y of M* w tell of the selection; they may
--- come from any picks
-pub record Drawing (M : Marks) (stars lags needs : List (List ℕ)) (last y : List ℕ) (len₀ : ℕ) (buf₀ : List (List ℕ)) (t len : ℕ)
+-- ---- the lines of a bound: those of the first t triggers have been considered. The words y of M* w tell of the bound w, which may be any
+pub record Drawing (M : Marks) (stars lags : List (List ℕ)) (last y : List ℕ) (len₀ : ℕ) (buf₀ : List (List ℕ)) (t len : ℕ)
     (buf : List (List ℕ)) : Type 0 where
   pub so-far : t ≤ M .triggers
-  pub gathered : (P : Tables) (C : List (Line (M .triggers))) (picks : List ℕ) (w : candidates.Line) →
-      Prepared (M .triggers) P M stars lags needs → Picked (M .triggers) (M .levels) picks →
-      Drawn (M .triggers) (15 * limit) (need-of (M .levels) (meant needs) picks) w →
-      HoldsV (M .triggers) (mv (M .triggers) (meant stars) (meantV (w .at))) y → Gathered (M .triggers) P last C len₀ buf₀ →
-      Gathered (M .triggers) P last (C ++ drawn (M .triggers) P t (picked (M .triggers) P picks)) len buf
+  pub gathered : (P : Tables) (needs : List (List ℕ)) (C : List (Line (M .triggers))) (w : List ℕ) →
+      Prepared (M .triggers) P M stars lags needs → HoldsV (M .triggers) (mv (M .triggers) (meant stars) (meantV w)) y →
+      Gathered (M .triggers) P last C len₀ buf₀ →
+      Gathered (M .triggers) P last (C ++ drawn (M .triggers) (meant stars) (meantV (M .pulls)) t w) len buf
 
-module _ {M : Marks} {stars lags needs : List (List ℕ)} {last y : List ℕ} {len₀ : ℕ} {buf₀ : List (List ℕ)} where
-  pub drawing-start : Drawing M stars lags needs last y len₀ buf₀ 0 len₀ buf₀
+module _ {M : Marks} {stars lags : List (List ℕ)} {last y : List ℕ} {len₀ : ℕ} {buf₀ : List (List ℕ)} where
+  pub drawing-start : Drawing M stars lags last y len₀ buf₀ 0 len₀ buf₀
   drawing-start = record {
     so-far = omega arith;
-    gathered = λ P C picks w p k d h g. gathered-as g (drawn-none (M .triggers) P C (picked (M .triggers) P picks));
+    gathered = λ P needs C w p h g. gathered-as g (drawn-none (M .triggers) (meant stars) (meantV (M .pulls)) C w);
   }
 
-  module _ {t len : ℕ} {buf : List (List ℕ)} (s : Drawing M stars lags needs last y len₀ buf₀ t len buf) where
+  module _ {t len : ℕ} {buf : List (List ℕ)} (s : Drawing M stars lags last y len₀ buf₀ t len buf) where
     pub drawing-more : t < M .triggers → {r : candidates.Line} {more : ℕ} {after : List (List ℕ)} →
         Drawn (M .triggers) (52 * limit) (normal (M .triggers) (ray-of (meant stars) (meantV (M .pulls)) (meantV y) t)) r →
         ((P : Tables) (needs : List (List ℕ)) (C : List (Line (M .triggers))) → Prepared (M .triggers) P M stars lags needs →
         Gathered (M .triggers) P last C len buf → Gathered (M .triggers) P last (C ++ line-of (M .triggers) (r .at) ∷ []) more after) →
-        Drawing M stars lags needs last y len₀ buf₀ (t + 1) more after
+        Drawing M stars lags last y len₀ buf₀ (t + 1) more after
     drawing-more q {r} e f = record {
       so-far = omega arith;
-      gathered = λ P C picks w p k d h g.
-          let D = C ++ drawn (M .triggers) P t (picked (M .triggers) P picks) in
-          gathered-as (f P needs D p (s .gathered P C picks w p k d h g))
-          (ap (λ c. D ++ c ∷ []) (candidate-held p k w y t r q d h e) ∙ drawn-more (M .triggers) P C (picked (M .triggers) P picks) t);
+      gathered = λ P needs C w p h g.
+          let D = C ++ drawn (M .triggers) (meant stars) (meantV (M .pulls)) t w in
+          gathered-as (f P needs D p (s .gathered P needs C w p h g))
+          (ap (λ c. D ++ c ∷ []) (drawn-line (meant stars) (meantV (M .pulls)) w y t r h e) ∙
+          drawn-more (M .triggers) (meant stars) (meantV (M .pulls)) C w t);
     }
 
-    pub drawing-end : M .triggers ≤ t → Drawing M stars lags needs last y len₀ buf₀ (M .triggers) len buf
+    pub drawing-end : M .triggers ≤ t → Drawing M stars lags last y len₀ buf₀ (M .triggers) len buf
     drawing-end h = let e : t ≡ M .triggers = omega (arith, s .so-far) in
-        subst (λ k. Drawing M stars lags needs last y len₀ buf₀ k len buf) e s
+        subst (λ k. Drawing M stars lags last y len₀ buf₀ k len buf) e s

@@ -25,11 +25,8 @@ use Rattle.words.specs.Words.{entry}
 use Rattle.words.proofs.Laws.{entry-zero, close-of}
 use Rattle.sheet.specs.Sheet.{limit}
 use Rattle.tables.specs.Held.{meantV, CloselyV}
-use Rattle.walk.specs.Trace.{walkOf}
-use Rattle.walk.specs.Trace as trace
-use Rattle.walk.proofs.TraceLaws.{selections-few}
-use Rattle.walk.proofs.Whole.{walk-few}
-use Rattle.walk.proofs.Follows.{selections-follow}
+use Rattle.cue.proofs.Few as few
+use Rattle.cue.proofs.Few.{most}
 use Rattle.candidates.specs.Lines.{line-of, Sized}
 use Rattle.candidates.specs.Prepared.{Prepared}
 use Rattle.candidates.specs.declared.Marks.{Marks}
@@ -112,60 +109,8 @@ module _ {n len : ℕ} {P : Tables} {last : List ℕ} {buf : List (List ℕ)} (f
       after = sym (above-after (ltL n) (strict n) (line-of n last) b (lines n P) (take 127 left) (drop room left)
           (split-at left 127 (line-of n last) (omega (arith, filled-few)))) ∙ ap (rest n P) e
 
--- ---- how many lines there can be: no more than candidates
-module _ {A : Type 0} (lt : A → A → Type 0) (S : Strict lt) where
-  put-few : (a : A) (l : List A) → length (put lt S a l) ≤ suc (length l)
-  unfolding put
-  put-few a [] = omega arith
-  put-few a (b ∷ l) = go (put-few a l) (S .cmp a b)
-    where
-      go : length (put lt S a l) ≤ suc (length l) → (c : Cmp lt a b) →
-          length {A = A} (elim c [ less h ↦ a ∷ b ∷ l | same h ↦ b ∷ l | more h ↦ b ∷ put lt S a l ]) ≤ suc (suc (length l))
-      go ih (less h) = omega arith
-      go ih (same h) = omega arith
-      go ih (more h) = omega arith
-
-  sift-few : {Q : A → Type 0} (d : (a : A) → Dec (Q a)) (l : List A) → length (sift lt S d l) ≤ length l
-  unfolding sift
-  sift-few d [] = omega arith
-  sift-few {Q} d (a ∷ l) = go (sift-few d l) (d a)
-    where
-      go : length (sift lt S d l) ≤ length l → (k : Dec (Q a)) →
-          length {A = A} (elim k [ yes h ↦ put lt S a (sift lt S d l) | no h ↦ sift lt S d l ]) ≤ suc (length l)
-      go ih (yes h) = omega (arith, put-few a (sift lt S d l))
-      go ih (no h) = omega arith
-
--- a walk has at most 55,986 fixings and 46,656 selections, 102,642 in all
-abbrev pub most : ℕ
-most = 6 * 102642
-
-each-few : {A : Type 0} (n : ℕ) (f : ℕ → List A) → ((k : ℕ) → length (f k) ≤ 102642) → length (each n f) ≤ n * 102642
-unfolding each
-each-few zero f h = omega arith
-each-few (suc n) f h = omega (arith, length-append (each n f) (f n), each-few n f h, h n)
-
-pub lines-few : {P : Tables} {M : Marks} {stars lags needs gains : List (List ℕ)} → Given P M stars lags needs gains →
-    length (lines (M .triggers) P) ≤ most
-unfolding lines minimal candidates
-lines-few {P} {M} {gains = gains} g = omega (
-  arith,
-  sift-few (ltL n) (strict n) (needed? n (candidates n P (least n P))) (candidates n P (least n P)),
-  each-few n (λ t. mapL (λ s. candidate n P (least n P) s t) (selections n P (least n P))) (λ k. rw (map-length (λ s. candidate n P (least n P) s k)
-      (selections n P (least n P))) few),
-  g .prepared .few,
-)
-  where
-    n : ℕ
-    n = M .triggers
-
-    few : length (selections (M .triggers) P (least (M .triggers) P)) ≤ 102642
-    few = omega (
-      arith,
-      ap length (selections-follow (g .follows)),
-      map-length (zip (floor-panels n P)) (trace.selections (walkOf (M .kept) gains (M .levels))),
-      selections-few (walkOf (M .kept) gains (M .levels)),
-      walk-few (M .kept) gains (M .levels) (g .few),
-    )
+pub lines-few : {P : Tables} {M : Marks} {stars lags needs : List (List ℕ)} → Given P M stars lags needs → length (lines (M .triggers) P) ≤ most
+lines-few {P} {M} g = few.lines-few (M .triggers) P (g .prepared .few) (g .prepared .few-panels)
 
 -- ---- the words of lines that are held fit
 pub held-close : {n len : ℕ} {P : Tables} {M : Marks} {stars lags needs buf : List (List ℕ)} {last : List ℕ} → Prepared n P M stars lags needs →

@@ -20,7 +20,8 @@ use Rattle.lines.specs.Listing.{rest, Filled, Answers}
 use Rattle.lines.specs.declared.Listed.the-variants.{Lines}
 use Rattle.lines.proofs.SpaceLaws.{laid-none, laid-more, list-words-more}
 use Rattle.lines.proofs.HeldLaws.{held-length, row-sized}
-use Rattle.lines.proofs.ListingLaws.{above-blank, filled-few, filled-all, filled-full, most, lines-few}
+use Rattle.lines.proofs.ListingLaws.{above-blank, filled-few, filled-all, filled-full, lines-few}
+use Rattle.cue.proofs.Few.{most}
 
 -- words at the front
 laid-front : (before : List ℤ) (n : ℕ) (L : List (Line n)) → laid before 0 (list-words n L) ≡ list-words n L ++ drop (7 * length L) before
@@ -34,9 +35,9 @@ pub answers-lines : (n : ℕ) (L : List (Line n)) (before after : List ℤ) (k :
 answers-lines n L before after k e h o = (e, omega arith, o ∙ laid-front before n L)
 
 -- ---- counting: so many lines are not above last
-pub record Counted (M : Marks) (stars lags needs gains : List (List ℕ)) (last : List ℕ) (count : ℕ) : Type 0 where
+pub record Counted (M : Marks) (stars lags needs : List (List ℕ)) (last : List ℕ) (count : ℕ) : Type 0 where
   pub sized : Sized (M .triggers) last
-  pub counted : (P : Tables) → Given P M stars lags needs gains →
+  pub counted : (P : Tables) → Given P M stars lags needs →
       count + length (rest (M .triggers) P (line-of (M .triggers) last)) ≡ length (lines (M .triggers) P)
 
 -- ---- writing: the lines that are not above last are written
@@ -46,20 +47,20 @@ pub record Laid (n : ℕ) (P : Tables) (last : List ℕ) (before out : List ℤ)
   pub place : at ≡ 7 * length done
   pub words : out ≡ laid before 0 (list-words n done)
 
-pub record Writing (M : Marks) (stars lags needs gains : List (List ℕ)) (last : List ℕ) (before out : List ℤ) (at : ℕ) : Type 0 where
+pub record Writing (M : Marks) (stars lags needs : List (List ℕ)) (last : List ℕ) (before out : List ℤ) (at : ℕ) : Type 0 where
   pub sized : Sized (M .triggers) last
   pub size : length out ≡ length before
-  pub written : (P : Tables) → Given P M stars lags needs gains → 7 * length (lines (M .triggers) P) ≤ length before →
+  pub written : (P : Tables) → Given P M stars lags needs → 7 * length (lines (M .triggers) P) ≤ length before →
       Laid (M .triggers) P last before out at
 
-module _ {M : Marks} {stars lags needs gains : List (List ℕ)} where
-  pub counted-start : Counted M stars lags needs gains blank 0
+module _ {M : Marks} {stars lags needs : List (List ℕ)} where
+  pub counted-start : Counted M stars lags needs blank 0
   counted-start = record {
     sized = sized-none (M .triggers);
     counted = λ P g. omega (arith, ap length (above-blank (M .triggers) P));
   }
 
-  pub writing-start : {before : List ℤ} → Writing M stars lags needs gains blank before before 0
+  pub writing-start : {before : List ℤ} → Writing M stars lags needs blank before before 0
   writing-start {before} = record {
     sized = sized-none (M .triggers);
     size = refl;
@@ -73,8 +74,8 @@ module _ {M : Marks} {stars lags needs gains : List (List ℕ)} where
 
   -- what a walk has gathered
   module _ {last : List ℕ} {len : ℕ} {buf : List (List ℕ)}
-      (s : (P : Tables) → Given P M stars lags needs gains → Filled (M .triggers) P last len buf) where
-    module _ {P : Tables} (g : Given P M stars lags needs gains) where
+      (s : (P : Tables) → Given P M stars lags needs → Filled (M .triggers) P last len buf) where
+    module _ {P : Tables} (g : Given P M stars lags needs) where
       all-held : len < room → held (M .triggers) len buf ≡ rest (M .triggers) P (line-of (M .triggers) last)
       all-held = filled-all (g .prepared .few) (s P g)
 
@@ -91,15 +92,15 @@ module _ {M : Marks} {stars lags needs gains : List (List ℕ)} where
       next-sized : room ≤ len → Sized (M .triggers) (row buf 127)
       next-sized h = row-sized (g .prepared .few) (s P g .stored) 127 (omega arith)
 
-    module _ {count : ℕ} (k : Counted M stars lags needs gains last count) where
-      pub counted-few : {P : Tables} → Given P M stars lags needs gains → count + len ≤ most
+    module _ {count : ℕ} (k : Counted M stars lags needs last count) where
+      pub counted-few : {P : Tables} → Given P M stars lags needs → count + len ≤ most
       counted-few {P} g = omega (arith, k .counted P g, few-held g, lines-few g)
 
-      pub counted-end : len < room → (P : Tables) → Given P M stars lags needs gains → count + len ≡ length (lines (M .triggers) P)
+      pub counted-end : len < room → (P : Tables) → Given P M stars lags needs → count + len ≡ length (lines (M .triggers) P)
       counted-end h P g = omega (arith, k .counted P g, ap length (all-held g h), many-held g)
 
-      pub counted-more : {P : Tables} → Given P M stars lags needs gains → room ≤ len →
-          Counted M stars lags needs gains (row buf 127) (count + len)
+      pub counted-more : {P : Tables} → Given P M stars lags needs → room ≤ len →
+          Counted M stars lags needs (row buf 127) (count + len)
       counted-more f h = record {
         sized = next-sized f h;
         counted = λ P g. omega (
@@ -111,8 +112,8 @@ module _ {M : Marks} {stars lags needs gains : List (List ℕ)} where
         );
       }
 
-    module _ {before out : List ℤ} {at : ℕ} (w : Writing M stars lags needs gains last before out at) where
-      module _ {P : Tables} (g : Given P M stars lags needs gains) (h : 7 * length (lines (M .triggers) P) ≤ length before) where
+    module _ {before out : List ℤ} {at : ℕ} (w : Writing M stars lags needs last before out at) where
+      module _ {P : Tables} (g : Given P M stars lags needs) (h : 7 * length (lines (M .triggers) P) ≤ length before) where
         abbrev written : List (Line (M .triggers))
         written = w .written P g h .done
 
@@ -155,9 +156,9 @@ module _ {M : Marks} {stars lags needs gains : List (List ℕ)} where
             words = more-words;
           }
 
-      pub writing-more : {P : Tables} → Given P M stars lags needs gains → room ≤ len → {after : List ℤ} → length after ≡ length out →
+      pub writing-more : {P : Tables} → Given P M stars lags needs → room ≤ len → {after : List ℤ} → length after ≡ length out →
           after ≡ laid out at (list-words (M .triggers) (held (M .triggers) len buf)) →
-          Writing M stars lags needs gains (row buf 127) before after (at + 7 * len)
+          Writing M stars lags needs (row buf 127) before after (at + 7 * len)
       writing-more f k z e = record {
         sized = next-sized f k;
         size = z ∙ w .size;
@@ -165,8 +166,8 @@ module _ {M : Marks} {stars lags needs gains : List (List ℕ)} where
       }
 
   -- ---- the first walk: a buffer that was not filled holds the whole list
-  module _ {len : ℕ} {buf : List (List ℕ)} (s : (P : Tables) → Given P M stars lags needs gains → Filled (M .triggers) P blank len buf)
-      (h : len < room) {P : Tables} (g : Given P M stars lags needs gains) where
+  module _ {len : ℕ} {buf : List (List ℕ)} (s : (P : Tables) → Given P M stars lags needs → Filled (M .triggers) P blank len buf)
+      (h : len < room) {P : Tables} (g : Given P M stars lags needs) where
     whole-held : held (M .triggers) len buf ≡ lines (M .triggers) P
     whole-held = all-held s g h ∙ above-blank (M .triggers) P
 

@@ -13,17 +13,16 @@ pub fn count_lines(
     star: &[[u64; 6]; 6],
     lag: &[[u64; 6]; 6],
     needs: &[[u64; 6]; 6],
-    gains: &[[u64; 6]; 6],
 ) -> usize
-    requires { ⌜ ((P : Tables) × Given P marks (now star) (now lag) (now needs) (now gains)) ⌝ }
-    ensures { λ r. ⌜ ((P : Tables) → Given P marks (now (star .entry)) (now (lag .entry)) (now (needs .entry)) (now (gains .entry)) →
+    requires { ⌜ ((P : Tables) × Given P marks (now star) (now lag) (now needs)) ⌝ }
+    ensures { λ r. ⌜ ((P : Tables) → Given P marks (now (star .entry)) (now (lag .entry)) (now (needs .entry)) →
         r ≡ length (lines (marks .triggers) P)) ⌝ }
 {
     let mut buf = [[0u64; 6]; 128];
     let mut last = [0u64; 6];
     let mut count: usize = 0;
     loop {
-        let len = gather(&mut buf, last, marks, star, lag, needs, gains);
+        let len = gather(&mut buf, last, marks, star, lag, needs);
         count += len;
         if len < ROOM {
             return count;

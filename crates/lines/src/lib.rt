@@ -1,4 +1,4 @@
-// From prepared tables to document 01's list in a lent space. A buffer gathers the lines in order, in one walk for each buffer-full.
+// From prepared tables to document 01's list in a lent space. A buffer gathers the lines in order, one buffer-full after the other.
 ghost use Rattle.cue.specs.Meaning.{Tables};
 ghost use Rattle.cue.specs.Method.{lines};
 ghost use Rattle.lines.specs.Given.{Given};
@@ -9,6 +9,7 @@ use crate::write::write_held;
 use crate::write::write_lines;
 use candidates::Marks;
 
+mod bounds;
 mod buffer;
 mod count;
 mod gather;
@@ -30,16 +31,15 @@ pub fn list(
     star: &[[u64; 6]; 6],
     lag: &[[u64; 6]; 6],
     needs: &[[u64; 6]; 6],
-    gains: &[[u64; 6]; 6],
 ) -> Listed
-    requires { ⌜ ((P : Tables) × Given P marks (now star) (now lag) (now needs) (now gains)) ⌝ }
-    ensures { λ r. ⌜ ((P : Tables) → Given P marks (now (star .entry)) (now (lag .entry)) (now (needs .entry)) (now (gains .entry)) →
+    requires { ⌜ ((P : Tables) × Given P marks (now star) (now lag) (now needs)) ⌝ }
+    ensures { λ r. ⌜ ((P : Tables) → Given P marks (now (star .entry)) (now (lag .entry)) (now (needs .entry)) →
         Answers (marks .triggers) (lines (marks .triggers) P) (now (out .entry)) (now (out .exit)) r) ⌝ }
 {
     let mut buf = [[0u64; 6]; 128];
     let n = marks.triggers;
     let room = out.len() / 7;
-    let len = gather(&mut buf, [0u64; 6], marks, star, lag, needs, gains);
+    let len = gather(&mut buf, [0u64; 6], marks, star, lag, needs);
     // A buffer that was not filled holds the whole list.
     if len < ROOM {
         if room < len {
@@ -48,10 +48,10 @@ pub fn list(
         write_held(out, 0, &buf, len, n);
         return Listed::Lines(len);
     }
-    let count = count_lines(marks, star, lag, needs, gains);
+    let count = count_lines(marks, star, lag, needs);
     if room < count {
         return Listed::NoRoom(count);
     }
-    write_lines(out, marks, star, lag, needs, gains);
+    write_lines(out, marks, star, lag, needs);
     Listed::Lines(count)
 }

@@ -68,11 +68,10 @@ pub fn write_lines(
     star: &[[u64; 6]; 6],
     lag: &[[u64; 6]; 6],
     needs: &[[u64; 6]; 6],
-    gains: &[[u64; 6]; 6],
 )
-    requires { ⌜ ((P : Tables) × Given P marks (now star) (now lag) (now needs) (now gains)
+    requires { ⌜ ((P : Tables) × Given P marks (now star) (now lag) (now needs)
         × (7 * length (lines (marks .triggers) P) ≤ length (now out))) ⌝ }
-    ensures { λ r. ⌜ ((P : Tables) → Given P marks (now (star .entry)) (now (lag .entry)) (now (needs .entry)) (now (gains .entry)) →
+    ensures { λ r. ⌜ ((P : Tables) → Given P marks (now (star .entry)) (now (lag .entry)) (now (needs .entry)) →
         7 * length (lines (marks .triggers) P) ≤ length (now (out .entry)) →
         now (out .exit) ≡ laid (now (out .entry)) 0 (list-words (marks .triggers) (lines (marks .triggers) P))) ⌝ }
 {
@@ -80,7 +79,7 @@ pub fn write_lines(
     let mut last = [0u64; 6];
     let mut at: usize = 0;
     loop {
-        let len = gather(&mut buf, last, marks, star, lag, needs, gains);
+        let len = gather(&mut buf, last, marks, star, lag, needs);
         write_held(out, at, &buf, len, marks.triggers);
         if len < ROOM {
             return;

@@ -1,9 +1,11 @@
 -- Laws of a sheet's marks: what each step asks and gives, so that the walk follows document 01's and the lines are drawn from prepared words.
 use mathlib.Core.Path.{_≡_, refl, ap, ap₂, sym, _∙_}
+use mathlib.Core.Bool.{_&&_}
 use mathlib.Core.List.{List, [], _∷_}
 use Prim.Native.Nat.{ℕ, zero, suc, _*_, _≤_, _<_}
 use native.Mathlib.Omega.{arith}
 use native.Mathlib.Decide.{decLt}
+use lib.Dec.{ltb}
 use lib.ListN.{length, getD}
 use lib.Seq.{getD-take}
 use Rattle.maxplus.specs.Entry.{num, _⊗_, inv, leqE}
@@ -151,6 +153,11 @@ module _ (P : Tables) (t : Sheet) (stars throughs : List (List ℕ)) (F : Fit P 
         floor-close = λ l h. floors-close (t .triggers) P (F .lags) (F .afters) (t .floor) (t .due) (F .held) .at _ (panel-there l h);
       }
 
+  -- a level's mask is its panel's kept triggers
+  pub level-bits : (l j : ℕ) → l < r .marks .levels → j < 6 → bit (getD (r .marks .kept) l 0) j ≡
+      (ltb j (t .triggers) && kept (t .triggers) P (least (t .triggers) P) (getD (floor-panels (t .triggers) P) l 0) j)
+  level-bits l j h hj = ap (λ b. bit b j) (level-byte l h) ∙ kept-bit (t .triggers) P (least (t .triggers) P) _ j (F .held .few) hj
+
   module _ (gains : List (List ℕ))
       (G : Holds (r .marks .levels) (t .triggers) (λ l j. meant throughs (getD (r .at) l 0) j ⊗ inv (meantV (t .floor) (getD (r .at) l 0))) gains) where
     gain-is : (l j : ℕ) → l < r .marks .levels → j < t .triggers →
@@ -167,7 +174,7 @@ module _ (P : Tables) (t : Sheet) (stars throughs : List (List ℕ)) (F : Fit P 
           many = sym levels-many;
           few = F .held .few;
           small = masks-small;
-          bits = λ l j h hj. ap (λ b. bit b j) (level-byte l h) ∙ kept-bit (t .triggers) P (least (t .triggers) P) _ j (F .held .few) hj;
+          bits = level-bits;
           order = λ l k j h hk hj p q. word-order _ _ ∙ ap₂ leqE (gain-is l j (omega arith) hj) (gain-is k j hk hj);
         }
 

@@ -1,5 +1,5 @@
 -- Decisions below a bound and over a list; who is in a list that is built.
-use mathlib.Core.Path.{_≡_, refl, ap}
+use mathlib.Core.Path.{_≡_, refl, ap, sym}
 use mathlib.Core.Logic.{_⊎_, inl, inr}
 use mathlib.Core.List.{List, [], _∷_, _++_}
 use mathlib.Core.Bool.{decide}
@@ -123,3 +123,8 @@ pub in-at : {A : Type 0} (d : A) (l : List A) (k : ℕ) → k < length l → In 
 in-at d [] k h = let e : ⊥ = omega arith in absurd e
 in-at d (a ∷ l) zero h = inl refl
 in-at d (a ∷ l) (suc k) h = inr (in-at d l k (omega arith))
+
+pub in-place : {A : Type 0} (d : A) (l : List A) (a : A) → In a l → (k : ℕ) × (k < length l) × (getD l k d ≡ a)
+in-place d [] a h = absurd h
+in-place d (b ∷ l) a (inl e) = (0, omega arith, sym e)
+in-place d (b ∷ l) a (inr h) = let (k, i, e) = in-place d l a h in (suc k, omega arith, e)

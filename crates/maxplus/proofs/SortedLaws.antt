@@ -2,6 +2,9 @@
 use mathlib.Core.Path.{_≡_, refl, ap₂, sym, _∙_}
 use mathlib.Core.Logic.{_⊎_, inl, inr, _↔_}
 use mathlib.Core.List.{List, [], _∷_}
+use Prim.Native.Nat.{suc, _≤_}
+use native.Mathlib.Omega.{arith}
+use lib.ListN.{length}
 use Rattle.maxplus.specs.Finite.{In}
 use Rattle.maxplus.specs.Sorted.{Cmp, less, same, more, Strict, Sorted, put, sift}
 
@@ -147,3 +150,25 @@ module _ {A : Type 0} (lt : A → A → Type 0) (S : Strict lt) where
       go : (r : List A) → ((c : A) → In c r → ⊥) → r ≡ []
       go [] g = refl
       go (c ∷ r) g = absurd (g c (inl refl))
+
+  -- ---- sorting out what is wanted makes no list longer
+  put-few : (a : A) (l : List A) → length (put lt S a l) ≤ suc (length l)
+  unfolding put
+  put-few a [] = omega arith
+  put-few a (b ∷ l) = go (put-few a l) (S .cmp a b)
+    where
+      go : length (put lt S a l) ≤ suc (length l) → (c : Cmp lt a b) →
+          length {A = A} (elim c [ less h ↦ a ∷ b ∷ l | same h ↦ b ∷ l | more h ↦ b ∷ put lt S a l ]) ≤ suc (suc (length l))
+      go ih (less h) = omega arith
+      go ih (same h) = omega arith
+      go ih (more h) = omega arith
+
+  pub sift-few : {Q : A → Type 0} (d : (a : A) → Dec (Q a)) (l : List A) → length (sift lt S d l) ≤ length l
+  unfolding sift
+  sift-few d [] = omega arith
+  sift-few {Q} d (a ∷ l) = go (sift-few d l) (d a)
+    where
+      go : length (sift lt S d l) ≤ length l → (k : Dec (Q a)) →
+          length {A = A} (elim k [ yes h ↦ put lt S a (sift lt S d l) | no h ↦ sift lt S d l ]) ≤ suc (length l)
+      go ih (yes h) = omega (arith, put-few a (sift lt S d l))
+      go ih (no h) = omega arith

@@ -1,22 +1,22 @@
 -- What a planning returns and leaves, by what became of its list.
 use mathlib.Core.Path.{_≡_, refl, ap, sym, subst}
-use mathlib.Core.Bool.{Bool, true, false, cond}
+use mathlib.Core.Bool.{Bool, true, false, cond, _&&_}
 use mathlib.Core.List.{List, []}
 use Prim.Native.Nat.{ℕ, _/_, _≤_, _<_}
 use native.Mathlib.Omega.{arith}
 use borrow.Author.Tests.{leb-true, leb-false}
-use lib.Dec.{leb}
+use lib.Dec.{leb, ltb}
 use lib.IntN.{ℤ}
 use lib.ListN.{length, getD}
 use Rattle.maxplus.specs.Entry.{_⊗_, inv}
 use Rattle.maxplus.specs.Tables.{NoGain}
 use Rattle.cue.specs.Meaning.{Tables}
-use Rattle.cue.specs.Method.{least, floor-panels, steps, selections, lines}
+use Rattle.cue.specs.Method.{least, floor-panels, kept, steps, selections, lines}
 use Rattle.sheet.specs.Sheet.{got, read}
 use Rattle.sheet.specs.Sheet as spec
 use Rattle.sheet.specs.declared.Sheet.{Sheet}
 use Rattle.tables.specs.Held.{meant, meantV, Holds}
-use Rattle.walk.specs.Follows.{Follows}
+use Rattle.tables.specs.Steps.{bit}
 use Rattle.walk.specs.declared.Counts.{Counts}
 use Rattle.candidates.specs.Prepared.{Prepared}
 use Rattle.lines.specs.Given.{Given}
@@ -24,7 +24,7 @@ use Rattle.lines.specs.Listing.{Answers}
 use Rattle.lines.specs.declared.Listed.the-variants.{Lines, NoRoom}
 use Rattle.marks.specs.Marked.{Fit, MarkedAs}
 use Rattle.marks.specs.declared.Marked.{Marked}
-use Rattle.marks.proofs.Laws.{levels-some, levels-few, follows, prepared}
+use Rattle.marks.proofs.Laws.{level-bits, prepared}
 use Rattle.planner.specs.Outcome.{Outcome, planned, full, refused, plan-of, planning, space-after}
 use Rattle.planner.specs.Answers.{plan-answer}
 use Rattle.planner.specs.Inner.{Does}
@@ -33,18 +33,14 @@ use Rattle.planner.proofs.OrderlyLaws.{orderly-refused, orderly-8, orde
 
 -- ---- what the list is drawn from
 pub given : (P : Tables) (t : Sheet) (stars throughs : List (List ℕ)) → Fit P t stars throughs → (r : Marked) → MarkedAs P t r →
-    (lags needs gains : List (List ℕ)) → Holds (P .panels) (t .triggers) (P .lag) lags →
+    (lags needs : List (List ℕ)) → Holds (P .panels) (t .triggers) (P .lag) lags →
     Holds (r .marks .levels) (t .triggers) (λ l j. meantV (r .marks .asks) (getD (r .at) l 0) ⊗ inv (meant throughs (getD (r .at) l 0) j)) needs →
-    Holds (r .marks .levels) (t .triggers) (λ l j. meant throughs (getD (r .at) l 0) j ⊗ inv (meantV (t .floor) (getD (r .at) l 0))) gains →
-    Given P (r .marks) stars lags needs gains
-given P t stars throughs F r M lags needs gains L N G =
-    record {
-      prepared = subst (λ n. Prepared n P (r .marks) stars lags needs) (sym (M .triggers-are)) (prepared P t stars throughs F r M lags needs L N);
-      follows = subst (λ n. Follows n P (least n P) (r .marks .levels) (r .marks .kept) gains (floor-panels n P)) (sym (M .triggers-are))
-          (follows P t stars throughs F r M gains G);
-      some = levels-some P t stars throughs F r M;
-      few = levels-few P t stars throughs F r M;
-    }
+    Given P (r .marks) stars lags needs
+given P t stars throughs F r M lags needs L N = record {
+  prepared = subst (λ n. Prepared n P (r .marks) stars lags needs) (sym (M .triggers-are)) (prepared P t stars throughs F r M lags needs L N);
+  masks = subst (λ n. (l j : ℕ) → l < r .marks .levels → j < 6 → bit (getD (r .marks .kept) l 0) j ≡
+      (ltb j n && kept n P (least n P) (getD (floor-panels n P) l 0) j)) (sym (M .triggers-are)) (level-bits P t stars throughs F r M);
+}
 
 -- ---- what became of it
 module _ (n : ℕ) (P : Tables) (before after : List ℤ) where

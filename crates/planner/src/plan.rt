@@ -63,7 +63,7 @@ fn listed(t: Sheet, after: &[[u64; 6]; 6], space: &mut [i32]) -> CuePlan
     let needs = marks::needs(&through, asks, at, f, n);
     let counts = walk::count(f, &masks, &gains);
     let deviation = words::number(marked.least);
-    match lines::list(space, marks, &star, &lag, &needs, &gains) {
+    match lines::list(space, marks, &star, &lag, &needs) {
         Listed::NoRoom(k) => no_room(k),
         Listed::Lines(k) => CuePlan {
             refusal: 0,

@@ -4,16 +4,16 @@ use Prim.Native.Nat.{_-_}
 use native.Mathlib.Omega.{arith}
 use lib.ListN.{length}
 use Rattle.lines.specs.Buffer.{room}
-use Rattle.lines.proofs.ListingLaws.{most}
+use Rattle.cue.proofs.Few.{most}
 use Rattle.lines.proofs.TurnLaws.{Counted, counted-start, counted-few, counted-end, counted-more}
 use Rattle.lines.proofs.count.count_lines.Statement.{statement}
 use Rattle.lines.proofs.count.count_lines.Tie as tie
 
 abbrev Inv-loop : tie.InvT-loop
-Inv-loop marks star lag needs gains buf₀ last₀ count₀ buf last count = (length buf ≡ room) × Counted marks star lag needs gains last count
+Inv-loop marks star lag needs buf₀ last₀ count₀ buf last count = (length buf ≡ room) × Counted marks star lag needs last count
 
 abbrev μ-loop : tie.MeasureT-loop
-μ-loop marks star lag needs gains buf₀ last₀ count₀ buf last count = most - count
+μ-loop marks star lag needs buf₀ last₀ count₀ buf last count = most - count
 
 loop-holds : tie.Need-loop-holds Inv-loop μ-loop
 loop-holds c = (refl, counted-start)

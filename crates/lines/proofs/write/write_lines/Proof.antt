@@ -10,11 +10,11 @@ use Rattle.lines.proofs.write.write_lines.Statement.{statement}
 use Rattle.lines.proofs.write.write_lines.Tie as tie
 
 abbrev Inv-loop : tie.InvT-loop
-Inv-loop out₀ marks star lag needs gains buf₀ last₀ at₀ out buf last at =
-    (length buf ≡ room) × Writing marks star lag needs gains last out₀ out at
+Inv-loop out₀ marks star lag needs buf₀ last₀ at₀ out buf last at =
+    (length buf ≡ room) × Writing marks star lag needs last out₀ out at
 
 abbrev μ-loop : tie.MeasureT-loop
-μ-loop out₀ marks star lag needs gains buf₀ last₀ at₀ out buf last at = length out₀ - at
+μ-loop out₀ marks star lag needs buf₀ last₀ at₀ out buf last at = length out₀ - at
 
 -- what is held fits in what is left of the space
 room-left : (c : tie.After-gather Inv-loop μ-loop) →

@@ -30,18 +30,18 @@ marked : (c : tie.After-marks-of) (s : spec.Sheet) → Orderly s (c .before .bef
 marked c s O = c .marks-of .ensures (tables-of s) (fits (c .before .before .before) s O)
 
 drawn-from : (c : tie.After-needs) (s : spec.Sheet) → Orderly s (c .before .before .before .before .before .before .before .before .before .before .before .before .before .before .before .before .before .before .args .t) (c .before .before .before .before .before .before .before .before .before .before .before .before .before .before .before .before .before .before .args .after .now) →
-    Given (tables-of s) (c .before .before .before .before .before .before .before .before .before .marks-of .result .marks) (c .before .before .before .before .before .before .before .before .before .before .before .before .before .before .before .star .result) (c .before .before .before .before .before .before .before .before .before .before .before .before .before .before .before .before .table .result) (c .needs .result) (c .before .before .gains .result)
+    Given (tables-of s) (c .before .before .before .before .before .before .before .before .before .marks-of .result .marks) (c .before .before .before .before .before .before .before .before .before .before .before .before .before .before .before .star .result) (c .before .before .before .before .before .before .before .before .before .before .before .before .before .before .before .before .table .result) (c .needs .result)
 drawn-from c s O =
     let k = c .before .before .before .before .before .before .before .before .before in
-    given _ _ _ _ (fits (k .before .before .before) s O) _ (marked k s O) _ _ _
-    (lag-held s _ _ (O .worded) (c .before .before .before .before .before .before .before .before .before .before .before .before .before .before .before .before .table .result) (c .before .before .before .before .before .before .before .before .before .before .before .before .before .before .before .before .table .ensures) _ (c .before .before .before .before .before .before .before .before .before .before .before .before .before .before .before .star .ensures)) (c .needs .ensures) (c .before .before .gains .ensures)
+    given _ _ _ _ (fits (k .before .before .before) s O) _ (marked k s O) _ _
+    (lag-held s _ _ (O .worded) (c .before .before .before .before .before .before .before .before .before .before .before .before .before .before .before .before .table .result) (c .before .before .before .before .before .before .before .before .before .before .before .before .before .before .before .before .table .ensures) _ (c .before .before .before .before .before .before .before .before .before .before .before .before .before .before .before .star .ensures)) (c .needs .ensures)
 
 -- what became of the list
-answers : (c : tie.After-list) (s : spec.Sheet) → Orderly s (c .before .before .before .before .before .before .before .before .before .before .before .before .before .before .before .before .before .before .before .before .before .before .before .before .before .before .before .before .args .t) (c .before .before .before .before .before .before .before .before .before .before .before .before .before .before .before .before .before .before .before .before .before .before .before .before .before .before .before .before .args .after .now) → (r : Listed) → c .list .result ≡ r →
-    Answers (c .before .before .before .before .before .before .before .before .before .before .before .before .before .before .before .before .before .before .before .before .before .before .before .before .before .before .before .before .args .t .triggers) (lines (c .before .before .before .before .before .before .before .before .before .before .before .before .before .before .before .before .before .before .before .before .before .before .before .before .before .before .before .before .args .t .triggers) (tables-of s)) (c .before .before .before .before .before .before .before .before .before .before .before .before .before .before .before .before .before .before .before .before .before .before .before .before .before .before .before .before .args .space .now) (c .list .last .0) r
+answers : (c : tie.After-list) (s : spec.Sheet) → Orderly s (c .before .before .before .before .before .before .before .before .before .before .before .before .before .before .before .before .before .before .before .before .before .before .before .before .before .before .before .args .t) (c .before .before .before .before .before .before .before .before .before .before .before .before .before .before .before .before .before .before .before .before .before .before .before .before .before .before .before .args .after .now) → (r : Listed) → c .list .result ≡ r →
+    Answers (c .before .before .before .before .before .before .before .before .before .before .before .before .before .before .before .before .before .before .before .before .before .before .before .before .before .before .before .args .t .triggers) (lines (c .before .before .before .before .before .before .before .before .before .before .before .before .before .before .before .before .before .before .before .before .before .before .before .before .before .before .before .args .t .triggers) (tables-of s)) (c .before .before .before .before .before .before .before .before .before .before .before .before .before .before .before .before .before .before .before .before .before .before .before .before .before .before .before .args .space .now) (c .list .last .0) r
 answers c s O r e =
-    subst (λ n. Answers n (lines n (tables-of s)) (c .before .before .before .before .before .before .before .before .before .before .before .before .before .before .before .before .before .before .before .before .before .before .before .before .before .before .before .before .args .space .now) (c .list .last .0) r) (marked (c .before .before .before .before .before .before .before .before .before .before .before .before .before .before .before .before .before .before .before) s O .triggers-are)
-    (subst (Answers (c .before .before .before .before .before .before .before .before .before .before .before .before .before .before .before .before .before .before .before .marks-of .result .marks .triggers) (lines (c .before .before .before .before .before .before .before .before .before .before .before .before .before .before .before .before .before .before .before .marks-of .result .marks .triggers) (tables-of s)) (c .before .before .before .before .before .before .before .before .before .before .before .before .before .before .before .before .before .before .before .before .before .before .before .before .before .before .before .before .args .space .now) (c .list .last .0)) e (c .list .ensures (tables-of s) (drawn-from (c .before .before .before .before .before .before .before .before .before .before) s O)))
+    subst (λ n. Answers n (lines n (tables-of s)) (c .before .before .before .before .before .before .before .before .before .before .before .before .before .before .before .before .before .before .before .before .before .before .before .before .before .before .before .args .space .now) (c .list .last .0) r) (marked (c .before .before .before .before .before .before .before .before .before .before .before .before .before .before .before .before .before .before) s O .triggers-are)
+    (subst (Answers (c .before .before .before .before .before .before .before .before .before .before .before .before .before .before .before .before .before .before .marks-of .result .marks .triggers) (lines (c .before .before .before .before .before .before .before .before .before .before .before .before .before .before .before .before .before .before .marks-of .result .marks .triggers) (tables-of s)) (c .before .before .before .before .before .before .before .before .before .before .before .before .before .before .before .before .before .before .before .before .before .before .before .before .before .before .before .args .space .now) (c .list .last .0)) e (c .list .ensures (tables-of s) (drawn-from (c .before .before .before .before .before .before .before .before .before) s O)))
 
 table-requires : tie.Need-table-requires
 table-requires c κs = search needs
@@ -87,8 +87,8 @@ number-requires c κs =
 
 list-requires : tie.Need-list-requires
 list-requires c κs =
-    let (s, O) = c .before .before .before .before .before .before .before .before .before .before .before .before .before .before .before .before .before .before .before .before .before .before .before .before .before .before .before .pre in
-    (tables-of s, drawn-from (c .before .before .before .before .before .before .before .before .before) s O)
+    let (s, O) = c .before .before .before .before .before .before .before .before .before .before .before .before .before .before .before .before .before .before .before .before .before .before .before .before .before .before .pre in
+    (tables-of s, drawn-from (c .before .before .before .before .before .before .before .before) s O)
 
 enum-known-k : tie.Need-enum-known-k
 enum-known-k c = search needs
@@ -113,12 +113,12 @@ same-length-2 c = search needs
 returns-2 : tie.Need-returns-2
 returns-2 c = λ s O.
     let (k, e) = c .before .k2 .given in
-    let m = c .before .before .before .before .before .before .before .before .before .before .before .before .before .before .before .before .before .before .before .before .before .before .before in
+    let m = c .before .before .before .before .before .before .before .before .before .before .before .before .before .before .before .before .before .before .before .before .before .before in
     let F = fits (m .before .before .before) s O in
     let M = marked m s O in
-    let z : toZ w64 (ofZ w64 (c .before .before .before .before .before .before .before .before .before .before .number .result)) ≡ c .before .before .before .before .before .before .before .before .before .before .number .result = toZ-ofZ (record { sfits = c .before .before .before .before .before .before .before .before .before .before .number .ok }) in
-    does-moved (tables-of s) (triggers-of s _ _ (O .worded)) (does-lines _ _ _ _ _ _ _ (z ∙ num-inj (sym (c .before .before .before .before .before .before .before .before .before .before .number .ensures) ∙ M .deviation))
-    (c .before .before .before .before .before .before .before .before .before .before .before .count .ensures ∙ counts-follow (follows _ _ _ _ F _ M _ (c .before .before .before .before .before .before .before .before .before .before .before .before .before .before .before .before .gains .ensures))) (answers (c .before .before .before .before) s O _ e))
+    let z : toZ w64 (ofZ w64 (c .before .before .before .before .before .before .before .before .before .number .result)) ≡ c .before .before .before .before .before .before .before .before .before .number .result = toZ-ofZ (record { sfits = c .before .before .before .before .before .before .before .before .before .number .ok }) in
+    does-moved (tables-of s) (triggers-of s _ _ (O .worded)) (does-lines _ _ _ _ _ _ _ (z ∙ num-inj (sym (c .before .before .before .before .before .before .before .before .before .number .ensures) ∙ M .deviation))
+    (c .before .before .before .before .before .before .before .before .before .before .count .ensures ∙ counts-follow (follows _ _ _ _ F _ M _ (c .before .before .before .before .before .before .before .before .before .before .before .before .before .before .before .gains .ensures))) (answers (c .before .before .before .before) s O _ e))
 
 pub listed-spec : {M : Type 1} → statement M
 listed-spec =

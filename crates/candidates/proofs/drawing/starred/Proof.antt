@@ -1,4 +1,4 @@
--- `candidates::selection::starred` meets its contract. The rows passed are written. Assumes nothing.
+-- `candidates::drawing::starred` meets its contract. The rows passed are written. Assumes nothing.
 use mathlib.Core.Path.{_≡_}
 use Prim.Native.Nat.{_*_, _≤_, _-_}
 use native.Mathlib.Omega.{arith}
@@ -8,8 +8,8 @@ use Rattle.sheet.specs.Sheet.{limit}
 use Rattle.tables.specs.Held.{meant, meantV}
 use Rattle.tables.proofs.Loops.{Filled, filled-none, filled-more}
 use Rattle.candidates.proofs.WordLaws.{closely-moreV, closely-row, dot-is, dot-close}
-use Rattle.candidates.proofs.selection.starred.Statement.{statement}
-use Rattle.candidates.proofs.selection.starred.Tie as tie
+use Rattle.candidates.proofs.drawing.starred.Statement.{statement}
+use Rattle.candidates.proofs.drawing.starred.Tie as tie
 
 abbrev Inv-loop : tie.InvT-loop
 Inv-loop star n at r₀ i₀ r i = (i ≤ n) × Filled (λ i v. (entry v ≡ mv n (meant star) (meantV at) i) × Close (20 * limit) v) 0 r i

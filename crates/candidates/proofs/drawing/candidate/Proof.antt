@@ -1,11 +1,11 @@
--- `candidates::selection::candidate` meets its contract. Assumes nothing.
+-- `candidates::drawing::candidate` meets its contract. Assumes nothing.
 use native.Mathlib.Omega.{arith}
 use Rattle.tables.specs.Held.{meantV}
 use Rattle.candidates.specs.Steps.{ray-of}
 use Rattle.candidates.proofs.WordLaws.{close-largest}
 use Rattle.candidates.proofs.DrawLaws.{candidate-drawn}
-use Rattle.candidates.proofs.selection.candidate.Statement.{statement}
-use Rattle.candidates.proofs.selection.candidate.Tie as tie
+use Rattle.candidates.proofs.drawing.candidate.Statement.{statement}
+use Rattle.candidates.proofs.drawing.candidate.Tie as tie
 
 mul-drawn : tie.Need-mul-drawn
 mul-drawn c = omega arith

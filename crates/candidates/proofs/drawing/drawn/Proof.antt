@@ -1,4 +1,4 @@
--- `candidates::selection::drawn` meets its contract. The places passed are written. Assumes nothing.
+-- `candidates::drawing::drawn` meets its contract. The places passed are written. Assumes nothing.
 use mathlib.Core.Path.{_≡_}
 use Prim.Native.Nat.{_*_, _≤_, _-_}
 use native.Mathlib.Omega.{arith}
@@ -9,8 +9,8 @@ use Rattle.sheet.specs.Sheet.{limit}
 use Rattle.tables.specs.Held.{meant, meantV}
 use Rattle.tables.proofs.Loops.{Filled, filled-none, filled-more}
 use Rattle.candidates.proofs.DrawLaws.{ray-is}
-use Rattle.candidates.proofs.selection.drawn.Statement.{statement}
-use Rattle.candidates.proofs.selection.drawn.Tie as tie
+use Rattle.candidates.proofs.drawing.drawn.Statement.{statement}
+use Rattle.candidates.proofs.drawing.drawn.Tie as tie
 
 abbrev Inv-loop : tie.InvT-loop
 Inv-loop star pull n t starred r₀ i₀ r i = (i ≤ n) ×

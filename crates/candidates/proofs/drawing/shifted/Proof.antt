@@ -1,4 +1,4 @@
--- `candidates::selection::shifted` meets its contract. The places passed are written. Assumes nothing.
+-- `candidates::drawing::shifted` meets its contract. The places passed are written. Assumes nothing.
 use Prim.Native.Nat.{_≤_, _-_}
 use native.Mathlib.Omega.{arith}
 use Rattle.maxplus.specs.Entry.{_⊗_, inv}
@@ -7,8 +7,8 @@ use Rattle.words.proofs.Laws.{close-more}
 use Rattle.tables.specs.Held.{meantV}
 use Rattle.candidates.specs.Lines.{Written}
 use Rattle.candidates.proofs.WordLaws.{written-none, written-more, written-all}
-use Rattle.candidates.proofs.selection.shifted.Statement.{statement}
-use Rattle.candidates.proofs.selection.shifted.Tie as tie
+use Rattle.candidates.proofs.drawing.shifted.Statement.{statement}
+use Rattle.candidates.proofs.drawing.shifted.Tie as tie
 
 abbrev Inv-loop : tie.InvT-loop
 Inv-loop top n x r₀ j₀ r j = (j ≤ n) × Written j (λ j. meantV x j ⊗ inv (entry top)) r

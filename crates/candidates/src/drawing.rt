@@ -1,5 +1,4 @@
-// Step 6: from the picks of a selection to its candidates.
-ghost use mathlib.Core.Path.{_≡_};
+// Step 6: from w to its candidates.
 ghost use Prim.Native.Nat.{_*_, _≤_, _<_};
 ghost use Rattle.maxplus.specs.Entry.{_⊗_, _⊕_, inv};
 ghost use Rattle.maxplus.specs.Tables.{mv, normal};
@@ -7,34 +6,12 @@ ghost use Rattle.words.specs.Words.{entry, Close};
 ghost use Rattle.sheet.specs.Sheet.{limit};
 ghost use Rattle.tables.specs.Held.{meant, meantV, HoldsV, Closely, CloselyV};
 ghost use Rattle.candidates.specs.Lines.{Written, Drawn};
-ghost use Rattle.candidates.specs.Steps.{need-of, ray-of};
-ghost use Rattle.candidates.specs.Prepared.{Picked};
+ghost use Rattle.candidates.specs.Steps.{ray-of};
 use crate::Line;
 use crate::entries::largest;
 use crate::entries::sums;
 
-// "A selection gives w(j): the largest p(i) − Δ − d(i,j) over panels that chose j, absent if none." A row of needs belongs to a level.
-pub fn need(needs: &[[u64; 6]; 6], levels: usize, picks: [u8; 6], n: usize) -> Line
-    requires { ⌜ (levels ≤ 6) × (n ≤ 6) × Picked n levels picks × Closely levels n (15 * limit) (now needs) ⌝ }
-    ensures { λ r. ⌜ Drawn n (15 * limit) (need-of levels (meant (now (needs .entry))) picks) r ⌝ }
-{
-    let mut at = [0u64; 6];
-    let mut l: usize = 0;
-    while l < levels {
-        let j = index(picks[l]);
-        at[j] = words::larger(needs[l][j], at[j]);
-        l += 1;
-    }
-    Line { count: n, at: at }
-}
-
-fn index(pick: u8) -> usize
-    ensures { λ r. ⌜ r ≡ pick ⌝ }
-{
-    pick as usize
-}
-
-// M* w, which serves every trigger of the selection.
+// M* w, which serves every trigger.
 pub fn starred(star: &[[u64; 6]; 6], w: Line, n: usize) -> [u64; 6]
     requires { ⌜ (n ≤ 6) × Closely n n (5 * limit) (now star) × CloselyV n (15 * limit) (w .at) ⌝ }
     ensures is { λ r. ⌜ HoldsV n (mv n (meant (now (star .entry))) (meantV (w .at))) r ⌝ }
