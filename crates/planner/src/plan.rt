@@ -61,7 +61,7 @@ fn listed(t: Sheet, after: &[[u64; 6]; 6], space: &mut [i32]) -> CuePlan
     let f = marks.levels;
     let gains = tables::levels::gains(&through, floor, at, f, n);
     let needs = marks::needs(&through, asks, at, f, n);
-    let counts = walk::count(f, &masks, &gains);
+    let counts = tally::tally(f, &masks, &gains);
     let deviation = words::number(marked.least);
     match lines::list(space, marks, &star, &lag, &needs) {
         Listed::NoRoom(k) => no_room(k),

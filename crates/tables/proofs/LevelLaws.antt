@@ -67,6 +67,7 @@ module _ (kept : List ℕ) (p : Vec) where
   pub packing-all : (bytes at : List ℕ) (f i m : ℕ) → m ≤ 6 → i ≡ m → Packing bytes at f i →
       PackedAs kept (floored m p) (record { panels = f; kept = bytes; at = at })
   packing-all bytes at f i m h e k = rw (← e) (record {
+    size = k .bytes-size;
     many = sym (length-take-le f at (let q = k .few in let s = k .at-size in omega arith)) ∙ ap length (k .panels-are);
     panels-are = k .panels-are;
     bytes-are = k .bytes-are;

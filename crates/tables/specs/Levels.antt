@@ -11,6 +11,7 @@ use Rattle.tables.specs.Held.{cell}
 
 -- the first places are the panels of the list, in its order, with their bytes; 0 stands past them
 pub record PackedAs (kept panels : List ℕ) (r : Packed) : Type 0 where
+  pub size : length (r .kept) ≡ 6
   pub many : r .panels ≡ length panels
   pub panels-are : take (r .panels) (r .at) ≡ panels
   pub bytes-are : take (r .panels) (r .kept) ≡ mapL (λ i. getD kept i 0) panels

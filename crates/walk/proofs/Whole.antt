@@ -11,7 +11,7 @@ use Rattle.walk.specs.Trace.{Event, fixing, bit, bitsFrom, members, forE
 use Rattle.walk.specs.State.{Masks, Ready, level, stack, pending, startOf}
 use Rattle.walk.proofs.Small.{all-at, set-below}
 
-forEach-same : (js : List ℕ) (g h : ℕ → List Event) → ((j : ℕ) → g j ≡ h j) → forEach js g ≡ forEach js h
+pub forEach-same : (js : List ℕ) (g h : ℕ → List Event) → ((j : ℕ) → g j ≡ h j) → forEach js g ≡ forEach js h
 unfolding forEach
 forEach-same [] g h e = refl
 forEach-same (j ∷ js) g h e = ap₂ _++_ (e j) (forEach-same js g h e)
@@ -47,7 +47,7 @@ module _ (kept : List ℕ) (gains : List (List ℕ)) where
   walk-run f = late f []
 
 -- ---- how many events there are at most
-bits-few : (c j m : ℕ) → length (bitsFrom c j m) ≤ c
+pub bits-few : (c j m : ℕ) → length (bitsFrom c j m) ≤ c
 unfolding bitsFrom
 bits-few zero j m = omega arith
 bits-few (suc c) j m = go (bit m j) (bits-few c (suc j) m)
@@ -56,7 +56,7 @@ bits-few (suc c) j m = go (bit m j) (bits-few c (suc j) m)
     go true h = omega arith
     go false h = omega arith
 
-forEach-few : (c b : ℕ) (js : List ℕ) (g : ℕ → List Event) → length js ≤ c → ((j : ℕ) → length (g j) ≤ b) →
+pub forEach-few : (c b : ℕ) (js : List ℕ) (g : ℕ → List Event) → length js ≤ c → ((j : ℕ) → length (g j) ≤ b) →
     length (forEach js g) ≤ c * b
 unfolding forEach
 forEach-few c b [] g h k = omega arith
@@ -65,7 +65,7 @@ forEach-few (suc c) b (j ∷ js) g h k =
     let r = forEach-few c b js g (omega arith) k in
     omega (arith, suc-mul c b, k j, length-append (g j) (forEach js g))
 
-most : ℕ → ℕ
+unfoldable pub most : ℕ → ℕ
 most zero = 1
 most (suc l) = 6 * suc (most l)
 
@@ -76,7 +76,7 @@ run-few kept gains (suc l) q =
     forEach-few 6 (suc (most l)) (members (maskAt kept gains q)) _ (bits-few 6 0 (maskAt kept gains q))
     (λ j. let r = run-few kept gains l (q ++ j ∷ []) in omega arith)
 
-most-few : (f : ℕ) → f < 7 → most f ≤ 102642
+pub most-few : (f : ℕ) → f < 7 → most f ≤ 102642
 unfolding most
 most-few f h = leb→le (most f) 102642 (all-at (λ f. leb (most f) 102642) 7 tt f h)
 

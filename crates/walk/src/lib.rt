@@ -53,7 +53,7 @@ fn has(m: u8, j: usize) -> bool
 }
 
 // The lowest bit: the next trigger to fix.
-fn low(m: u8) -> u8
+pub fn low(m: u8) -> u8
     requires { ⌜ (0 < m) × (m < 64) ⌝ }
     ensures { λ r. ⌜ r ≡ trailingZeros 8 m ⌝ }
 {
@@ -61,7 +61,7 @@ fn low(m: u8) -> u8
 }
 
 // What fixing trigger j leaves of a later panel's mask m; `serves`: j is there as good as where it was fixed.
-fn cut_by(j: usize, serves: bool, m: u8) -> u8
+pub fn cut_by(j: usize, serves: bool, m: u8) -> u8
     requires { ⌜ j < 6 ⌝ }
     ensures { λ r. ⌜ r ≡ cut j serves m ⌝ }
 {

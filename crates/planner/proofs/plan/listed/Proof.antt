@@ -13,7 +13,7 @@ use Rattle.lines.specs.Given.{Given}
 use Rattle.lines.specs.Listing.{Answers}
 use Rattle.lines.specs.declared.Listed.{Listed}
 use Rattle.marks.specs.Marked.{Fit, MarkedAs}
-use Rattle.marks.proofs.Laws.{levels-close, levels-far, levels-some, levels-few, masks-small, least-word, follows}
+use Rattle.marks.proofs.Laws.{levels-close, levels-far, levels-few, masks-small, least-word, follows}
 use Rattle.planner.specs.Inner.{Orderly, Does}
 use Rattle.planner.proofs.Preparing.{six-triggers, triggers-of, after-near, product-asks, fit, lag-held}
 use Rattle.planner.proofs.PlanLaws.{given, does-lines, does-full, does-moved}
@@ -71,13 +71,13 @@ needs-requires c κs =
     let M = marked k s O in
     (levels-few _ _ _ _ F _ M, six-triggers s _ _ (O .worded), levels-far _ _ _ _ F _ M)
 
-count-requires : tie.Need-count-requires
-count-requires c κs =
+tally-requires : tie.Need-tally-requires
+tally-requires c κs =
     let k = c .before .before .before .before .before .before .before .before .before .before .before in
     let (s, O) = k .before .before .before .before .before .before .before .before .before .pre in
     let F = fits (k .before .before .before) s O in
     let M = marked k s O in
-    (levels-some _ _ _ _ F _ M, levels-few _ _ _ _ F _ M, masks-small _ _ _ _ F _ M)
+    (levels-few _ _ _ _ F _ M, masks-small _ _ _ _ F _ M, M .packed .size)
 
 number-requires : tie.Need-number-requires
 number-requires c κs =
@@ -118,7 +118,7 @@ returns-2 c = λ s O.
     let M = marked m s O in
     let z : toZ w64 (ofZ w64 (c .before .before .before .before .before .before .before .before .before .number .result)) ≡ c .before .before .before .before .before .before .before .before .before .number .result = toZ-ofZ (record { sfits = c .before .before .before .before .before .before .before .before .before .number .ok }) in
     does-moved (tables-of s) (triggers-of s _ _ (O .worded)) (does-lines _ _ _ _ _ _ _ (z ∙ num-inj (sym (c .before .before .before .before .before .before .before .before .before .number .ensures) ∙ M .deviation))
-    (c .before .before .before .before .before .before .before .before .before .before .count .ensures ∙ counts-follow (follows _ _ _ _ F _ M _ (c .before .before .before .before .before .before .before .before .before .before .before .before .before .before .before .gains .ensures))) (answers (c .before .before .before .before) s O _ e))
+    (c .before .before .before .before .before .before .before .before .before .before .tally .ensures ∙ counts-follow (follows _ _ _ _ F _ M _ (c .before .before .before .before .before .before .before .before .before .before .before .before .before .before .before .gains .ensures))) (answers (c .before .before .before .before) s O _ e))
 
 pub listed-spec : {M : Type 1} → statement M
 listed-spec =
@@ -130,7 +130,7 @@ listed-spec =
     marks-of-requires
     gains-requires
     needs-requires
-    count-requires
+    tally-requires
     number-requires
     list-requires
     enum-known-k

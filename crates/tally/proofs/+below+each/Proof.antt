@@ -1,0 +1,226 @@
+-- `below` and `each`, which call each other, meet their contracts: a level more, or the same level with fewer triggers.
+use mathlib.Core.Path.{subst, _∙_}
+use Prim.Native.Nat.{ℕ, _+_, _*_, _-_, _≤_, _<_}
+use native.Mathlib.Omega.{arith}
+use lib.Bits.{and-le-l, and-le-r}
+use lib.Count.{trailingZeros}
+use borrow.Fn.Kinds.{In}
+use borrow.Fn.PlainCycle.{Measures, is, falls, and}
+use Rattle.walk.proofs.Bytes.{low-in}
+use Rattle.tally.specs.Counting.{CutBelow}
+use Rattle.tally.proofs.CountLaws.{counted-whole, counted-again, counted-level, counted-none, counted-more, steps-few, selections-fit}
+use Rattle.tally.proofs.below.Reads as below
+use Rattle.tally.proofs.below.Kinds as below-kinds
+use Rattle.tally.proofs.+below+each.Lts-below as below-lts
+use Rattle.tally.proofs.each.Reads as each
+use Rattle.tally.proofs.each.Kinds as each-kinds
+use Rattle.tally.proofs.+below+each.Lts-each as each-lts
+use Rattle.tally.proofs.cut_below.Reads as cut-below-reads
+use Rattle.tally.proofs.same_from.Reads as same-from-reads
+use Rattle.tally.proofs.wide.Reads as wide-reads
+use Rattle.walk.proofs.low.Reads as low-reads
+use Rattle.tally.proofs.+below+each.{statement}
+use Rattle.tally.proofs.+below+each.Tie.{close}
+
+-- the arguments are seen, steps, selections, then (b) level, masks, then panels, or m and panels
+abbrev μ-below : Measures 4 below-kinds.ps ℕ
+μ-below κs a = let b = a .1 .1 .1 in 65 * (b .1 .1 .0 - b .0)
+
+abbrev μ-each : Measures 4 each-kinds.ps ℕ
+μ-each κs a = let b = a .1 .1 .1 in 65 * (b .1 .1 .1 .0 - (b .0 + 1)) + (b .1 .1 .0 + 1)
+
+abbrev below-at : ℕ → In 4 below-kinds.ps
+below-at t = and 4 below-kinds.ps (is 4 below-kinds.ps μ-below t) below.Pre
+
+abbrev below-below : ℕ → In 4 below-kinds.ps
+below-below t = and 4 below-kinds.ps (falls 4 below-kinds.ps _<_ μ-below t) below.Pre
+
+abbrev each-at : ℕ → In 4 each-kinds.ps
+each-at t = and 4 each-kinds.ps (is 4 each-kinds.ps μ-each t) each.Pre
+
+abbrev each-below : ℕ → In 4 each-kinds.ps
+each-below t = and 4 each-kinds.ps (falls 4 each-kinds.ps _<_ μ-each t) each.Pre
+
+-- what each may take its calls to meet
+abbrev below-claims : ℕ → below-lts.Claims
+below-claims t = (same-from-reads.Asked, same-from-reads.Learnt, each-below t, each.Post)
+
+abbrev each-claims : ℕ → each-lts.Claims
+each-claims t = (
+  low-reads.Asked,
+  low-reads.Learnt,
+  wide-reads.Asked,
+  wide-reads.Learnt,
+  cut-below-reads.Asked,
+  cut-below-reads.Learnt,
+  below-below t,
+  below.Post,
+  each-below t,
+  each.Post,
+)
+
+-- where the level is not past the last, it is a place of the tables
+lower : {t : ℕ} (c : below-lts.Else1 (below-claims t) (below-at t) below.Post) → c .before .args .level < c .before .args .panels
+lower c = omega (arith, c .if1 .left, c .before .pre .1 .1)
+
+inside : {t : ℕ} (c : below-lts.Else1 (below-claims t) (below-at t) below.Post) → c .before .args .level < 6
+inside c = omega (arith, lower c, c .before .pre .1 .0 .few)
+
+below-returns : (t : ℕ) → below-lts.Need-returns (below-claims t) (below-at t) below.Post
+below-returns t c = counted-whole (c .before .pre .1 .0) (c .if1 .taken)
+
+below-mul-same-from : (t : ℕ) → below-lts.Need-mul-same-from (below-claims t) (below-at t) below.Post
+below-mul-same-from t c = omega (arith, inside c)
+
+below-element-copy-out-same-from : (t : ℕ) → below-lts.Need-element-copy-out-same-from (below-claims t) (below-at t) below.Post
+below-element-copy-out-same-from t c = inside c
+
+below-same-from-requires : (t : ℕ) → below-lts.Need-same-from-requires (below-claims t) (below-at t) below.Post
+below-same-from-requires t c κs = tt
+
+below-mul-t17 : (t : ℕ) → below-lts.Need-mul-t17 (below-claims t) (below-at t) below.Post
+below-mul-t17 t c = omega (arith, inside (c .before .before .before))
+
+below-element-copy-out-t20 : (t : ℕ) → below-lts.Need-element-copy-out-t20 (below-claims t) (below-at t) below.Post
+below-element-copy-out-t20 t c = inside (c .before .before .before)
+
+below-mul-t21 : (t : ℕ) → below-lts.Need-mul-t21 (below-claims t) (below-at t) below.Post
+below-mul-t21 t c = omega (arith, inside (c .before .before .before .before))
+
+below-element-copy-out-t24 : (t : ℕ) → below-lts.Need-element-copy-out-t24 (below-claims t) (below-at t) below.Post
+below-element-copy-out-t24 t c = inside (c .before .before .before .before)
+
+below-returns-2 : (t : ℕ) → below-lts.Need-returns-2 (below-claims t) (below-at t) below.Post
+below-returns-2 t c = let f = c .before .before .before in let e = f .before .before in
+    counted-again (e .before .pre .1 .0) (lower e) (rw (c .before .before .if2 .taken) at (f .same-from .ensures))
+
+below-array-read-each : (t : ℕ) → below-lts.Need-array-read-each (below-claims t) (below-at t) below.Post
+below-array-read-each t c = inside (c .before .before .before .before .before .before)
+
+below-each-requires : (t : ℕ) → below-lts.Need-each-requires (below-claims t) (below-at t) below.Post
+below-each-requires t c κs = let e = c .before .before .before .before .before .before in let (m, (y, h)) = e .before .pre in
+    let l = lower e in let s = y .small (e .before .args .level) in (omega (arith, m, l, s), (y, l, s))
+
+below-mul-t12 : (t : ℕ) → below-lts.Need-mul-t12 (below-claims t) (below-at t) below.Post
+below-mul-t12 t c = omega (arith, inside (c .before .before .before .before .before .before .before))
+
+below-element-set-from-seen : (t : ℕ) → below-lts.Need-element-set-from-seen (below-claims t) (below-at t) below.Post
+below-element-set-from-seen t c = inside (c .before .before .before .before .before .before .before)
+
+below-mul-steps : (t : ℕ) → below-lts.Need-mul-steps (below-claims t) (below-at t) below.Post
+below-mul-steps t c = omega (arith, inside (c .before .before .before .before .before .before .before))
+
+below-element-write-steps : (t : ℕ) → below-lts.Need-element-write-steps (below-claims t) (below-at t) below.Post
+below-element-write-steps t c = inside (c .before .before .before .before .before .before .before)
+
+below-mul-selections : (t : ℕ) → below-lts.Need-mul-selections (below-claims t) (below-at t) below.Post
+below-mul-selections t c = omega (arith, inside (c .before .before .before .before .before .before .before))
+
+below-element-write-selections : (t : ℕ) → below-lts.Need-element-write-selections (below-claims t) (below-at t) below.Post
+below-element-write-selections t c = inside (c .before .before .before .before .before .before .before)
+
+below-returns-3 : (t : ℕ) → below-lts.Need-returns-3 (below-claims t) (below-at t) below.Post
+below-returns-3 t c = let e = c .before .before .before .before .before .before .before in
+    counted-level _ (e .before .pre .1 .0 .few) (lower e) (c .each .ensures)
+
+-- what the masks are when the first trigger has been fixed
+cut : {t : ℕ} (c : each-lts.After-cut-below (each-claims t) (each-at t) each.Post) → let a = c .before .before .before .before .args in
+    CutBelow (a .gains .now) (a .masks) (a .level) (trailingZeros 8 (a .m)) (c .cut-below .result)
+cut c = let a = c .before .before .before .before .args in
+    subst (λ j. CutBelow (a .gains .now) (a .masks) (a .level) j (c .cut-below .result)) (c .before .wide .ensures ∙ c .before .before .low .ensures)
+    (c .cut-below .ensures)
+
+-- how many steps and selections come together
+sums : {t : ℕ} (c : each-lts.After-each (each-claims t) (each-at t) each.Post) →
+    let a = c .before .before .before .before .below .result in let b = c .each .result in
+    (1 + a .steps + b .steps ≤ 615858) × (a .selections + b .selections ≤ 615858)
+sums c =
+    let b = c .before .before .before .before in let k = b .before .before .before .before in let e = k .before .before .before in
+    let (y, h, s) = e .before .pre .1 in let z : 0 < e .before .args .m = omega (arith, e .if1 .left) in
+    (steps-few (y .few) h z s (cut k) (b .below .ensures) (c .each .ensures), selections-fit (y .few) h z s (cut k) (b .below .ensures) (c .each .ensures))
+
+each-returns : (t : ℕ) → each-lts.Need-returns (each-claims t) (each-at t) each.Post
+each-returns t c = let (y, h, s) = c .before .pre .1 in rw (c .if1 .taken) (counted-none _ (y .few) h (y .remembered))
+
+each-low-requires : (t : ℕ) → each-lts.Need-low-requires (each-claims t) (each-at t) each.Post
+each-low-requires t c κs = (omega (arith, c .if1 .left), c .before .pre .1 .2)
+
+each-wide-requires : (t : ℕ) → each-lts.Need-wide-requires (each-claims t) (each-at t) each.Post
+each-wide-requires t c κs = tt
+
+each-cut-below-requires : (t : ℕ) → each-lts.Need-cut-below-requires (each-claims t) (each-at t) each.Post
+each-cut-below-requires t c κs =
+    let e = c .before .before in let (y, h, s) = e .before .pre .1 in let z : 0 < e .before .args .m = omega (arith, e .if1 .left) in
+    (omega (arith, h, y .few), omega (arith, c .wide .ensures, c .before .low .ensures, low-in (e .before .args .m) z s), y .small, y .size)
+
+each-add-below : (t : ℕ) → each-lts.Need-add-below (each-claims t) (each-at t) each.Post
+each-add-below t c = let (y, h, s) = c .before .before .before .before .before .before .before .pre .1 in omega (arith, h, y .few)
+
+each-below-requires : (t : ℕ) → each-lts.Need-below-requires (each-claims t) (each-at t) each.Post
+each-below-requires t c κs =
+    let k = c .before .before .before in let (m, (y, h, s)) = k .before .before .before .before .pre in let b = cut k in
+    (omega (arith, m), (record { few = y .few; small = b .small; size = b .size; remembered = y .remembered }, omega (arith, h)))
+
+each-sub-each : (t : ℕ) → each-lts.Need-sub-each (each-claims t) (each-at t) each.Post
+each-sub-each t c = omega (arith, c .before .before .before .before .before .before .before .before .before .before .if1 .left)
+
+each-each-requires : (t : ℕ) → each-lts.Need-each-requires (each-claims t) (each-at t) each.Post
+each-each-requires t c κs =
+    let b = c .before .before .before in let e = b .before .before .before .before .before .before .before in
+    let (m, (y, h, s)) = e .before .pre in let a = e .before .args in let z : 0 < a .m = omega (arith, e .if1 .left) in (
+      omega (arith, m, z, and-le-r (a .m) (a .m - 1)),
+      (record { few = y .few; small = y .small; size = y .size; remembered = b .below .ensures .remembered }, h, omega (arith, s, and-le-l (a .m) (a .m - 1))),
+    )
+
+each-add-t22 : (t : ℕ) → each-lts.Need-add-t22 (each-claims t) (each-at t) each.Post
+each-add-t22 t c = omega (arith, sums (c .before) .0)
+
+each-add-t23 : (t : ℕ) → each-lts.Need-add-t23 (each-claims t) (each-at t) each.Post
+each-add-t23 t c = omega (arith, sums (c .before .before) .0)
+
+each-add-t24 : (t : ℕ) → each-lts.Need-add-t24 (each-claims t) (each-at t) each.Post
+each-add-t24 t c = omega (arith, sums (c .before .before .before .before) .1)
+
+each-returns-2 : (t : ℕ) → each-lts.Need-returns-2 (each-claims t) (each-at t) each.Post
+each-returns-2 t c =
+    let o = c .before .before .before .before in let b = o .before .before .before .before in let k = b .before .before .before .before in
+    let e = k .before .before .before in let (y, h, s) = e .before .pre .1 in
+    counted-more (y .few) h (omega (arith, e .if1 .left)) s (cut k) (b .below .ensures) (o .each .ensures)
+
+pub +below+each-spec : {M : Type 1} → statement M
++below+each-spec = close μ-below μ-each (λ t. below-lts.spec (below-claims t)
+    (below-at t)
+    below.Post
+    (below-returns t)
+    (below-mul-same-from t)
+    (below-element-copy-out-same-from t)
+    (below-same-from-requires t)
+    (below-mul-t17 t)
+    (below-element-copy-out-t20 t)
+    (below-mul-t21 t)
+    (below-element-copy-out-t24 t)
+    (below-returns-2 t)
+    (below-array-read-each t)
+    (below-each-requires t)
+    (below-mul-t12 t)
+    (below-element-set-from-seen t)
+    (below-mul-steps t)
+    (below-element-write-steps t)
+    (below-mul-selections t)
+    (below-element-write-selections t)
+    (below-returns-3 t))
+    λ t. each-lts.spec (each-claims t)
+    (each-at t)
+    each.Post
+    (each-returns t)
+    (each-low-requires t)
+    (each-wide-requires t)
+    (each-cut-below-requires t)
+    (each-add-below t)
+    (each-below-requires t)
+    (each-sub-each t)
+    (each-each-requires t)
+    (each-add-t22 t)
+    (each-add-t23 t)
+    (each-add-t24 t)
+    (each-returns-2 t)

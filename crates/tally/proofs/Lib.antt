@@ -1,0 +1,2 @@
+-- Why remembering is right.
+pub mod CountLaws

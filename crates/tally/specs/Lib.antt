@@ -1,0 +1,2 @@
+-- What is counted of the walk, and what is remembered.
+pub mod Counting
