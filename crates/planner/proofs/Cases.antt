@@ -1,8 +1,8 @@
 -- Document 01's cases marked P as one table about the operations themselves: for each the sheet, what is lent, what the operation returns and
 -- what it leaves. A case holds where the operation's contract allows nothing else. `Learnt` of an operation is its contract as a caller has
 -- it: the toolchain reads it from the `ensures` in the source, so that another contract there makes another claim here.
-use mathlib.Core.Path.{_≡_, refl, ap, sym, subst, _∙_}
-use mathlib.Core.Bool.{true, false, decide}
+use mathlib.Core.Path.{_≡_, refl, ap, subst, _∙_}
+use mathlib.Core.Bool.{decide}
 use mathlib.Core.List.{List, [], _∷_, _++_}
 use Prim.Native.Nat.{ℕ, _-_, _<_}
 use Prim.Native.Nat as nat

@@ -19,14 +19,14 @@ use Rattle.planner.specs.Answers.{test-answer}
 use Rattle.planner.specs.declared.test.Tested.{Tested}
 use Rattle.planner.specs.declared.test.Tested.the-variants.{Yes, No, Refused}
 
-equal : (a b : ℕ) → a ≡ b → eqb a b ≡ true
+pub equal : (a b : ℕ) → a ≡ b → eqb a b ≡ true
 equal a b e = go (eqb a b) (eqb-false a b)
   where
     go : (x : Bool) → (x ≡ false → a ≡ b → ⊥) → x ≡ true
     go true h = refl
     go false h = absurd (h refl e)
 
-unequal : (a b : ℕ) → ¬ (a ≡ b) → eqb a b ≡ false
+pub unequal : (a b : ℕ) → ¬ (a ≡ b) → eqb a b ≡ false
 unequal a b f = go (eqb a b) (eqb-true a b)
   where
     go : (x : Bool) → (x ≡ true → a ≡ b) → x ≡ false
