@@ -27,7 +27,7 @@ use Rattle.planner.proofs.OrderlyLaws.{ordered}
 use Rattle.planner.specs.Demands.{Planned, deviation-of, count-of, written, Least, Demand-2, Demand-8, Demand-3}
 
 -- ---- a planning without refusal is the plan of the sheet's tables
-abbrev plan : Sheet → Outcome
+abbrev pub plan : Sheet → Outcome
 plan t =
     let n = t .triggers in
     let P = tables-of t in
@@ -52,12 +52,12 @@ module _ (s : List ℕ) (t : Sheet) (r : List ℕ) (e : read s ≡ got t r) (spa
       go (no np) q = absurd (subst (λ g. Planned (plan-of (length space / 7) g)) q h)
 
   -- what is known of a sheet that was planned
-  record Known : Type 0 where
-    good : Good t
-    no-gain : NoGain (t .triggers) (t .after)
-    plan-is : planning s space ≡ plan t
+  pub record Known : Type 0 where
+    pub good : Good t
+    pub no-gain : NoGain (t .triggers) (t .after)
+    pub plan-is : planning s space ≡ plan t
 
-  known : Planned (planning s space) → Known
+  pub known : Planned (planning s space) → Known
   known h = let (np, q) = planned-as h in record { good = read-good s t r e; no-gain = np; plan-is = q }
 
   -- the words at the front are those of the list

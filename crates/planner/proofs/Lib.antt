@@ -6,3 +6,4 @@ pub mod OrderlyLaws
 pub mod KeptLaws
 pub mod TestLaws
 pub mod PlanLaws
+pub mod SameLaws

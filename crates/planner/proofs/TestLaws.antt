@@ -1,6 +1,6 @@
 -- The outcomes of testing a timing, each from its condition, in document 01's order.
-use mathlib.Core.Path.{_≡_, refl, sym, subst}
-use mathlib.Core.Bool.{Bool, true, false}
+use mathlib.Core.Path.{_≡_, refl, ap, sym, subst, _∙_}
+use mathlib.Core.Bool.{Bool, true, false, cond, not}
 use mathlib.Core.List.{List}
 use Prim.Native.Nat.{ℕ}
 use borrow.Author.Tests.{eqb-true, eqb-false}
@@ -9,21 +9,24 @@ use lib.IntN.{ℤ}
 use Rattle.maxplus.specs.Tables.{NoGain}
 use Rattle.maxplus.proofs.StarLaws.{no-gain?}
 use Rattle.cue.specs.Meaning.{Tightest}
-use Rattle.sheet.specs.Sheet.{got, read}
+use Rattle.sheet.specs.Sheet.{Got, got, Sheet, read}
 use Rattle.sheet.specs.Sheet as spec
 use Rattle.tables.specs.Cue.{tables-of}
 use Rattle.tables.specs.Held.{Says}
 use Rattle.timing.specs.Times.{some-beyond}
 use Rattle.planner.specs.Outcome.{TestOutcome, answer, refused, Exactly, Tests, Testing}
+use Rattle.planner.specs.Answers.{test-answer}
+use Rattle.planner.specs.declared.test.Tested.{Tested}
+use Rattle.planner.specs.declared.test.Tested.the-variants.{Yes, No, Refused}
 
-equal : (a b : ℕ) → a ≡ b → eqb a b ≡ true
+pub equal : (a b : ℕ) → a ≡ b → eqb a b ≡ true
 equal a b e = go (eqb a b) (eqb-false a b)
   where
     go : (x : Bool) → (x ≡ false → a ≡ b → ⊥) → x ≡ true
     go true h = refl
     go false h = absurd (h refl e)
 
-unequal : (a b : ℕ) → ¬ (a ≡ b) → eqb a b ≡ false
+pub unequal : (a b : ℕ) → ¬ (a ≡ b) → eqb a b ≡ false
 unequal a b f = go (eqb a b) (eqb-true a b)
   where
     go : (x : Bool) → (x ≡ true → a ≡ b) → x ≡ false
@@ -65,3 +68,39 @@ module _ (s : List ℕ) (count : ℕ) (X : ℕ → ℤ) where
             go (yes _) true q = q
             go (yes _) false q = q
             go (no g) b q = absurd (g np)
+
+-- ---- no two answers to one question
+exactly-one : (P : Type 0) (o p : TestOutcome) → Exactly P o → Exactly P p → o ≡ p
+exactly-one P (answer true) (answer true) a b = refl
+exactly-one P (answer true) (answer false) a b = absurd (b a)
+exactly-one P (answer false) (answer true) a b = absurd (a b)
+exactly-one P (answer false) (answer false) a b = refl
+exactly-one P (answer x) (refused k) a b = absurd b
+exactly-one P (refused k) p a b = absurd a
+
+tests-one : (g : Got Sheet) (count : ℕ) (X : ℕ → ℤ) (o p : TestOutcome) → Tests g count X o → Tests g count X p → o ≡ p
+tests-one (spec.refused k) count X o p a b = a ∙ sym b
+tests-one (got t r) count X o p a b = go (not (eqb count (t .triggers))) (some-beyond (t .triggers) X) (no-gain? (t .triggers) (t .after)) a b
+  where
+    Says-so : Bool → Bool → Dec (NoGain (t .triggers) (t .after)) → TestOutcome → Type 0
+    Says-so x y d o = cond x (o ≡ refused 10) (cond y (o ≡ refused 11) (elim d [ yes h ↦ Exactly (Tightest (t .triggers) (tables-of t) X) o | no h ↦ o ≡ refused 8 ]))
+
+    go : (x y : Bool) (d : Dec (NoGain (t .triggers) (t .after))) → Says-so x y d o → Says-so x y d p → o ≡ p
+    go true y d a b = a ∙ sym b
+    go false true d a b = a ∙ sym b
+    go false false (yes h) a b = exactly-one _ o p a b
+    go false false (no h) a b = a ∙ sym b
+
+abbrev tested-as : TestOutcome → Tested
+tested-as (answer true) = Yes
+tested-as (answer false) = No
+tested-as (refused k) = Refused k
+
+back : (q : Tested) → tested-as (test-answer q) ≡ q
+back Yes = refl
+back No = refl
+back (Refused k) = refl
+
+pub tested-one : (s : List ℕ) (count : ℕ) (X : ℕ → ℤ) (q r : Tested) → Testing s count X (test-answer q) → Testing s count X (test-answer r) → q ≡ r
+unfolding Testing
+tested-one s count X q r a b = sym (back q) ∙ ap tested-as (tests-one (read s) count X _ _ a b) ∙ back r

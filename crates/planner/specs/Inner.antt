@@ -14,6 +14,7 @@ use Rattle.tables.proofs.Good.{Good}
 use Rattle.planner.specs.Outcome.{Outcome, space-after}
 use Rattle.planner.specs.Answers.{plan-answer}
 use Rattle.planner.specs.declared.plan.CuePlan.{CuePlan}
+use Rattle.planner.specs.declared.same.Refusal.{Refusal}
 
 -- the words of a good sheet s, and its after table
 pub record Worded (s : spec.Sheet) (t : Sheet) (after : List (List ℕ)) : Type 0 where
@@ -30,3 +31,8 @@ pub record Orderly (s : spec.Sheet) (t : Sheet) (after : List (List ℕ)) : Type
 pub record Does (o : Outcome) (before after : List ℤ) (r : CuePlan) : Type 0 where
   pub answer : r ≡ plan-answer o
   pub written : after ≡ space-after o before
+
+-- the refusal's number and the count of a planning's answer
+pub record Refuses (r : Refusal) (p : CuePlan) : Type 0 where
+  pub number : r .number ≡ p .refusal
+  pub count : r .count ≡ p .count

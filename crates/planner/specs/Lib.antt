@@ -3,4 +3,5 @@ pub mod Outcome
 pub mod Answers
 pub mod Inner
 pub mod Demands
+pub mod Comparing
 pub mod Text

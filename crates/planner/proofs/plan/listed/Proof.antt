@@ -117,8 +117,9 @@ returns-2 c = λ s O.
     let F = fits (m .before .before .before) s O in
     let M = marked m s O in
     let z : toZ w64 (ofZ w64 (c .before .before .before .before .before .before .before .before .before .number .result)) ≡ c .before .before .before .before .before .before .before .before .before .number .result = toZ-ofZ (record { sfits = c .before .before .before .before .before .before .before .before .before .number .ok }) in
-    does-moved (tables-of s) (triggers-of s _ _ (O .worded)) (does-lines _ _ _ _ _ _ _ (z ∙ num-inj (sym (c .before .before .before .before .before .before .before .before .before .number .ensures) ∙ M .deviation))
-    (c .before .before .before .before .before .before .before .before .before .before .tally .ensures ∙ counts-follow (follows _ _ _ _ F _ M _ (c .before .before .before .before .before .before .before .before .before .before .before .before .before .before .before .gains .ensures))) (answers (c .before .before .before .before) s O _ e))
+    let d = does-moved (tables-of s) (triggers-of s _ _ (O .worded)) (does-lines _ _ _ _ _ _ _ (z ∙ num-inj (sym (c .before .before .before .before .before .before .before .before .before .number .ensures) ∙ M .deviation))
+    (c .before .before .before .before .before .before .before .before .before .before .tally .ensures ∙ counts-follow (follows _ _ _ _ F _ M _ (c .before .before .before .before .before .before .before .before .before .before .before .before .before .before .before .gains .ensures))) (answers (c .before .before .before .before) s O _ e)) in
+    record { answer = d .answer; written = d .written }
 
 pub listed-spec : {M : Type 1} → statement M
 listed-spec =
