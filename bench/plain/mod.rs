@@ -1,0 +1,48 @@
+//! A plain planner, written from document 01: what the proved library is timed beside. It goes the
+//! library's way, so that the times compare the code and not the method.
+
+mod bounds;
+mod cue;
+mod entry;
+mod extreme;
+mod few;
+mod lines;
+mod sheet;
+mod walk;
+
+pub use lines::LINE_WORDS;
+pub use sheet::Refusal;
+
+/// What planning returns beside the lines in the lent space.
+pub struct Plan {
+    pub deviation: i32,
+    pub steps: u32,
+    pub selections: u32,
+    pub count: usize,
+}
+
+pub enum NoPlan {
+    Refused(Refusal),
+    /// Refusal 9, with the count of lines that do not fit.
+    NoRoom(usize),
+}
+
+/// The plan of a sheet, its lines at the front of the lent space.
+pub fn plan(bytes: &[u8], space: &mut [i32]) -> Result<Plan, NoPlan> {
+    let sheet = sheet::read(bytes)?;
+    let cue = cue::Cue::new(&sheet)?;
+    let walked = walk::count(cue.levels());
+    let count = lines::list(&cue, space).map_err(NoPlan::NoRoom)?;
+    Ok(Plan {
+        deviation: cue.deviation,
+        steps: walked.steps,
+        selections: walked.selections,
+        count,
+    })
+}
+
+impl From<Refusal> for NoPlan {
+    fn from(refusal: Refusal) -> NoPlan {
+        NoPlan::Refused(refusal)
+    }
+}

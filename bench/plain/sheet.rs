@@ -1,0 +1,144 @@
+//! Reading a sheet: its tables, or the refusal of the first fault met.
+
+use super::entry::{ABSENT, Entry, Line, MOST, NO_LINE, Table};
+
+/// The most bytes that a sheet may have.
+pub const LONGEST: usize = 2048;
+/// Entries lie from −LIMIT to LIMIT.
+const LIMIT: Entry = 100_000;
+
+/// Document 01's refusals before the list is known.
+#[derive(Clone, Copy)]
+pub enum Refusal {
+    TooLong = 1,
+    Form = 2,
+    Size = 3,
+    Range = 4,
+    NoDue = 5,
+    NoLag = 6,
+    NoFloor = 7,
+    NoOrder = 8,
+}
+
+pub struct Sheet {
+    pub triggers: usize,
+    pub lag: Table,
+    pub floor: Line,
+    pub due: Line,
+    pub after: Table,
+}
+
+pub fn read(bytes: &[u8]) -> Result<Sheet, Refusal> {
+    if bytes.len() > LONGEST {
+        return Err(Refusal::TooLong);
+    }
+    let mut reader = Reader { rest: bytes };
+    let panels = reader.size(b"panels=")?;
+    let triggers = reader.size(b"triggers=")?;
+    let mut sheet = Sheet {
+        triggers,
+        lag: [NO_LINE; MOST],
+        floor: NO_LINE,
+        due: NO_LINE,
+        after: [NO_LINE; MOST],
+    };
+    reader.rows(b"lag=", &mut sheet.lag[..panels], triggers)?;
+    sheet.floor = reader.entries(b"floor=", panels)?;
+    sheet.due = reader.due(triggers)?;
+    reader.rows(b"after=", &mut sheet.after[..triggers], triggers)?;
+    if !reader.rest.is_empty() {
+        return Err(Refusal::Form);
+    }
+    if sheet.lag[..panels].contains(&NO_LINE) {
+        return Err(Refusal::NoLag);
+    }
+    if sheet.floor == NO_LINE {
+        return Err(Refusal::NoFloor);
+    }
+    Ok(sheet)
+}
+
+/// The bytes that are still to be read.
+struct Reader<'a> {
+    rest: &'a [u8],
+}
+
+impl Reader<'_> {
+    fn size(&mut self, key: &[u8]) -> Result<usize, Refusal> {
+        match self.items(key, 1)?[0] {
+            ABSENT => Err(Refusal::Form),
+            size @ 1..=6 => Ok(size as usize),
+            _ => Err(Refusal::Size),
+        }
+    }
+
+    fn rows(&mut self, key: &[u8], rows: &mut [Line], count: usize) -> Result<(), Refusal> {
+        for row in rows {
+            *row = self.entries(key, count)?;
+        }
+        Ok(())
+    }
+
+    fn due(&mut self, count: usize) -> Result<Line, Refusal> {
+        let due = self.entries(b"due=", count)?;
+        if due[..count].contains(&ABSENT) {
+            return Err(Refusal::NoDue);
+        }
+        Ok(due)
+    }
+
+    /// A line's range is looked at when its form is known to be good.
+    fn entries(&mut self, key: &[u8], count: usize) -> Result<Line, Refusal> {
+        let items = self.items(key, count)?;
+        let good = |&item: &Entry| item == ABSENT || (-LIMIT..=LIMIT).contains(&item);
+        if items.iter().all(good) {
+            Ok(items)
+        } else {
+            Err(Refusal::Range)
+        }
+    }
+
+    /// One line: its key, its items, LF.
+    fn items(&mut self, key: &[u8], count: usize) -> Result<Line, Refusal> {
+        self.rest = self.rest.strip_prefix(key).ok_or(Refusal::Form)?;
+        let mut items = NO_LINE;
+        for (k, item) in items[..count].iter_mut().enumerate() {
+            *item = self.item(if k + 1 < count { b',' } else { b'\n' })?;
+        }
+        Ok(items)
+    }
+
+    /// One item and the byte behind it.
+    fn item(&mut self, end: u8) -> Result<Entry, Refusal> {
+        let item = match *self.rest {
+            [b'0', ref rest @ ..] => {
+                self.rest = rest;
+                0
+            }
+            [b'1'..=b'9', ..] => self.digits(),
+            [b'-', ref rest @ ..] => {
+                self.rest = rest;
+                match rest {
+                    [b'1'..=b'9', ..] => -self.digits(),
+                    _ => ABSENT,
+                }
+            }
+            _ => return Err(Refusal::Form),
+        };
+        match *self.rest {
+            [byte, ref rest @ ..] if byte == end => self.rest = rest,
+            _ => return Err(Refusal::Form),
+        }
+        Ok(item)
+    }
+
+    /// A numeral of any length; a number beyond the limit is read as the first one beyond.
+    fn digits(&mut self) -> Entry {
+        let mut value = 0;
+        while let [digit @ b'0'..=b'9', ref rest @ ..] = *self.rest {
+            value = (value * 10 + Entry::from(digit - b'0')).min(LIMIT + 1);
+            self.rest = rest;
+        }
+        value
+    }
+}

@@ -1,0 +1,20 @@
+//! The planning program beside which `plan` is timed: a sheet on standard input, its plan on
+//! standard output.
+
+mod plain;
+mod text;
+
+use std::io::{Read, Write, stdin, stdout};
+
+/// One byte more than a sheet may have is enough to refuse it.
+const MOST_BYTES: u64 = 2049;
+/// "The program lends space for 2,000 lines."
+const LINES: usize = 2000;
+
+fn main() -> std::io::Result<()> {
+    let mut sheet = Vec::new();
+    stdin().take(MOST_BYTES).read_to_end(&mut sheet)?;
+    let mut space = [0; LINES * plain::LINE_WORDS];
+    let answer = plain::plan(&sheet, &mut space);
+    stdout().write_all(text::answer(&answer, &space).as_bytes())
+}

@@ -1,0 +1,45 @@
+//! The text that the planning program writes.
+
+use crate::plain::{LINE_WORDS, NoPlan, Plan};
+use std::fmt::Write;
+
+/// The word of an absent component.
+const ABSENT: i32 = i32::MIN;
+
+/// The text of an answer, the lines from the words in the lent space.
+pub fn answer(answer: &Result<Plan, NoPlan>, space: &[i32]) -> String {
+    match answer {
+        Ok(plan) => plan_text(plan, space),
+        Err(NoPlan::Refused(refusal)) => format!("refused={}\n", *refusal as u8),
+        Err(NoPlan::NoRoom(count)) => format!("refused=9\ncount={count}\n"),
+    }
+}
+
+fn plan_text(plan: &Plan, space: &[i32]) -> String {
+    let mut text = format!(
+        "deviation={}\nsteps={}\nselections={}\ncount={}\n",
+        plan.deviation, plan.steps, plan.selections, plan.count
+    );
+    for words in space.chunks_exact(LINE_WORDS).take(plan.count) {
+        push_line(&mut text, &words[1..=words[0] as usize]);
+    }
+    text
+}
+
+fn push_line(text: &mut String, components: &[i32]) {
+    let mut before = "line=";
+    for &component in components {
+        text.push_str(before);
+        push_item(text, component);
+        before = ",";
+    }
+    text.push('\n');
+}
+
+fn push_item(text: &mut String, component: i32) {
+    if component == ABSENT {
+        text.push('-');
+    } else {
+        write!(text, "{component}").expect("a string takes every text");
+    }
+}
