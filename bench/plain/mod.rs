@@ -8,7 +8,7 @@ mod extreme;
 mod few;
 mod lines;
 mod sheet;
-mod walk;
+mod tally;
 
 pub use lines::LINE_WORDS;
 pub use sheet::Refusal;
@@ -31,12 +31,12 @@ pub enum NoPlan {
 pub fn plan(bytes: &[u8], space: &mut [i32]) -> Result<Plan, NoPlan> {
     let sheet = sheet::read(bytes)?;
     let cue = cue::Cue::new(&sheet)?;
-    let walked = walk::count(cue.levels());
+    let counts = tally::count(cue.levels());
     let count = lines::list(&cue, space).map_err(NoPlan::NoRoom)?;
     Ok(Plan {
         deviation: cue.deviation,
-        steps: walked.steps,
-        selections: walked.selections,
+        steps: counts.steps,
+        selections: counts.selections,
         count,
     })
 }
