@@ -1,17 +1,22 @@
 -- Laws of the unit table's words, and of bounds on words as bounds on entries.
-use mathlib.Core.Path.{_≡_}
+use mathlib.Core.Path.{_≡_, refl, _∙_}
 use mathlib.Core.Logic.{inl, inr}
 use mathlib.Core.List.{List}
-use Prim.Native.Nat.{ℕ, _≤_, _<_}
+use Prim.Native.Nat.{ℕ, _+_, _≤_, _<_}
 use native.Mathlib.Omega.{arith}
-use Rattle.maxplus.specs.Entry.{E, unit}
-use Rattle.maxplus.specs.Tables.{Vec, Mat, idm}
-use Rattle.maxplus.proofs.EntryLaws.{≼-back, num-inj}
+use native.Mathlib.Numerals.{add-one}
+use native.Mathlib.Decide.{ℕ-discrete}
+use lib.ListN.{length, getD, set, length-set, replicate}
+use lib.Seq.{getD-set-same, getD-set-other}
+use Rattle.maxplus.specs.Entry.{E, _⊗_, _⊕_, unit}
+use Rattle.maxplus.specs.Tables.{sup, Vec, Mat, idm}
+use Rattle.maxplus.proofs.EntryLaws.{≼-refl, ≼-anti, ≼-absent, ≼-back, ⊕-r, ⊕-lub, ⊗-nothing, num-inj}
 use Rattle.maxplus.proofs.TableLaws.{idm-same, idm-eq, idm-or}
 use Rattle.words.specs.Words.{word, entry, Close}
 use Rattle.words.proofs.Laws.{entry-word, entry-zero, close-of, of-close, close-more}
 use Rattle.cue.proofs.Bounds.{Within}
-use Rattle.tables.specs.Held.{meant, meantV, Holds, HoldsV, Closely, CloselyV}
+use Rattle.tables.specs.Held.{meant, meantV, Holds, HoldsV, Closely, CloselyV, Raised}
+use Rattle.tables.proofs.StepLaws.{blank-word}
 
 -- ---- the unit table
 pub entry-unit : entry (word unit) ≡ unit
@@ -22,6 +27,44 @@ unit-same i j v e h = rw (e, entry-unit, h, idm-same)
 
 pub unit-other : (i j : ℕ) → ¬ (i ≡ j) → entry 0 ≡ idm i j
 unit-other i j h = elim (idm-or i j) [ inl e ↦ absurd (h (idm-eq i j (≼-back e))) | inr e ↦ rw (e, entry-zero) ]
+
+-- ---- a row of the product: one way between more, which raises each place; shifting by an absent entry adds nothing
+pub raised-none : {n v : ℕ} {x : List ℕ} (y : List ℕ) → v ≡ 0 → length x ≡ 6 → Raised n (entry v) (meantV y) x x
+raised-none y e z = record { size = z; at = λ j h. rw (e, entry-zero, ⊗-nothing) (≼-anti (⊕-r _ _) (⊕-lub (≼-absent _) (≼-refl _))) }
+
+-- the first j places have been raised, the others are as they were
+pub record Raising (s : E) (y : Vec) (before r : List ℕ) (j : ℕ) : Type 0 where
+  pub size : length r ≡ 6
+  pub done : (i : ℕ) → i < j → meantV r i ≡ (s ⊗ y i) ⊕ meantV before i
+  pub later : (i : ℕ) → j ≤ i → getD r i 0 ≡ getD before i 0
+
+module _ {s : E} {y : Vec} {before : List ℕ} where
+  pub raising-none : length before ≡ 6 → Raising s y before before 0
+  raising-none z = record { size = z; done = λ i h. let e : ⊥ = omega arith in absurd e; later = λ i h. refl }
+
+  pub raising-more : {r : List ℕ} {j : ℕ} (t v : ℕ) → j < 6 → Raising s y before r j → entry t ≡ s ⊗ y j → entry v ≡ entry t ⊕ entry (getD r j 0) →
+      Raising s y before (set r j v) (j + 1)
+  unfolding meantV
+  raising-more {r} {j} t v h k e f = record {
+    size = simp length-set (k .size);
+    done = λ i l. elim (ℕ-discrete i j) [
+      | yes d ↦ rw (d, getD-set-same r j v 0 (rw (k .size) h), ← e, ← k .later j (omega arith)) f
+      | no d ↦ rw (getD-set-other r j i v 0 d) (unfold meantV in k .done i (omega arith))
+    ];
+    later = λ i l. getD-set-other r j i v 0 (λ x. omega arith) ∙ k .later i (omega arith);
+  }
+
+  pub raising-end : {r : List ℕ} {j n : ℕ} → Raising s y before r j → n ≤ j → Raised n s y before r
+  raising-end k h = record { size = k .size; at = λ i l. k .done i (omega arith) }
+
+pub row-none : {n : ℕ} (f : ℕ → Vec) → HoldsV n (λ j. sup 0 (λ k. f k j)) (replicate 6 0)
+unfolding sup meantV
+row-none f = record { at = λ j h. rw (blank-word j) entry-zero }
+
+pub row-more : {n : ℕ} {x r : List ℕ} {s : E} {y : Vec} (f : ℕ → Vec) (k : ℕ) → HoldsV n (λ j. sup k (λ k. f k j)) x → Raised n s y x r →
+    ((j : ℕ) → s ⊗ y j ≡ f k j) → HoldsV n (λ j. sup (k + 1) (λ k. f k j)) r
+unfolding sup
+row-more f k h s e = record { at = λ j i. rw (add-one, ← h .at j i, ← e j) (s .at j i) }
 
 -- ---- bounds
 pub close-within : {k l : ℕ} {e : E} (c v : ℕ) → entry v ≡ e → k ≤ c → l ≤ c → Within k l e → Close c v

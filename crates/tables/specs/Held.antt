@@ -3,7 +3,8 @@ use mathlib.Core.Path.{_≡_}
 use mathlib.Core.List.{List, []}
 use mathlib.Core.Bool.{Bool, true, false}
 use Prim.Native.Nat.{ℕ, _<_}
-use lib.ListN.{getD}
+use lib.ListN.{length, getD}
+use Rattle.maxplus.specs.Entry.{E, _⊗_, _⊕_}
 use Rattle.maxplus.specs.Tables.{Vec, Mat}
 use Rattle.words.specs.Words.{entry, Close}
 
@@ -35,3 +36,8 @@ pub record CloselyV (n c : ℕ) (w : List ℕ) : Type 0 where
 abbrev pub Says : Type 0 → Bool → Type 0
 Says P true = P
 Says P false = ¬ P
+
+-- the first n places have been raised to those of y shifted by s
+pub record Raised (n : ℕ) (s : E) (y : Vec) (before after : List ℕ) : Type 0 where
+  pub size : length after ≡ 6
+  pub at : (j : ℕ) → j < n → meantV after j ≡ (s ⊗ y j) ⊕ meantV before j

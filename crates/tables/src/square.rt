@@ -1,12 +1,12 @@
 // Tables of six by six words: out of a sheet's rows, the unit table, the larger of two, the product.
 ghost use mathlib.Core.Path.{_≡_};
 ghost use mathlib.Core.List.{[]};
-ghost use Prim.Native.Nat.{ℕ, _+_, _≤_, _<_};
-ghost use lib.ListN.{getD};
-ghost use Rattle.maxplus.specs.Entry.{_⊕_};
-ghost use Rattle.maxplus.specs.Tables.{mm, idm};
-ghost use Rattle.words.specs.Words.{entry, far};
-ghost use Rattle.tables.specs.Held.{meant, Holds, Closely};
+ghost use Prim.Native.Nat.{ℕ, _≤_, _<_};
+ghost use lib.ListN.{length, getD};
+ghost use Rattle.maxplus.specs.Entry.{_⊗_, _⊕_};
+ghost use Rattle.maxplus.specs.Tables.{sup, mm, idm};
+ghost use Rattle.words.specs.Words.{entry, far, Near};
+ghost use Rattle.tables.specs.Held.{meant, meantV, Holds, HoldsV, Closely, CloselyV, Raised};
 use sheet::Row;
 
 // The table of a sheet's rows.
@@ -77,27 +77,38 @@ pub fn product(a: &[[u64; 6]; 6], b: &[[u64; 6]; 6], m: usize, n: usize) -> [[u6
     let mut r = [blank; 6];
     let mut i: usize = 0;
     while i < m {
-        let mut j: usize = 0;
-        while j < n {
-            r[i][j] = dot(a, b, i, j, n);
-            j += 1;
-        }
+        r[i] = row_product(a[i], b, n);
         i += 1;
     }
     r
 }
 
-// One entry of the product: the largest sum over the way between.
-fn dot(a: &[[u64; 6]; 6], b: &[[u64; 6]; 6], i: usize, j: usize, n: usize) -> u64
-    requires { ⌜ (i < 6) × (j < n) × (n ≤ 6) × Closely (i + 1) n far (now a) × Closely n n far (now b) ⌝ }
-    ensures { λ r. ⌜ entry r ≡ mm n (meant (now (a .entry))) (meant (now (b .entry))) i j ⌝ }
+// One row of the product: the largest, over the way between, of the rows of b, each shifted.
+fn row_product(row: [u64; 6], b: &[[u64; 6]; 6], n: usize) -> [u64; 6]
+    requires { ⌜ (n ≤ 6) × CloselyV n far row × Closely n n far (now b) ⌝ }
+    ensures { λ r. ⌜ HoldsV n (λ j. sup n (λ k. meantV row k ⊗ meant (now (b .entry)) k j)) r ⌝ }
 {
-    let mut best: u64 = 0;
+    let mut r = [0u64; 6];
     let mut k: usize = 0;
     while k < n {
-        let sum = words::plus(a[i][k], b[k][j]);
-        best = words::larger(sum, best);
+        raise(&mut r, row[k], b[k], n);
         k += 1;
     }
-    best
+    r
+}
+
+// Raises each place of r to y shifted. Most entries of an after table are absent, and shifting by them adds nothing.
+fn raise(r: &mut [u64; 6], shift: u64, y: [u64; 6], n: usize)
+    requires { ⌜ (n ≤ 6) × Near shift × CloselyV n far y × (length (now r) ≡ 6) ⌝ }
+    ensures { λ _. ⌜ Raised n (entry shift) (meantV y) (now (r .entry)) (now (r .exit)) ⌝ }
+{
+    if shift == 0 {
+        return;
+    }
+    let mut j: usize = 0;
+    while j < n {
+        let sum = words::plus(shift, y[j]);
+        r[j] = words::larger(sum, r[j]);
+        j += 1;
+    }
 }

@@ -1,89 +1,65 @@
--- `tables::square::product` meets its contract. The places passed are written. Assumes nothing.
-use mathlib.Core.Path.{_≡_}
+-- `tables::square::product` meets its contract. The rows passed are written. Assumes nothing.
+use mathlib.Core.List.{[]}
 use Prim.Native.Nat.{_≤_, _-_}
 use native.Mathlib.Omega.{arith}
 use Rattle.maxplus.specs.Tables.{mm}
-use Rattle.words.specs.Words.{entry}
-use Rattle.tables.specs.Held.{meant}
-use Rattle.tables.proofs.Loops.{Rows, Cells, rows-none, cells-none, rows-more, cells-more}
+use Rattle.tables.specs.Held.{meant, meantV, HoldsV}
+use Rattle.tables.proofs.Loops.{Filled, filled-none, filled-more}
 use Rattle.tables.proofs.square.product.Statement.{statement}
 use Rattle.tables.proofs.square.product.Tie as tie
 
-abbrev Inv-loop2 : tie.InvT-loop2
-Inv-loop2 a b m n r₀ i j₀ r j = (j ≤ n) × Cells (λ i j v. entry v ≡ mm n (meant a) (meant b) i j) n r i j
-
-abbrev μ-loop2 : tie.MeasureT-loop2
-μ-loop2 a b m n r₀ i j₀ r j = n - j
-
 abbrev Inv-loop : tie.InvT-loop
-Inv-loop a b m n r₀ i₀ r i = (i ≤ m) × Rows (λ i j v. entry v ≡ mm n (meant a) (meant b) i j) n r i
+Inv-loop a b m n r₀ i₀ r i = (i ≤ m) × Filled (λ i w. HoldsV n (mm n (meant a) (meant b) i) w) [] r i
 
 abbrev μ-loop : tie.MeasureT-loop
 μ-loop a b m n r₀ i₀ r i = m - i
 
-loop-holds : tie.Need-loop-holds Inv-loop2 μ-loop2 Inv-loop μ-loop
-loop-holds c = (omega arith, rows-none _ _)
+loop-holds : tie.Need-loop-holds Inv-loop μ-loop
+loop-holds c = (omega arith, filled-none _ _ _)
 
-loop2-holds : tie.Need-loop2-holds Inv-loop2 μ-loop2 Inv-loop μ-loop
-loop2-holds c = (omega arith, cells-none _ _ _ _ (c .before .loop .inv .1))
+mul-row-product : tie.Need-mul-row-product Inv-loop μ-loop
+mul-row-product c = omega arith
 
-dot-requires : tie.Need-dot-requires Inv-loop2 μ-loop2 Inv-loop μ-loop
-dot-requires c κs =
-    let s = c .before .before .before .before in
-    (omega arith, omega arith, omega arith, record { at = λ a b p q. s .pre .2 .at a b (omega arith) q }, s .pre .3)
+element-copy-out-row-product : tie.Need-element-copy-out-row-product Inv-loop μ-loop
+element-copy-out-row-product c = omega arith
 
-mul-r : tie.Need-mul-r Inv-loop2 μ-loop2 Inv-loop μ-loop
+row-product-requires : tie.Need-row-product-requires Inv-loop μ-loop
+row-product-requires c κs = let l = c .before .before in let s = l .before in
+    (s .pre .1, record { at = λ j h. s .pre .2 .at (l .loop .i) j (omega arith) h }, s .pre .3)
+
+mul-r : tie.Need-mul-r Inv-loop μ-loop
 mul-r c = omega arith
 
-mul-r-2 : tie.Need-mul-r-2 Inv-loop2 μ-loop2 Inv-loop μ-loop
-mul-r-2 c = omega arith
+array-set-from-r : tie.Need-array-set-from-r Inv-loop μ-loop
+array-set-from-r c = omega arith
 
-index-1-r : tie.Need-index-1-r Inv-loop2 μ-loop2 Inv-loop μ-loop
-index-1-r c = omega arith
-
-index-2-r : tie.Need-index-2-r Inv-loop2 μ-loop2 Inv-loop μ-loop
-index-2-r c = omega arith
-
-add-j : tie.Need-add-j Inv-loop2 μ-loop2 Inv-loop μ-loop
-add-j c = omega arith
-
-loop2-less : tie.Need-loop2-less Inv-loop2 μ-loop2 Inv-loop μ-loop
-loop2-less c = omega arith
-
-loop2-again : tie.Need-loop2-again Inv-loop2 μ-loop2 Inv-loop μ-loop
-loop2-again c = (omega arith, cells-more _ _ _ _ _ _ (omega arith) (omega arith) (c .before .before .loop2 .inv .1) (c .dot .ensures))
-
-add-i : tie.Need-add-i Inv-loop2 μ-loop2 Inv-loop μ-loop
+add-i : tie.Need-add-i Inv-loop μ-loop
 add-i c = omega arith
 
-loop-less : tie.Need-loop-less Inv-loop2 μ-loop2 Inv-loop μ-loop
+loop-less : tie.Need-loop-less Inv-loop μ-loop
 loop-less c = omega arith
 
-loop-again : tie.Need-loop-again Inv-loop2 μ-loop2 Inv-loop μ-loop
-loop-again c = (omega arith, rows-more _ _ _ _ _ (omega arith) (c .before .loop2 .inv .1))
+loop-again : tie.Need-loop-again Inv-loop μ-loop
+unfolding mm meant meantV
+loop-again c = let l = c .before .before .before in
+    (omega arith, filled-more _ _ _ _ _ (omega arith) (l .loop .inv .1) (c .row-product .ensures))
 
-returns : tie.Need-returns Inv-loop2 μ-loop2 Inv-loop μ-loop
-unfolding meant
-returns c = record { at = λ i j p q. c .before .loop .inv .1 .done i j (omega arith) q }
+returns : tie.Need-returns Inv-loop μ-loop
+unfolding meant meantV
+returns c = record { at = λ i j h k. c .before .loop .inv .1 .done i (omega arith) .at j k }
 
 pub product-spec : {M : Type 1} → statement M
 product-spec =
     tie.close
     (tie.spec
-    Inv-loop2
-    μ-loop2
     Inv-loop
     μ-loop
     loop-holds
-    loop2-holds
-    dot-requires
+    mul-row-product
+    element-copy-out-row-product
+    row-product-requires
     mul-r
-    mul-r-2
-    index-1-r
-    index-2-r
-    add-j
-    loop2-less
-    loop2-again
+    array-set-from-r
     add-i
     loop-less
     loop-again
