@@ -47,7 +47,7 @@ fn the_cases_of_the_document() {
 #[test]
 fn every_refusal() {
     let changed = |old: &str, new: &str| {
-        let sheet = str::from_utf8(WHOLE).unwrap();
+        let sheet = std::str::from_utf8(WHOLE).unwrap();
         assert!(sheet.contains(old));
         sheet.replacen(old, new, 1).into_bytes()
     };
