@@ -1,0 +1,153 @@
+/*
+ * The whole case from C: plans it, chooses times from its lines, and tests them. From the root of the repository:
+ *
+ *     rt staticlib planner_c
+ *     cc -std=c99 -Wall -Wextra -Iembed/c embed/c/example.c target/staticlib/libplanner_c.a -o target/example
+ *     target/example
+ *
+ * The file is also C++.
+ */
+#include <inttypes.h>
+#include <stdio.h>
+#include <string.h>
+
+#include "tuzhelar.h"
+
+#define LINES 2000
+
+static const char SHEET[] = "panels=2\n"
+                            "triggers=2\n"
+                            "lag=2,0\n"
+                            "lag=4,1\n"
+                            "floor=5,2\n"
+                            "due=1,2\n"
+                            "after=-,-\n"
+                            "after=-,-\n";
+
+/* Trigger 2 comes 3 after trigger 1, and trigger 1 at most 1 before trigger 2: 3 - 1 is above 0. */
+static const char NO_ORDER[] = "panels=2\n"
+                               "triggers=2\n"
+                               "lag=2,0\n"
+                               "lag=4,1\n"
+                               "floor=5,2\n"
+                               "due=1,2\n"
+                               "after=-,-1\n"
+                               "after=3,-\n";
+
+static int32_t space[LINES * TUZHELAR_LINE_WORDS];
+
+/* Adds a weight to each line and takes the largest, component by component. Every choice of weights gives tightest times. */
+static void combine(size_t count, size_t triggers, const int64_t *weights, int64_t *times)
+{
+    size_t i, j;
+    for (j = 0; j < triggers; j++) {
+        int found = 0;
+        for (i = 0; i < count; i++) {
+            int32_t component = tuzhelar_component(space, i, j);
+            if (component != TUZHELAR_ABSENT && (!found || times[j] < weights[i] + component)) {
+                times[j] = weights[i] + component;
+                found = 1;
+            }
+        }
+    }
+}
+
+/*
+ * The weights for the latest tightest times of which none is later than wished: each line as high as it may go. A line's
+ * greatest component is 0, so that the least is over at least one number.
+ */
+static void weigh(size_t count, size_t triggers, const int64_t *wished, int64_t *weights)
+{
+    size_t i, j;
+    for (i = 0; i < count; i++) {
+        int found = 0;
+        for (j = 0; j < triggers; j++) {
+            int32_t component = tuzhelar_component(space, i, j);
+            if (component != TUZHELAR_ABSENT && (!found || wished[j] - component < weights[i])) {
+                weights[i] = wished[j] - component;
+                found = 1;
+            }
+        }
+    }
+}
+
+static void print_numbers(const char *name, const int64_t *numbers, size_t count)
+{
+    size_t i;
+    printf("%s ", name);
+    for (i = 0; i < count; i++) {
+        printf("%s%" PRId64, i == 0 ? "" : ",", numbers[i]);
+    }
+}
+
+static void print_lines(size_t count, size_t triggers)
+{
+    size_t i, j;
+    for (i = 0; i < count; i++) {
+        printf("line=");
+        for (j = 0; j < triggers; j++) {
+            int32_t component = tuzhelar_component(space, i, j);
+            if (component == TUZHELAR_ABSENT) {
+                printf("%s-", j == 0 ? "" : ",");
+            } else {
+                printf("%s%" PRId32, j == 0 ? "" : ",", component);
+            }
+        }
+        printf("\n");
+    }
+}
+
+static void print_tested(const int64_t *times, size_t triggers)
+{
+    uint32_t answer = tuzhelar_test_timing(SHEET, strlen(SHEET), times, triggers);
+    print_numbers("times", times, triggers);
+    printf(": %s\n", tuzhelar_meaning(answer));
+}
+
+static void choose(size_t count, size_t triggers, const int64_t *weights)
+{
+    int64_t times[TUZHELAR_MOST] = {0, 0, 0, 0, 0, 0};
+    combine(count, triggers, weights, times);
+    print_numbers("weights", weights, count);
+    printf(", ");
+    print_tested(times, triggers);
+}
+
+int main(void)
+{
+    const int64_t as_listed[2] = {0, 0}, second_later[2] = {1, 0}, first_later[2] = {0, 3}, wished[2] = {0, 2};
+    int64_t weights[2] = {0, 0};
+    struct tuzhelar_keeping keeping;
+    struct tuzhelar_planned planned = tuzhelar_plan_sheet(SHEET, strlen(SHEET), space, LINES * TUZHELAR_LINE_WORDS);
+    size_t triggers, i;
+    if (planned.refusal != TUZHELAR_DONE) {
+        printf("refused=%" PRIu32 "\n%s\n", planned.refusal, tuzhelar_meaning(planned.refusal));
+        return 1;
+    }
+    triggers = (size_t)space[0];
+    printf("deviation=%" PRId64 "\nsteps=%" PRId64 "\nselections=%" PRId64 "\ncount=%zu\n", planned.deviation, planned.steps,
+           planned.selections, planned.count);
+    print_lines(planned.count, triggers);
+
+    /* The list of this sheet is known, so that the weights can be written down: one for each of its two lines. */
+    choose(planned.count, triggers, as_listed);
+    choose(planned.count, triggers, second_later);
+    choose(planned.count, triggers, first_later);
+
+    /* Times that were wished need not be tightest. The nearest below them come from the list. */
+    print_tested(wished, triggers);
+    weigh(planned.count, triggers, wished, weights);
+    choose(planned.count, triggers, weights);
+
+    keeping = tuzhelar_kept_table(SHEET, strlen(SHEET));
+    for (i = 0; i < keeping.panels; i++) {
+        printf("panel %zu keeps byte %d, %d trigger(s)\n", i + 1, keeping.kept[i], keeping.counts[i]);
+    }
+
+    /* Refusals. A refusal leaves the space as it was. */
+    planned = tuzhelar_plan_sheet(SHEET, strlen(SHEET), space, TUZHELAR_LINE_WORDS);
+    printf("refused=%" PRIu32 ", count=%zu: %s\n", planned.refusal, planned.count, tuzhelar_meaning(planned.refusal));
+    planned = tuzhelar_plan_sheet(NO_ORDER, strlen(NO_ORDER), space, LINES * TUZHELAR_LINE_WORDS);
+    printf("refused=%" PRIu32 ": %s\n", planned.refusal, tuzhelar_meaning(planned.refusal));
+    return 0;
+}

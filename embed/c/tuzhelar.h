@@ -1,0 +1,250 @@
+/*
+ * Tuzhelar, the proved planner for surtitle cues, for C and C++ on x86-64 Linux.
+ *
+ * `rt staticlib planner_c` writes target/staticlib/libplanner_c.a, which is linked as it is:
+ *
+ *     cc -Iembed/c program.c target/staticlib/libplanner_c.a
+ *
+ * The library defines the three names below and calls memcpy and memset alone. It keeps nothing between calls, so that
+ * threads may call it at once, each with words of its own. On the largest sheets planning was measured to take 53 KB of
+ * stack, the others 6 KB.
+ *
+ * There are two ways in. `tuzhelar_plan_sheet`, `tuzhelar_kept_table` and `tuzhelar_test_timing`, further below, are a thin
+ * layer in C that takes null pointers and overlaps too. They call `tuzhelar_plan`, `tuzhelar_kept` and `tuzhelar_test`,
+ * the proved functions.
+ */
+#ifndef TUZHELAR_H
+#define TUZHELAR_H
+
+#include <stddef.h>
+#include <stdint.h>
+#include <string.h>
+
+#ifdef __cplusplus
+extern "C" {
+#endif
+
+/* ---- Sizes and numbers */
+
+#define TUZHELAR_SHEET_BYTES 2048 /* a longer sheet is refused, 1 */
+#define TUZHELAR_MOST 6           /* panels and triggers: each 1 to 6 */
+#define TUZHELAR_LINE_WORDS 7     /* words of a line: its count of triggers and six components, the unused ones absent */
+#define TUZHELAR_ABSENT INT32_MIN /* an absent component */
+#define TUZHELAR_PLAN_WORDS 4     /* words of planning's answer */
+#define TUZHELAR_KEPT_WORDS 16    /* words of the kept table's answer */
+#define TUZHELAR_LAST_TIME 1000000000 /* a time beyond this, or below minus this, is refused, 11 */
+
+/* What the functions return: 0 for done, a refusal 1 to 11, and for a tested timing yes or no. */
+#define TUZHELAR_DONE 0u
+#define TUZHELAR_TOO_LONG 1u
+#define TUZHELAR_FORM 2u
+#define TUZHELAR_SIZE 3u
+#define TUZHELAR_RANGE 4u
+#define TUZHELAR_NO_DUE 5u
+#define TUZHELAR_NO_LAG 6u
+#define TUZHELAR_NO_FLOOR 7u
+#define TUZHELAR_ORDER 8u
+#define TUZHELAR_SPACE 9u
+#define TUZHELAR_COMPONENTS 10u
+#define TUZHELAR_TIME 11u
+#define TUZHELAR_YES 100u
+#define TUZHELAR_NO 101u
+
+/*
+ * ---- The proved functions
+ *
+ * Their contracts (crates/planner_c/src/lib.rt) fix the number returned and every word afterwards, for any bytes, words and
+ * lengths. What is left to the caller, as for any C function:
+ *
+ * - A pointer is valid for its length, which counts bytes for a sheet and words for the others, is aligned as its type
+ *   asks, and the bytes or words there hold values. For length 0 any valid pointer will do: nothing is read or written
+ *   through it. The proof does not speak of null pointers.
+ * - `space` and `answer` share no memory with one another or with `sheet`. (`sheet` and `times` are only read.)
+ * - Nothing else writes there during the call.
+ */
+
+/*
+ * Planning. Returns 0 or the refusal, 1 to 9.
+ *
+ *   0        the list stands at the front of `space`, seven words for each line, and the rest of the space is as it was;
+ *            answer[0] to answer[3] are deviation, steps, selections and count.
+ *   9        the list has more lines than the space holds, which is space_length / 7 rounded down: answer[3] is the count
+ *            needed, and no other word is written.
+ *   1 to 8   no word is written.
+ *
+ * A word of the answer that is at or past `answer_length` is dropped, and words past the fourth stay as they were.
+ * sheet_length 0 is 2, above 2,048 it is 1. With space_length 0 to 6 a sheet that has a plan is 9: no list is empty.
+ */
+uint32_t tuzhelar_plan(const uint8_t *sheet, size_t sheet_length, int32_t *space, size_t space_length, int64_t *answer,
+                       size_t answer_length);
+
+/*
+ * Kept table and walk. Returns 0 or the refusal, 1 to 8.
+ *
+ *   0        answer[0] to answer[3] are deviation, steps, selections and the number of panels. For panel i, from 0, answer[4 + 2 i]
+ *            is its byte, bit j for trigger j + 1, and answer[5 + 2 i] the number of bits set: 0 and 0 for a panel without a
+ *            floor and for one that the sheet does not have.
+ *   1 to 8   no word is written.
+ *
+ * A word of the answer that is at or past `answer_length` is dropped, and words past the sixteenth stay as they were.
+ */
+uint32_t tuzhelar_kept(const uint8_t *sheet, size_t sheet_length, int64_t *answer, size_t answer_length);
+
+/*
+ * Testing a timing. Returns 100 if the first `count` times are tightest, 101 if they are not, or the refusal: 1 to 7; then
+ * 10, `count` is not the sheet's number of triggers; then 11, one of these times is beyond +-1,000,000,000; then 8.
+ *
+ * It writes nothing. A time that is at or past `times_length` counts as 0. No time past the sixth is looked at, and none
+ * past the sheet's number of triggers changes the answer.
+ */
+uint32_t tuzhelar_test(const uint8_t *sheet, size_t sheet_length, size_t count, const int64_t *times, size_t times_length);
+
+/*
+ * ---- The layer in C, which is not proved
+ *
+ * It gives an answer to every argument but a pointer that is not null and not valid for its length:
+ *
+ * - A null pointer counts as length 0: no sheet (2), no word of space (9 for a sheet that has a plan), no time (10 for a
+ *   good sheet).
+ * - The sheet is copied, so that it may lie in the words of the space; it is read whole before the first word is written.
+ *   Of a sheet above 2,048 bytes no byte is looked at (1).
+ * - The answer is a struct, so that no answer can be too short.
+ */
+
+struct tuzhelar_planned {
+    uint32_t refusal;   /* 0, or 1 to 9 */
+    int64_t deviation;  /* this and the next two are 0 on a refusal */
+    int64_t steps;
+    int64_t selections;
+    size_t count;       /* lines written; for 9 lines needed; 0 on any other refusal */
+};
+
+struct tuzhelar_keeping {
+    uint32_t refusal;   /* 0, or 1 to 8; on a refusal all else is 0 */
+    int64_t deviation;
+    int64_t steps;
+    int64_t selections;
+    size_t panels;
+    uint8_t kept[TUZHELAR_MOST];   /* a panel's kept triggers, bit 0 for trigger 1 */
+    uint8_t counts[TUZHELAR_MOST]; /* how many they are */
+};
+
+/* The length under which a copy of the sheet is handed on. One that is too long is so by its length alone. */
+static inline size_t tuzhelar_copied(uint8_t copy[TUZHELAR_SHEET_BYTES + 1], const void *sheet, size_t sheet_length)
+{
+    memset(copy, 0, TUZHELAR_SHEET_BYTES + 1);
+    if (sheet == NULL) {
+        return 0;
+    }
+    if (sheet_length > TUZHELAR_SHEET_BYTES) {
+        return TUZHELAR_SHEET_BYTES + 1;
+    }
+    memcpy(copy, sheet, sheet_length);
+    return sheet_length;
+}
+
+/* Planning: the list at the front of `space`, as tuzhelar_plan writes it. */
+static inline struct tuzhelar_planned tuzhelar_plan_sheet(const void *sheet, size_t sheet_length, int32_t *space,
+                                                          size_t space_length)
+{
+    uint8_t copy[TUZHELAR_SHEET_BYTES + 1];
+    size_t length = tuzhelar_copied(copy, sheet, sheet_length);
+    int32_t none = 0;
+    int64_t answer[TUZHELAR_PLAN_WORDS] = {0, 0, 0, 0};
+    struct tuzhelar_planned planned;
+    if (space == NULL) {
+        space = &none;
+        space_length = 0;
+    }
+    planned.refusal = tuzhelar_plan(copy, length, space, space_length, answer, TUZHELAR_PLAN_WORDS);
+    planned.deviation = answer[0];
+    planned.steps = answer[1];
+    planned.selections = answer[2];
+    planned.count = (size_t)answer[3];
+    return planned;
+}
+
+/* Kept table and walk. */
+static inline struct tuzhelar_keeping tuzhelar_kept_table(const void *sheet, size_t sheet_length)
+{
+    uint8_t copy[TUZHELAR_SHEET_BYTES + 1];
+    size_t length = tuzhelar_copied(copy, sheet, sheet_length);
+    int64_t answer[TUZHELAR_KEPT_WORDS] = {0, 0, 0, 0, 0, 0, 0, 0, 0, 0, 0, 0, 0, 0, 0, 0};
+    struct tuzhelar_keeping keeping;
+    int i;
+    keeping.refusal = tuzhelar_kept(copy, length, answer, TUZHELAR_KEPT_WORDS);
+    keeping.deviation = answer[0];
+    keeping.steps = answer[1];
+    keeping.selections = answer[2];
+    keeping.panels = (size_t)answer[3];
+    for (i = 0; i < TUZHELAR_MOST; i++) {
+        keeping.kept[i] = (uint8_t)answer[4 + 2 * i];
+        keeping.counts[i] = (uint8_t)answer[5 + 2 * i];
+    }
+    return keeping;
+}
+
+/* Testing a timing of `count` times: TUZHELAR_YES, TUZHELAR_NO or a refusal. More than six times are 10, unread. */
+static inline uint32_t tuzhelar_test_timing(const void *sheet, size_t sheet_length, const int64_t *times, size_t count)
+{
+    uint8_t copy[TUZHELAR_SHEET_BYTES + 1];
+    size_t length = tuzhelar_copied(copy, sheet, sheet_length);
+    int64_t none = 0;
+    if (times == NULL) {
+        count = 0;
+    }
+    if (count == 0 || count > TUZHELAR_MOST) {
+        return tuzhelar_test(copy, length, count, &none, 0);
+    }
+    return tuzhelar_test(copy, length, count, times, count);
+}
+
+/* Component j of line i, both from 0, of a list at the front of `space`: a number, or TUZHELAR_ABSENT. */
+static inline int32_t tuzhelar_component(const int32_t *space, size_t i, size_t j)
+{
+    return space[TUZHELAR_LINE_WORDS * i + 1 + j];
+}
+
+/* What a number that was returned means, and what to look at. */
+static inline const char *tuzhelar_meaning(uint32_t number)
+{
+    switch (number) {
+    case TUZHELAR_DONE:
+        return "Done.";
+    case TUZHELAR_TOO_LONG:
+        return "The sheet has more than 2,048 bytes. No good sheet has more than 762: look for text behind its last line.";
+    case TUZHELAR_FORM:
+        return "A line is missing or ill-formed, or bytes follow the last line. Look at the order of the lines, their keys, "
+               "their numbers of items, numerals such as 05, -0 or +5, blanks, and the line end of each.";
+    case TUZHELAR_SIZE:
+        return "The number of panels or of triggers is not 1 to 6.";
+    case TUZHELAR_RANGE:
+        return "An entry is below -100,000 or above 100,000.";
+    case TUZHELAR_NO_DUE:
+        return "A due mark is absent. Each trigger needs one.";
+    case TUZHELAR_NO_LAG:
+        return "A panel has no lag: no trigger reaches it. Look for a lag line of minus signs alone.";
+    case TUZHELAR_NO_FLOOR:
+        return "No panel has a floor. At least one needs one.";
+    case TUZHELAR_ORDER:
+        return "No times keep the order. Look for a circle of after rules whose numbers add up to more than 0.";
+    case TUZHELAR_SPACE:
+        return "The list has more lines than the lent space holds. Lend seven words for each line of the count returned.";
+    case TUZHELAR_COMPONENTS:
+        return "There are not as many times as the sheet has triggers.";
+    case TUZHELAR_TIME:
+        return "A time is below -1,000,000,000 or above 1,000,000,000.";
+    case TUZHELAR_YES:
+        return "The times are tightest.";
+    case TUZHELAR_NO:
+        return "The times are not tightest: they break an after rule, or other times have a smaller deviation.";
+    default:
+        return "No function returns this number.";
+    }
+}
+
+#ifdef __cplusplus
+}
+#endif
+
+#endif

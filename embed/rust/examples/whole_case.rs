@@ -1,0 +1,71 @@
+//! The whole case from Rust: plans it, chooses times from its lines, and tests them.
+//!
+//!     rt staticlib planner_c
+//!     cargo run --offline --manifest-path embed/rust/Cargo.toml --example whole_case
+
+use tuzhelar::{LINE_WORDS, Refusal, kept, plan, test};
+
+const SHEET: &[u8] = b"panels=2
+triggers=2
+lag=2,0
+lag=4,1
+floor=5,2
+due=1,2
+after=-,-
+after=-,-
+";
+
+/// Trigger 2 comes 3 after trigger 1, and trigger 1 at most 1 before trigger 2: 3 − 1 is above 0.
+const NO_ORDER: &[u8] = b"panels=2
+triggers=2
+lag=2,0
+lag=4,1
+floor=5,2
+due=1,2
+after=-,-1
+after=3,-
+";
+
+fn main() -> Result<(), Refusal> {
+    // Space for one line is too little; the refusal says how many there are.
+    let mut space = vec![0; LINE_WORDS];
+    if let Err(refusal) = plan(SHEET, &mut space) {
+        println!("refused={}: {refusal}", refusal.number());
+        if let Refusal::Space { count } = refusal {
+            space.resize(count * LINE_WORDS, 0);
+        }
+    }
+    let planned = plan(SHEET, &mut space)?;
+    print!("{planned}");
+
+    // One weight for each line: every choice gives tightest times.
+    for weights in [[0, 0], [1, 0], [0, 3]] {
+        let times = planned.times(&weights).expect("one weight for each line");
+        println!(
+            "weights {weights:?}, times {times:?}, tightest {}",
+            test(SHEET, &times)?
+        );
+    }
+
+    // Times that were wished need not be tightest. The nearest below them come from the list.
+    let wished = [0, 2];
+    let times = planned.latest(&wished).expect("one wish for each trigger");
+    println!(
+        "wished {wished:?}, tightest {}; instead {times:?}, tightest {}",
+        test(SHEET, &wished)?,
+        test(SHEET, &times)?
+    );
+
+    for (i, panel) in kept(SHEET)?.panels().iter().enumerate() {
+        println!(
+            "panel {} keeps byte {}, {} trigger(s)",
+            i + 1,
+            panel.byte,
+            panel.count
+        );
+    }
+    if let Err(refusal) = plan(NO_ORDER, &mut space) {
+        println!("refused={}: {refusal}", refusal.number());
+    }
+    Ok(())
+}

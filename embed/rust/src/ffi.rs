@@ -1,0 +1,71 @@
+//! The functions of `libplanner_c.a`, and the crate's only unsafe code.
+//!
+//! Their contracts (`crates/planner_c/src/lib.rt`) ask nothing of lengths, bytes or words. What is left to
+//! a caller is what a slice already promises: each pointer is aligned and valid for its length, the bytes
+//! and words hold values, and one that is written overlaps no other. A pointer with length 0 is not read
+//! or written through.
+#![allow(unsafe_code)]
+
+unsafe extern "C" {
+    fn tuzhelar_plan(
+        sheet: *const u8,
+        sheet_length: usize,
+        space: *mut i32,
+        space_length: usize,
+        answer: *mut i64,
+        answer_length: usize,
+    ) -> u32;
+    fn tuzhelar_kept(
+        sheet: *const u8,
+        sheet_length: usize,
+        answer: *mut i64,
+        answer_length: usize,
+    ) -> u32;
+    fn tuzhelar_test(
+        sheet: *const u8,
+        sheet_length: usize,
+        count: usize,
+        times: *const i64,
+        times_length: usize,
+    ) -> u32;
+}
+
+pub fn plan(sheet: &[u8], space: &mut [i32], answer: &mut [i64]) -> u32 {
+    // SAFETY: each pointer and length are those of one slice; `space` and `answer` are borrowed for
+    // writing, so they overlap nothing, and nothing else writes there during the call.
+    unsafe {
+        tuzhelar_plan(
+            sheet.as_ptr(),
+            sheet.len(),
+            space.as_mut_ptr(),
+            space.len(),
+            answer.as_mut_ptr(),
+            answer.len(),
+        )
+    }
+}
+
+pub fn kept(sheet: &[u8], answer: &mut [i64]) -> u32 {
+    // SAFETY: as in `plan`.
+    unsafe {
+        tuzhelar_kept(
+            sheet.as_ptr(),
+            sheet.len(),
+            answer.as_mut_ptr(),
+            answer.len(),
+        )
+    }
+}
+
+pub fn test(sheet: &[u8], times: &[i64]) -> u32 {
+    // SAFETY: as in `plan`; both slices are only read. The count is a number like any other.
+    unsafe {
+        tuzhelar_test(
+            sheet.as_ptr(),
+            sheet.len(),
+            times.len(),
+            times.as_ptr(),
+            times.len(),
+        )
+    }
+}

@@ -1,0 +1,136 @@
+//! Tuzhelar, the proved planner for surtitle cues, behind safe functions.
+//!
+//! The three operations are proved, from the bytes of a sheet to the words written; this crate only calls
+//! them (`ffi`) and gives names to the words. Slices of any length and content have an answer.
+//!
+//! `rt staticlib planner_c` writes the library that is linked; `build.rs` says where it is looked for.
+//!
+//! ```
+//! let sheet = b"panels=2\ntriggers=2\nlag=2,0\nlag=4,1\nfloor=5,2\ndue=1,2\nafter=-,-\nafter=-,-\n";
+//! let mut space = [0; 2000 * tuzhelar::LINE_WORDS];
+//! let plan = tuzhelar::plan(sheet, &mut space)?;
+//! assert_eq!(plan.deviation, 2);
+//! assert_eq!(plan.lines().map(|line| line.to_string()).collect::<Vec<_>>(), ["-1,0", "0,-"]);
+//!
+//! // Times from the lines: one weight for each. All such times are tightest.
+//! assert_eq!(plan.times(&[1, 0]), Some(vec![0, 1]));
+//! assert_eq!(tuzhelar::test(sheet, &[0, 1]), Ok(true));
+//!
+//! // Times that were wished, and the latest tightest ones that are not later.
+//! assert_eq!(tuzhelar::test(sheet, &[0, 2]), Ok(false));
+//! assert_eq!(plan.latest(&[0, 2]), Some(vec![0, 1]));
+//! # Ok::<(), tuzhelar::Refusal>(())
+//! ```
+#![deny(missing_docs, unsafe_code)]
+
+mod ffi;
+mod plan;
+mod refusal;
+
+pub use plan::{Line, Plan};
+pub use refusal::Refusal;
+
+/// The most bytes of a sheet.
+pub const SHEET_BYTES: usize = 2048;
+/// The most panels, and the most triggers.
+pub const MOST: usize = 6;
+/// Words of the lent space that a line takes: its count of triggers and six components.
+pub const LINE_WORDS: usize = 7;
+
+/// The number that an operation returns for a result, and a test for yes and no.
+const DONE: u32 = 0;
+const YES: u32 = 100;
+const NO: u32 = 101;
+
+/// Reads the sheet, works out the least deviation and lists the lines at the front of the space. The rest of
+/// the space stays as it was.
+///
+/// # Errors
+/// [`Refusal`] 1 to 9; the space is then as it was. The space holds its length divided by [`LINE_WORDS`],
+/// rounded down, lines. The program `plan` lends 2,000 lines; the largest list seen has 72. Where they are
+/// too few, [`Refusal::Space`] says how many there are.
+pub fn plan<'a>(sheet: &[u8], space: &'a mut [i32]) -> Result<Plan<'a>, Refusal> {
+    let mut answer = [0; 4];
+    let number = ffi::plan(sheet, space, &mut answer);
+    let [deviation, steps, selections, count] = answer;
+    let count = count as usize;
+    if number != DONE {
+        return Err(Refusal::of(number, count));
+    }
+    Ok(Plan {
+        deviation,
+        steps: steps as u64,
+        selections: selections as u64,
+        count,
+        words: &space[..LINE_WORDS * count],
+    })
+}
+
+/// The kept table and the walk's numbers.
+#[derive(Clone, Copy, Debug, PartialEq, Eq)]
+pub struct Kept {
+    /// Δ, the least deviation.
+    pub deviation: i64,
+    /// The walk's fixings.
+    pub steps: u64,
+    /// The walk's selections.
+    pub selections: u64,
+    panels: usize,
+    kept: [KeptPanel; MOST],
+}
+
+/// The kept triggers of one panel.
+#[derive(Clone, Copy, Debug, Default, PartialEq, Eq, Hash)]
+pub struct KeptPanel {
+    /// Six bits, bit 0 for trigger 1. A panel without a floor keeps none.
+    pub byte: u8,
+    /// The number of bits set.
+    pub count: u8,
+}
+
+impl Kept {
+    /// What each panel keeps, in sheet order.
+    pub fn panels(&self) -> &[KeptPanel] {
+        &self.kept[..self.panels]
+    }
+}
+
+/// Reads the sheet and gives the least deviation, the kept triggers of each panel and the walk's numbers.
+///
+/// # Errors
+/// [`Refusal`] 1 to 8.
+pub fn kept(sheet: &[u8]) -> Result<Kept, Refusal> {
+    let mut answer = [0; 16];
+    let number = ffi::kept(sheet, &mut answer);
+    if number != DONE {
+        return Err(Refusal::of(number, 0));
+    }
+    let mut kept = [KeptPanel::default(); MOST];
+    for (panel, words) in kept.iter_mut().zip(answer[4..].chunks_exact(2)) {
+        *panel = KeptPanel {
+            byte: words[0] as u8,
+            count: words[1] as u8,
+        };
+    }
+    Ok(Kept {
+        deviation: answer[0],
+        steps: answer[1] as u64,
+        selections: answer[2] as u64,
+        panels: answer[3] as usize,
+        kept,
+    })
+}
+
+/// Whether the times, one for each trigger, are tightest: they keep the order and no times that do have a
+/// smaller deviation.
+///
+/// # Errors
+/// [`Refusal`] 1 to 7; then 10, there are not as many times as triggers; then 11, one is beyond
+/// ±1,000,000,000; then 8.
+pub fn test(sheet: &[u8], times: &[i64]) -> Result<bool, Refusal> {
+    match ffi::test(sheet, times) {
+        YES => Ok(true),
+        NO => Ok(false),
+        number => Err(Refusal::of(number, 0)),
+    }
+}

@@ -1,0 +1,135 @@
+//! What planning gives: four numbers, and the lines in the lent space.
+
+use crate::{LINE_WORDS, MOST};
+use std::fmt;
+
+/// The word of an absent component.
+const ABSENT: i32 = i32::MIN;
+
+/// A plan. Its lines stand in the space that was lent, which stays borrowed as long as the plan is used.
+///
+/// Written by `{}`, it is the text that the program `plan` writes.
+#[derive(Clone, Copy, Debug, PartialEq, Eq)]
+pub struct Plan<'a> {
+    /// Δ, the least deviation that any times that keep the order can have.
+    pub deviation: i64,
+    /// The walk's fixings.
+    pub steps: u64,
+    /// The walk's selections.
+    pub selections: u64,
+    /// The number of lines, at least 1.
+    pub count: usize,
+    /// The words of the lines, seven for each.
+    pub(crate) words: &'a [i32],
+}
+
+/// One line of a list. Lines are ordered by component 1, then 2 and so on, absent lowest.
+#[derive(Clone, Copy, Debug, PartialEq, Eq, PartialOrd, Ord, Hash)]
+pub struct Line {
+    triggers: usize,
+    components: [Option<i32>; MOST],
+}
+
+impl Line {
+    fn of(words: &[i32]) -> Line {
+        let mut components = [None; MOST];
+        for (component, &word) in components.iter_mut().zip(&words[1..]) {
+            *component = (word != ABSENT).then_some(word);
+        }
+        Line {
+            triggers: words[0] as usize,
+            components,
+        }
+    }
+
+    /// The number of triggers, 1 to 6.
+    pub fn triggers(&self) -> usize {
+        self.triggers
+    }
+
+    /// A component for each trigger, trigger 1 first; an absent one is `None`.
+    pub fn components(&self) -> &[Option<i32>] {
+        &self.components[..self.triggers]
+    }
+}
+
+impl fmt::Display for Line {
+    /// The components as the program `plan` writes them, such as `-1,0,-`.
+    fn fmt(&self, f: &mut fmt::Formatter<'_>) -> fmt::Result {
+        for (j, component) in self.components().iter().enumerate() {
+            let comma = if j == 0 { "" } else { "," };
+            match component {
+                Some(number) => write!(f, "{comma}{number}")?,
+                None => write!(f, "{comma}-")?,
+            }
+        }
+        Ok(())
+    }
+}
+
+impl<'a> Plan<'a> {
+    /// The lines, in their order.
+    pub fn lines(&self) -> impl ExactSizeIterator<Item = Line> + DoubleEndedIterator + use<'a> {
+        self.words.chunks_exact(LINE_WORDS).map(Line::of)
+    }
+
+    /// The sheet's number of triggers.
+    pub fn triggers(&self) -> usize {
+        self.words[0] as usize
+    }
+
+    /// Adds a weight to each line and takes the largest, component by component. Whatever the weights,
+    /// these times are tightest, and all tightest times are made so.
+    ///
+    /// `None` if there are not as many weights as lines, or if a time has no 64-bit form. [`test`](crate::test)
+    /// takes times up to ±1,000,000,000.
+    pub fn times(&self, weights: &[i64]) -> Option<Vec<i64>> {
+        if weights.len() != self.count {
+            return None;
+        }
+        let mut times = vec![None; self.triggers()];
+        for (line, weight) in self.lines().zip(weights) {
+            for (time, component) in times.iter_mut().zip(line.components()) {
+                if let Some(component) = component {
+                    // An absent time, `None`, is below every number.
+                    *time = (*time).max(Some(weight.checked_add(i64::from(*component))?));
+                }
+            }
+        }
+        times.into_iter().collect()
+    }
+
+    /// The latest tightest times of which none is later than wished: each line takes the largest weight that
+    /// lifts no component above its wish. Where the wished times are tightest themselves, these are they.
+    ///
+    /// `None` if there are not as many wishes as triggers, or if a number has no 64-bit form.
+    pub fn latest(&self, wished: &[i64]) -> Option<Vec<i64>> {
+        if wished.len() != self.triggers() {
+            return None;
+        }
+        let weight = |line: Line| {
+            let mut weight = i64::MAX;
+            for (wish, component) in wished.iter().zip(line.components()) {
+                if let Some(component) = component {
+                    weight = weight.min(wish.checked_sub(i64::from(*component))?);
+                }
+            }
+            Some(weight)
+        };
+        let weights: Vec<i64> = self.lines().map(weight).collect::<Option<_>>()?;
+        self.times(&weights)
+    }
+}
+
+impl fmt::Display for Plan<'_> {
+    fn fmt(&self, f: &mut fmt::Formatter<'_>) -> fmt::Result {
+        writeln!(f, "deviation={}", self.deviation)?;
+        writeln!(f, "steps={}", self.steps)?;
+        writeln!(f, "selections={}", self.selections)?;
+        writeln!(f, "count={}", self.count)?;
+        for line in self.lines() {
+            writeln!(f, "line={line}")?;
+        }
+        Ok(())
+    }
+}

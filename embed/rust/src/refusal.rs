@@ -1,0 +1,113 @@
+//! What an operation may refuse.
+
+use std::error::Error;
+use std::fmt;
+
+/// Why an operation gave no result. A refusal has changed no lent word.
+///
+/// Written by `{}`, it is a sentence that says what it means and what to look at.
+#[derive(Clone, Copy, Debug, PartialEq, Eq, Hash)]
+pub enum Refusal {
+    /// 1: the sheet has more than 2,048 bytes.
+    TooLong,
+    /// 2: a line is missing, has the wrong key, number of items, numeral or line end, or is a size that
+    /// is absent; or bytes follow the last line.
+    Form,
+    /// 3: a size is not 1 to 6.
+    Size,
+    /// 4: an entry is not −100,000 to 100,000.
+    Range,
+    /// 5: a due mark is absent.
+    NoDue,
+    /// 6: a panel has no lag.
+    NoLag,
+    /// 7: no panel has a floor.
+    NoFloor,
+    /// 8: no timing keeps the order.
+    Order,
+    /// 9: the list has more lines than the lent space holds.
+    Space {
+        /// The lines of the list; each takes [`LINE_WORDS`](crate::LINE_WORDS) words.
+        count: usize,
+    },
+    /// 10: there are not as many times as triggers.
+    Components,
+    /// 11: a time is beyond ±1,000,000,000.
+    Time,
+}
+
+impl Refusal {
+    /// The number, 1 to 11, that stands for this refusal in C and in the programs' texts.
+    pub fn number(self) -> u32 {
+        match self {
+            Refusal::TooLong => 1,
+            Refusal::Form => 2,
+            Refusal::Size => 3,
+            Refusal::Range => 4,
+            Refusal::NoDue => 5,
+            Refusal::NoLag => 6,
+            Refusal::NoFloor => 7,
+            Refusal::Order => 8,
+            Refusal::Space { .. } => 9,
+            Refusal::Components => 10,
+            Refusal::Time => 11,
+        }
+    }
+
+    /// The refusal of a number that the library returned, with the count that comes with 9.
+    pub(crate) fn of(number: u32, count: usize) -> Refusal {
+        match number {
+            1 => Refusal::TooLong,
+            2 => Refusal::Form,
+            3 => Refusal::Size,
+            4 => Refusal::Range,
+            5 => Refusal::NoDue,
+            6 => Refusal::NoLag,
+            7 => Refusal::NoFloor,
+            8 => Refusal::Order,
+            9 => Refusal::Space { count },
+            10 => Refusal::Components,
+            11 => Refusal::Time,
+            _ => unreachable!("the contracts of the library have no refusal {number}"),
+        }
+    }
+}
+
+impl fmt::Display for Refusal {
+    fn fmt(&self, f: &mut fmt::Formatter<'_>) -> fmt::Result {
+        let sentence = match self {
+            Refusal::TooLong => {
+                "the sheet has more than 2,048 bytes; no good sheet has more than 762: \
+                 look for text behind its last line"
+            }
+            Refusal::Form => {
+                "a line is missing or ill-formed, or bytes follow the last line; look at the order of \
+                 the lines, their keys, their numbers of items, numerals such as 05, -0 or +5, blanks, \
+                 and the line end of each"
+            }
+            Refusal::Size => "the number of panels or of triggers is not 1 to 6",
+            Refusal::Range => "an entry is below -100,000 or above 100,000",
+            Refusal::NoDue => "a due mark is absent; each trigger needs one",
+            Refusal::NoLag => {
+                "a panel has no lag: no trigger reaches it; look for a lag line of minus signs alone"
+            }
+            Refusal::NoFloor => "no panel has a floor; at least one needs one",
+            Refusal::Order => {
+                "no times keep the order; look for a circle of after rules whose numbers add up to \
+                 more than 0"
+            }
+            Refusal::Space { count } => {
+                return write!(
+                    f,
+                    "the list has {count} lines, more than the lent space holds; \
+                     lend seven words for each"
+                );
+            }
+            Refusal::Components => "there are not as many times as the sheet has triggers",
+            Refusal::Time => "a time is below -1,000,000,000 or above 1,000,000,000",
+        };
+        f.write_str(sentence)
+    }
+}
+
+impl Error for Refusal {}

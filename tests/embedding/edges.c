@@ -1,0 +1,249 @@
+/*
+ * What embed/c/tuzhelar.h says of lengths, null pointers and overlaps, case by case. Prints each case that fails; the last
+ * line is 'N passed, M failed'. Also C++.
+ */
+#include <stdio.h>
+#include <stdlib.h>
+#include <string.h>
+
+#include "tuzhelar.h"
+
+#define SPACE 30
+#define ANSWER 20
+#define UNTOUCHED 7777
+
+static const char WHOLE[] = "panels=2\ntriggers=2\nlag=2,0\nlag=4,1\nfloor=5,2\ndue=1,2\nafter=-,-\nafter=-,-\n";
+static const char CIRCLE[] = "panels=1\ntriggers=1\nlag=5\nfloor=0\ndue=0\nafter=1\n";
+static const int32_t LINES[2 * TUZHELAR_LINE_WORDS] = {
+    2, -1, 0,               TUZHELAR_ABSENT, TUZHELAR_ABSENT, TUZHELAR_ABSENT, TUZHELAR_ABSENT,
+    2, 0,  TUZHELAR_ABSENT, TUZHELAR_ABSENT, TUZHELAR_ABSENT, TUZHELAR_ABSENT, TUZHELAR_ABSENT,
+};
+static const int64_t PLANNED[TUZHELAR_PLAN_WORDS] = {2, 2, 1, 2};
+static const int64_t KEPT[TUZHELAR_KEPT_WORDS] = {2, 2, 1, 2, 1, 1, 3, 2, 0, 0, 0, 0, 0, 0, 0, 0};
+
+static int passed, failed;
+
+static void check(const char *name, size_t number, int holds)
+{
+    if (holds) {
+        passed++;
+    } else {
+        failed++;
+        printf("FAILED: %s, %lu\n", name, (unsigned long)number);
+    }
+}
+
+static const uint8_t *bytes(const char *sheet)
+{
+    return (const uint8_t *)sheet;
+}
+
+static void untouched(int32_t *space, int64_t *answer)
+{
+    size_t i;
+    for (i = 0; i < SPACE; i++) {
+        space[i] = UNTOUCHED;
+    }
+    for (i = 0; i < ANSWER; i++) {
+        answer[i] = UNTOUCHED;
+    }
+}
+
+/* The first `written` words are those wanted, and the others were not touched. */
+static int space_holds(const int32_t *space, const int32_t *wanted, size_t written)
+{
+    size_t i;
+    for (i = 0; i < SPACE; i++) {
+        if (space[i] != (i < written ? wanted[i] : UNTOUCHED)) {
+            return 0;
+        }
+    }
+    return 1;
+}
+
+static int answer_holds(const int64_t *answer, const int64_t *wanted, size_t written)
+{
+    size_t i;
+    for (i = 0; i < ANSWER; i++) {
+        if (answer[i] != (i < written ? wanted[i] : UNTOUCHED)) {
+            return 0;
+        }
+    }
+    return 1;
+}
+
+static size_t least(size_t a, size_t b)
+{
+    return a < b ? a : b;
+}
+
+/* The proved functions, for every length of the space, the answer and the times. */
+static void lengths(void)
+{
+    int32_t space[SPACE];
+    int64_t answer[ANSWER], times[ANSWER];
+    size_t length;
+    for (length = 0; length <= SPACE; length++) {
+        uint32_t wanted = length < 2 * TUZHELAR_LINE_WORDS ? TUZHELAR_SPACE : TUZHELAR_DONE;
+        untouched(space, answer);
+        check("plan, words of space", length,
+              tuzhelar_plan(bytes(WHOLE), strlen(WHOLE), space, length, answer, ANSWER) == wanted);
+        check("plan, the space", length, space_holds(space, LINES, wanted == TUZHELAR_DONE ? 2 * TUZHELAR_LINE_WORDS : 0));
+        check("plan, the count", length, answer[3] == 2);
+        answer[3] = UNTOUCHED;
+        check("plan, 9 gives the count alone", length, wanted == TUZHELAR_DONE || answer_holds(answer, PLANNED, 0));
+    }
+    for (length = 0; length <= ANSWER; length++) {
+        untouched(space, answer);
+        check("plan, words of answer", length,
+              tuzhelar_plan(bytes(WHOLE), strlen(WHOLE), space, SPACE, answer, length) == TUZHELAR_DONE);
+        check("plan, the answer", length, answer_holds(answer, PLANNED, least(length, TUZHELAR_PLAN_WORDS)));
+        check("plan, the space beside it", length, space_holds(space, LINES, 2 * TUZHELAR_LINE_WORDS));
+        untouched(space, answer);
+        check("kept, words of answer", length, tuzhelar_kept(bytes(WHOLE), strlen(WHOLE), answer, length) == TUZHELAR_DONE);
+        check("kept, the answer", length, answer_holds(answer, KEPT, least(length, TUZHELAR_KEPT_WORDS)));
+        untouched(space, answer);
+        check("plan, 8", length, tuzhelar_plan(bytes(CIRCLE), strlen(CIRCLE), space, SPACE, answer, length) == TUZHELAR_ORDER);
+        check("plan, 8, the answer", length, answer_holds(answer, PLANNED, 0));
+        check("plan, 8, the space", length, space_holds(space, LINES, 0));
+        check("kept, 8", length, tuzhelar_kept(bytes(CIRCLE), strlen(CIRCLE), answer, length) == TUZHELAR_ORDER);
+        check("kept, 8, the answer", length, answer_holds(answer, KEPT, 0));
+    }
+    /* Times that are not lent count as 0: 0,0 is tightest, 0,2 is not. */
+    for (length = 0; length <= ANSWER; length++) {
+        size_t i;
+        for (i = 0; i < ANSWER; i++) {
+            times[i] = i < 2 ? (int64_t)(2 * i) : INT64_MAX;
+        }
+        check("test, times lent", length,
+              tuzhelar_test(bytes(WHOLE), strlen(WHOLE), 2, times, length) == (length < 2 ? TUZHELAR_YES : TUZHELAR_NO));
+        check("test, count", length,
+              tuzhelar_test(bytes(WHOLE), strlen(WHOLE), length, times, ANSWER) ==
+                  (length == 2 ? TUZHELAR_NO : TUZHELAR_COMPONENTS));
+    }
+    check("test, the largest count", 0,
+          tuzhelar_test(bytes(WHOLE), strlen(WHOLE), SIZE_MAX, times, ANSWER) == TUZHELAR_COMPONENTS);
+    times[1] = TUZHELAR_LAST_TIME;
+    check("test, a time at the limit", 0, tuzhelar_test(bytes(WHOLE), strlen(WHOLE), 2, times, 2) == TUZHELAR_NO);
+    times[1] = (int64_t)TUZHELAR_LAST_TIME + 1;
+    check("test, a time beyond it", 0, tuzhelar_test(bytes(WHOLE), strlen(WHOLE), 2, times, 2) == TUZHELAR_TIME);
+    times[1] = INT64_MIN;
+    check("test, the least time", 0, tuzhelar_test(bytes(WHOLE), strlen(WHOLE), 2, times, 2) == TUZHELAR_TIME);
+    check("test, 10 before 11", 0, tuzhelar_test(bytes(WHOLE), strlen(WHOLE), 3, times, 2) == TUZHELAR_COMPONENTS);
+    times[0] = 0;
+    check("test, 8", 0, tuzhelar_test(bytes(CIRCLE), strlen(CIRCLE), 1, times, 1) == TUZHELAR_ORDER);
+    times[0] = INT64_MIN;
+    check("test, 11 before 8", 0, tuzhelar_test(bytes(CIRCLE), strlen(CIRCLE), 1, times, 1) == TUZHELAR_TIME);
+}
+
+/* Sheets of every length up to some past the limit, in memory of just that size. */
+static void sheets(void)
+{
+    size_t length;
+    for (length = 0; length <= TUZHELAR_SHEET_BYTES + 3; length++) {
+        uint8_t *sheet = (uint8_t *)malloc(length == 0 ? 1 : length);
+        uint32_t wanted = length > TUZHELAR_SHEET_BYTES ? TUZHELAR_TOO_LONG : TUZHELAR_FORM;
+        struct tuzhelar_planned planned;
+        int32_t word = UNTOUCHED;
+        if (sheet == NULL) {
+            check("memory", length, 0);
+            return;
+        }
+        /* The whole case, cut short or with line ends behind it. */
+        memset(sheet, '\n', length);
+        memcpy(sheet, WHOLE, least(length, strlen(WHOLE)));
+        if (length == strlen(WHOLE)) {
+            wanted = TUZHELAR_SPACE;
+        }
+        planned = tuzhelar_plan_sheet(sheet, length, &word, 1);
+        check("sheet of this length, plan", length, planned.refusal == wanted && word == UNTOUCHED);
+        check("sheet of this length, kept", length,
+              tuzhelar_kept_table(sheet, length).refusal == (wanted == TUZHELAR_SPACE ? TUZHELAR_DONE : wanted));
+        check("sheet of this length, test", length,
+              tuzhelar_test_timing(sheet, length, NULL, 0) == (wanted == TUZHELAR_SPACE ? TUZHELAR_COMPONENTS : wanted));
+        free(sheet);
+    }
+}
+
+/* The layer: null pointers, absurd lengths and a sheet inside the space. */
+static void layer(void)
+{
+    union {
+        char sheet[sizeof WHOLE];
+        int32_t words[SPACE];
+    } shared;
+    const int64_t times[8] = {0, 1, 0, 0, 0, 0, 0, 0};
+    const size_t whole = strlen(WHOLE);
+    int32_t space[SPACE];
+    int64_t answer[ANSWER];
+    struct tuzhelar_planned planned;
+    struct tuzhelar_keeping keeping;
+    size_t count;
+
+    untouched(space, answer);
+    for (count = 0; count < 3; count++) {
+        size_t length = count == 0 ? 0 : count == 1 ? whole : SIZE_MAX;
+        planned = tuzhelar_plan_sheet(NULL, length, space, SPACE);
+        check("no sheet, plan", length, planned.refusal == TUZHELAR_FORM && planned.deviation == 0 && planned.steps == 0);
+        check("no sheet, plan", length, planned.selections == 0 && planned.count == 0 && space_holds(space, LINES, 0));
+        check("no sheet, kept", length, tuzhelar_kept_table(NULL, length).refusal == TUZHELAR_FORM);
+        check("no sheet, test", length, tuzhelar_test_timing(NULL, length, times, 2) == TUZHELAR_FORM);
+        planned = tuzhelar_plan_sheet(WHOLE, whole, NULL, length);
+        check("no space", length, planned.refusal == TUZHELAR_SPACE && planned.count == 2 && planned.deviation == 0);
+        check("no times", length, tuzhelar_test_timing(WHOLE, whole, NULL, length) == TUZHELAR_COMPONENTS);
+    }
+    planned = tuzhelar_plan_sheet(WHOLE, SIZE_MAX, space, SPACE);
+    check("the longest sheet, plan", 0, planned.refusal == TUZHELAR_TOO_LONG && space_holds(space, LINES, 0));
+    check("the longest sheet, kept", 0, tuzhelar_kept_table(WHOLE, SIZE_MAX).refusal == TUZHELAR_TOO_LONG);
+    check("the longest sheet, test", 0, tuzhelar_test_timing(WHOLE, SIZE_MAX, times, 2) == TUZHELAR_TOO_LONG);
+
+    planned = tuzhelar_plan_sheet(WHOLE, whole, space, SPACE);
+    check("plan", 0, planned.refusal == TUZHELAR_DONE && planned.deviation == 2 && planned.steps == 2);
+    check("plan", 1, planned.selections == 1 && planned.count == 2);
+    check("plan", 2, space_holds(space, LINES, 2 * TUZHELAR_LINE_WORDS));
+    check("component", 0, tuzhelar_component(space, 0, 0) == -1 && tuzhelar_component(space, 0, 1) == 0);
+    check("component", 1, tuzhelar_component(space, 1, 0) == 0 && tuzhelar_component(space, 1, 1) == TUZHELAR_ABSENT);
+
+    memcpy(shared.sheet, WHOLE, whole);
+    planned = tuzhelar_plan_sheet(shared.sheet, whole, shared.words, SPACE);
+    check("sheet in the space", 0, planned.refusal == TUZHELAR_DONE && planned.count == 2);
+    check("sheet in the space", 1, memcmp(shared.words, LINES, sizeof LINES) == 0);
+
+    keeping = tuzhelar_kept_table(WHOLE, whole);
+    check("kept", 0, keeping.refusal == TUZHELAR_DONE && keeping.deviation == 2 && keeping.steps == 2);
+    check("kept", 1, keeping.selections == 1 && keeping.panels == 2);
+    check("kept", 2, keeping.kept[0] == 1 && keeping.counts[0] == 1 && keeping.kept[1] == 3 && keeping.counts[1] == 2);
+    keeping = tuzhelar_kept_table(CIRCLE, strlen(CIRCLE));
+    check("kept, 8", 0, keeping.refusal == TUZHELAR_ORDER && keeping.panels == 0 && keeping.steps == 0);
+
+    for (count = 0; count <= 8; count++) {
+        check("times", count,
+              tuzhelar_test_timing(WHOLE, whole, times, count) == (count == 2 ? TUZHELAR_YES : TUZHELAR_COMPONENTS));
+        check("no times", count, tuzhelar_test_timing(WHOLE, whole, NULL, count) == TUZHELAR_COMPONENTS);
+    }
+    /* Nothing is read through these pointers: they lead nowhere. */
+    check("seven times, unread", 0, tuzhelar_test_timing(WHOLE, whole, (const int64_t *)8, 7) == TUZHELAR_COMPONENTS);
+    check("the most times, unread", 0, tuzhelar_test_timing(WHOLE, whole, (const int64_t *)8, SIZE_MAX) == TUZHELAR_COMPONENTS);
+    check("too long a sheet, unread", 0, tuzhelar_test_timing((const void *)8, 2049, times, 2) == TUZHELAR_TOO_LONG);
+}
+
+static void meanings(void)
+{
+    const char *none = tuzhelar_meaning(12);
+    uint32_t number;
+    for (number = 0; number <= 11; number++) {
+        check("a meaning", number, strcmp(tuzhelar_meaning(number), none) != 0);
+    }
+    check("a meaning", 100, strcmp(tuzhelar_meaning(TUZHELAR_YES), none) != 0);
+    check("a meaning", 101, strcmp(tuzhelar_meaning(TUZHELAR_NO), none) != 0);
+}
+
+int main(void)
+{
+    lengths();
+    sheets();
+    layer();
+    meanings();
+    printf("%d passed, %d failed\n", passed, failed);
+    return failed != 0;
+}

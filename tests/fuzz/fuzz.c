@@ -1,0 +1,551 @@
+/*
+ * Tries the C interface on sheets of every kind and compares it with a second reader and with itself.
+ *
+ *   fuzz COUNT SEED [FIRST]   sheets FIRST (0) to FIRST + COUNT - 1 of a seed
+ *
+ * For each sheet: what the three functions return is what the reader returns where it refuses; all of them are 8 exactly when the after
+ * rules have a circle above 0; no byte or word that is not theirs is touched; a second planning into just enough words gives the same list,
+ * and into fewer 9 with the same count; times that are tested have the answer that the meaning of the sheet gives; what the list makes is
+ * tightest.
+ * The last line is: N passed, M failed. A sheet that fails is written with its number, so that it can be tried alone.
+ */
+#define _DEFAULT_SOURCE
+#include <inttypes.h>
+#include <signal.h>
+#include <stdio.h>
+#include <stdlib.h>
+#include <string.h>
+#include <time.h>
+#include <unistd.h>
+
+#include "lent.h"
+#include "reader.h"
+#include "sheets.h"
+#include "tuzhelar.h"
+
+#define SHOWN 5             /* failures that are written in full */
+#define PROGRAM_WORDS 14000 /* words that the program `plan` lends */
+#define MOST_LINES 279936   /* no list has more: 6 to the power 7 */
+#define ANSWER_WORDS 20     /* more than any answer has */
+#define MOST_TIMES 8        /* times that are lent, at most */
+#define UNTOUCHED_WORD 0x5a5a5a5a
+#define UNTOUCHED INT64_C(0x5a5a5a5a5a5a5a5a)
+
+static struct area sheet_area, space_area, answer_area, times_area;
+
+/* The sheet that is tried. */
+static uint64_t seed, current;
+static struct text text;
+static int sheet_at_end;
+static const uint8_t *sheet;
+
+/* What was wrong with it: the first fault found. */
+static const char *wrong;
+
+/* What was met in the run. */
+static struct {
+    uint64_t read[8], planned, no_order, too_small, tested[102];
+    size_t most_lines;
+    int64_t most_selections;
+} met;
+
+static void expect(int holds, const char *what)
+{
+    if (!holds && wrong == NULL) {
+        wrong = what;
+    }
+}
+
+/* ---- The three functions, each on memory of just the lengths given */
+
+struct answered {
+    uint32_t number;
+    int64_t words[ANSWER_WORDS]; /* past its length UNTOUCHED */
+};
+
+static void lend_sheet(struct random *random)
+{
+    uint8_t *lent;
+    sheet_at_end = chance(random, 70);
+    lent = (uint8_t *)lend(&sheet_area, text.length, sheet_at_end);
+    if (text.length > 0) {
+        memcpy(lent, text.bytes, text.length);
+    }
+    sheet = lent;
+}
+
+static void sheet_stays(void)
+{
+    expect(marks_stay(&sheet_area, text.length, sheet_at_end), "bytes beside the sheet were written");
+    expect(text.length == 0 || memcmp(sheet, text.bytes, text.length) == 0, "the sheet was written");
+}
+
+static int64_t *lend_answer(size_t length, int at_end)
+{
+    int64_t *lent = (int64_t *)lend(&answer_area, length * sizeof *lent, at_end);
+    size_t i;
+    for (i = 0; i < length; i++) {
+        lent[i] = UNTOUCHED;
+    }
+    return lent;
+}
+
+static void take_answer(struct answered *answered, const int64_t *lent, size_t length, int at_end)
+{
+    size_t i;
+    for (i = 0; i < ANSWER_WORDS; i++) {
+        answered->words[i] = i < length ? lent[i] : UNTOUCHED;
+    }
+    expect(marks_stay(&answer_area, length * sizeof *lent, at_end), "words beside the answer were written");
+    sheet_stays();
+}
+
+static struct answered try_kept(struct random *random, size_t length)
+{
+    int at_end = chance(random, 50);
+    int64_t *answer = lend_answer(length, at_end);
+    struct answered answered;
+    answered.number = tuzhelar_kept(sheet, text.length, answer, length);
+    take_answer(&answered, answer, length, at_end);
+    return answered;
+}
+
+/* Plans into `words` words; `*space` is where they stand until the next planning. */
+static struct answered try_plan(struct random *random, size_t words, size_t length, const int32_t **space)
+{
+    int at_end = chance(random, 50), space_at_end = chance(random, 50);
+    int64_t *answer = lend_answer(length, at_end);
+    int32_t *lent = (int32_t *)lend(&space_area, words * sizeof *lent, space_at_end);
+    struct answered answered;
+    size_t i, written;
+    for (i = 0; i < words; i++) {
+        lent[i] = UNTOUCHED_WORD;
+    }
+    answered.number = tuzhelar_plan(sheet, text.length, lent, words, answer, length);
+    take_answer(&answered, answer, length, at_end);
+    expect(marks_stay(&space_area, words * sizeof *lent, space_at_end), "words beside the space were written");
+    /* With an answer too short for the count there is nothing to hold the space to. */
+    if (answered.number != TUZHELAR_DONE || length >= TUZHELAR_PLAN_WORDS) {
+        written = answered.number == TUZHELAR_DONE ? (size_t)answered.words[3] * TUZHELAR_LINE_WORDS : 0;
+        expect(written <= words, "more lines than the space holds");
+        for (i = written; i < words; i++) {
+            expect(lent[i] == UNTOUCHED_WORD, "words behind the list, or on a refusal, were written");
+        }
+    }
+    *space = lent;
+    return answered;
+}
+
+static uint32_t try_test(struct random *random, size_t count, const int64_t *times, size_t length)
+{
+    int at_end = chance(random, 50);
+    int64_t *lent = (int64_t *)lend(&times_area, length * sizeof *lent, at_end);
+    uint32_t number;
+    if (length > 0) {
+        memcpy(lent, times, length * sizeof *lent);
+    }
+    number = tuzhelar_test(sheet, text.length, count, lent, length);
+    expect(marks_stay(&times_area, length * sizeof *lent, at_end), "words beside the times were written");
+    expect(length == 0 || memcmp(lent, times, length * sizeof *lent) == 0, "the times were written");
+    sheet_stays();
+    if (number < sizeof met.tested / sizeof met.tested[0]) {
+        met.tested[number]++;
+    }
+    return number;
+}
+
+static int all_untouched(const struct answered *answered, size_t first)
+{
+    size_t i;
+    for (i = first; i < ANSWER_WORDS; i++) {
+        if (answered->words[i] != UNTOUCHED) {
+            return 0;
+        }
+    }
+    return 1;
+}
+
+/* ---- Meaning: what document 01 says of times on the tables of a sheet */
+
+static int keeps_order(const struct tables *tables, const int64_t *times)
+{
+    int i, j;
+    for (i = 0; i < tables->triggers; i++) {
+        for (j = 0; j < tables->triggers; j++) {
+            if (tables->after[i][j] != NONE && times[i] < tables->after[i][j] + times[j]) {
+                return 0;
+            }
+        }
+    }
+    return 1;
+}
+
+static int64_t deviation(const struct tables *tables, const int64_t *times)
+{
+    int64_t late = NONE, early = NONE;
+    int i, j;
+    for (j = 0; j < tables->triggers; j++) {
+        int64_t by = times[j] - tables->due[j];
+        late = by > late ? by : late;
+    }
+    for (i = 0; i < tables->panels; i++) {
+        int64_t landing = NONE;
+        if (tables->floor[i] == NONE) {
+            continue;
+        }
+        for (j = 0; j < tables->triggers; j++) {
+            if (tables->lag[i][j] != NONE && tables->lag[i][j] + times[j] > landing) {
+                landing = tables->lag[i][j] + times[j];
+            }
+        }
+        early = tables->floor[i] - landing > early ? tables->floor[i] - landing : early;
+    }
+    return late + early;
+}
+
+/* Whether the after rules have a circle that adds up to more than 0: the largest sums over ever more triggers on the way. */
+static int circle_above_0(const struct tables *tables)
+{
+    int64_t sum[MOST][MOST];
+    int n = tables->triggers, i, j, k;
+    memcpy(sum, tables->after, sizeof sum);
+    for (k = 0; k < n; k++) {
+        for (i = 0; i < n; i++) {
+            for (j = 0; j < n; j++) {
+                if (sum[i][k] != NONE && sum[k][j] != NONE && sum[i][k] + sum[k][j] > sum[i][j]) {
+                    sum[i][j] = sum[i][k] + sum[k][j];
+                }
+            }
+        }
+    }
+    for (i = 0; i < n; i++) {
+        if (sum[i][i] > 0) {
+            return 1;
+        }
+    }
+    return 0;
+}
+
+/* What testing must answer for times within its limits, on a sheet whose order can be kept. */
+static uint32_t meant(const struct tables *tables, const int64_t *times, int64_t least)
+{
+    if (!keeps_order(tables, times)) {
+        return TUZHELAR_NO;
+    }
+    expect(deviation(tables, times) >= least, "times with a deviation below the least one");
+    return deviation(tables, times) == least ? TUZHELAR_YES : TUZHELAR_NO;
+}
+
+/* ---- The checks */
+
+/* A sheet that reading refuses: every function returns the refusal, whatever else it is given, and writes nothing. */
+static void check_refused(struct random *random, uint32_t refusal)
+{
+    size_t kept_length = (size_t)below(random, ANSWER_WORDS + 1), plan_length = (size_t)below(random, ANSWER_WORDS + 1);
+    size_t times_length = (size_t)below(random, MOST_TIMES + 1);
+    int64_t times[MOST_TIMES] = {0};
+    const int32_t *space;
+    struct answered kept = try_kept(random, kept_length), plan = try_plan(random, (size_t)below(random, 100), plan_length, &space);
+    expect(kept.number == refusal, "the kept table's refusal is not the reader's");
+    expect(plan.number == refusal, "planning's refusal is not the reader's");
+    expect(all_untouched(&kept, 0) && all_untouched(&plan, 0), "a refusal wrote to the answer");
+    times[below(random, MOST_TIMES)] = (int64_t)next_random(random);
+    expect(try_test(random, (size_t)below(random, 9), times, times_length) == refusal, "testing's refusal is not the reader's");
+}
+
+/* Times that testing refuses: 10 before 11, and both before 8. */
+static void check_times_refused(struct random *random, int n)
+{
+    int64_t times[MOST_TIMES] = {0}, beyond = TUZHELAR_LAST_TIME + between(random, 1, 1000);
+    size_t count = (size_t)below(random, 9);
+    times[below(random, n)] = chance(random, 30) ? INT64_MIN : chance(random, 50) ? beyond : -beyond;
+    expect(try_test(random, (size_t)n, times, MOST_TIMES) == TUZHELAR_TIME, "a time beyond the limit is not 11");
+    if (count != (size_t)n) {
+        expect(try_test(random, count, times, (size_t)below(random, MOST_TIMES + 1)) == TUZHELAR_COMPONENTS,
+               "a wrong number of times is not 10");
+    }
+    expect(try_test(random, SIZE_MAX - count, times, MOST_TIMES) == TUZHELAR_COMPONENTS, "a large number of times is not 10");
+}
+
+/* A good sheet whose order no times keep. */
+static void check_no_order(struct random *random, const struct tables *tables)
+{
+    int64_t times[MOST_TIMES];
+    size_t length = (size_t)below(random, ANSWER_WORDS + 1);
+    const int32_t *space;
+    struct answered plan = try_plan(random, (size_t)below(random, 100), length, &space);
+    int j;
+    expect(circle_above_0(tables), "8 without a circle above 0");
+    expect(plan.number == TUZHELAR_ORDER, "the kept table is 8 and planning is not");
+    expect(all_untouched(&plan, 0), "8 wrote to the answer");
+    for (j = 0; j < MOST_TIMES; j++) {
+        times[j] = between(random, -TUZHELAR_LAST_TIME, TUZHELAR_LAST_TIME);
+    }
+    expect(try_test(random, (size_t)tables->triggers, times, MOST_TIMES) == TUZHELAR_ORDER, "the kept table is 8 and testing is not");
+}
+
+/* The kept table's words: sizes and bits fit the sheet. */
+static void check_kept_words(const struct tables *tables, const struct answered *kept)
+{
+    int i, j, bits;
+    expect(kept->words[3] == tables->panels, "the number of panels is not the sheet's");
+    for (i = 0; i < MOST; i++) {
+        int64_t byte = kept->words[4 + 2 * i];
+        for (bits = 0, j = 0; j < MOST; j++) {
+            bits += (int)(byte >> j & 1);
+        }
+        expect(byte >= 0 && byte >> tables->triggers == 0, "a kept byte has more bits than triggers");
+        expect(kept->words[5 + 2 * i] == bits, "a count of kept triggers is not the byte's");
+        expect((tables->floor[i] == NONE) == (byte == 0), "a panel keeps triggers exactly when it has a floor");
+    }
+    expect(all_untouched(kept, TUZHELAR_KEPT_WORDS), "words behind the kept table's answer were written");
+}
+
+/* The list's form: counts, unused components, the shift, and the order of lines. */
+static void check_lines(const int32_t *lines, size_t count, int n)
+{
+    size_t i;
+    int j;
+    for (i = 0; i < count; i++) {
+        const int32_t *line = lines + TUZHELAR_LINE_WORDS * i, *before = line - TUZHELAR_LINE_WORDS;
+        int32_t greatest = TUZHELAR_ABSENT;
+        expect(line[0] == n, "a line's count of triggers is not the sheet's");
+        for (j = 1; j <= MOST; j++) {
+            expect(j <= n || line[j] == TUZHELAR_ABSENT, "an unused component is present");
+            greatest = line[j] > greatest ? line[j] : greatest;
+        }
+        expect(greatest == 0, "a line's greatest component is not 0");
+        for (j = 1; i > 0 && j <= MOST && line[j] == before[j]; j++) {
+        }
+        expect(i == 0 || (j <= MOST && line[j] > before[j]), "two lines stand twice or out of order");
+    }
+}
+
+static void check_time(struct random *random, const struct tables *tables, const int64_t *times, int64_t least, const char *what)
+{
+    int64_t lent[MOST_TIMES];
+    int j;
+    for (j = 0; j < MOST_TIMES; j++) {
+        /* What stands behind the sheet's triggers must not matter. */
+        lent[j] = j < tables->triggers ? times[j] : (int64_t)next_random(random);
+    }
+    expect(try_test(random, (size_t)tables->triggers, lent, (size_t)between(random, tables->triggers, MOST_TIMES)) ==
+               meant(tables, times, least),
+           what);
+}
+
+/* What the list makes is tightest: lines without absent components, and combinations of all. Other times are as the meaning says. */
+static void check_times(struct random *random, const struct tables *tables, const int32_t *lines, size_t count, int64_t least)
+{
+    int n = tables->triggers, whole, j, tries;
+    int64_t times[MOST], reach = chance(random, 50) ? 3 : 300000;
+    size_t i;
+    for (i = 0; i < count; i++) {
+        for (whole = 1, j = 0; j < n; j++) {
+            times[j] = lines[TUZHELAR_LINE_WORDS * i + 1 + (size_t)j];
+            whole = whole && times[j] != TUZHELAR_ABSENT;
+        }
+        if (whole) {
+            expect(try_test(random, (size_t)n, times, (size_t)n) == TUZHELAR_YES, "a whole line is not tightest");
+            expect(meant(tables, times, least) == TUZHELAR_YES, "a whole line is not tightest by the meaning");
+        }
+    }
+    for (tries = 0; tries < 3; tries++) {
+        for (j = 0; j < n; j++) {
+            times[j] = NONE;
+        }
+        for (i = 0; i < count; i++) {
+            int64_t weight = between(random, -reach, reach);
+            for (j = 0; j < n; j++) {
+                int32_t component = lines[TUZHELAR_LINE_WORDS * i + 1 + (size_t)j];
+                if (component != TUZHELAR_ABSENT && weight + component > times[j]) {
+                    times[j] = weight + component;
+                }
+            }
+        }
+        for (j = 0; j < n; j++) {
+            expect(times[j] != NONE, "a component is absent in every line");
+        }
+        if (wrong != NULL) {
+            return;
+        }
+        expect(meant(tables, times, least) == TUZHELAR_YES, "a combination is not tightest by the meaning");
+        check_time(random, tables, times, least, "testing a combination is not as the meaning says");
+        times[below(random, n)] += between(random, -2, 2);
+        check_time(random, tables, times, least, "testing times beside a combination is not as the meaning says");
+    }
+    for (j = 0; j < n; j++) {
+        times[j] = between(random, -reach, reach);
+    }
+    check_time(random, tables, times, least, "testing is not as the meaning says");
+    /* A time that is not lent counts as 0. */
+    whole = below(random, n + 1);
+    for (j = whole; j < n; j++) {
+        times[j] = 0;
+    }
+    expect(try_test(random, (size_t)n, times, (size_t)whole) == meant(tables, times, least), "times that are not lent are not 0");
+}
+
+/* A sheet that has a plan. */
+static void check_planned(struct random *random, const struct tables *tables, const struct answered *kept)
+{
+    static int32_t lines[PROGRAM_WORDS];
+    size_t words = (size_t)(chance(random, 2) ? PROGRAM_WORDS : below(random, 250)), count, length, i;
+    const int32_t *space;
+    struct answered plan = try_plan(random, words, ANSWER_WORDS, &space), again;
+    int done = plan.number == TUZHELAR_DONE;
+
+    expect(plan.words[3] >= 1 && plan.words[3] <= MOST_LINES, "a list without lines, or with more than there can be");
+    if (wrong != NULL) {
+        return;
+    }
+    count = (size_t)plan.words[3];
+    expect(plan.number == (count > words / TUZHELAR_LINE_WORDS ? TUZHELAR_SPACE : TUZHELAR_DONE), "planning is neither 0 nor 9 where due");
+    met.too_small += plan.number == TUZHELAR_SPACE;
+    met.most_lines = count > met.most_lines ? count : met.most_lines;
+    met.most_selections = kept->words[2] > met.most_selections ? kept->words[2] : met.most_selections;
+    expect(all_untouched(&plan, 4), "words behind planning's answer were written");
+    for (i = 0; i < 3; i++) {
+        expect(plan.words[i] == (done ? kept->words[i] : UNTOUCHED), "planning and the kept table differ, or 9 gives more than the count");
+    }
+    if (count * TUZHELAR_LINE_WORDS > PROGRAM_WORDS) {
+        expect(0, "a list of more than 2,000 lines, which this test cannot hold");
+        return;
+    }
+    if (done) {
+        memcpy(lines, space, count * TUZHELAR_LINE_WORDS * sizeof *lines);
+    }
+
+    /* Just enough words, and an answer of any length. */
+    length = (size_t)below(random, TUZHELAR_PLAN_WORDS + 2);
+    again = try_plan(random, count * TUZHELAR_LINE_WORDS, length, &space);
+    expect(again.number == TUZHELAR_DONE, "just enough words are refused");
+    for (i = 0; i < length && i < TUZHELAR_PLAN_WORDS; i++) {
+        expect(again.words[i] == (i < 3 ? kept->words[i] : (int64_t)count), "a second planning gives another answer");
+    }
+    expect(all_untouched(&again, length < TUZHELAR_PLAN_WORDS ? length : TUZHELAR_PLAN_WORDS), "words behind the answer were written");
+    if (done) {
+        expect(memcmp(lines, space, count * TUZHELAR_LINE_WORDS * sizeof *lines) == 0, "a second planning gives another list");
+    } else {
+        memcpy(lines, space, count * TUZHELAR_LINE_WORDS * sizeof *lines);
+    }
+
+    /* A word or a line too few. */
+    again = try_plan(random, count * TUZHELAR_LINE_WORDS - (size_t)between(random, 1, TUZHELAR_LINE_WORDS), ANSWER_WORDS, &space);
+    expect(again.number == TUZHELAR_SPACE && again.words[3] == (int64_t)count, "too few words are not 9 with the same count");
+    again.words[3] = UNTOUCHED;
+    expect(all_untouched(&again, 0), "9 gives more than the count");
+
+    check_lines(lines, count, tables->triggers);
+    if (wrong == NULL) {
+        check_times(random, tables, lines, count, kept->words[0]);
+    }
+}
+
+static void try_sheet(void)
+{
+    struct random random = random_for(seed, current);
+    struct tables tables;
+    struct answered kept;
+    uint32_t refusal;
+    wrong = NULL;
+    make_sheet(&random, &text);
+    lend_sheet(&random);
+    refusal = read_tables(text.bytes, text.length, &tables);
+    met.read[refusal]++;
+    if (refusal != 0) {
+        check_refused(&random, refusal);
+        return;
+    }
+    kept = try_kept(&random, ANSWER_WORDS);
+    check_times_refused(&random, tables.triggers);
+    if (kept.number == TUZHELAR_ORDER) {
+        met.no_order++;
+        expect(all_untouched(&kept, 0), "8 wrote to the kept table's answer");
+        check_no_order(&random, &tables);
+    } else if (kept.number == TUZHELAR_DONE) {
+        met.planned++;
+        expect(!circle_above_0(&tables), "no 8 with a circle above 0");
+        check_kept_words(&tables, &kept);
+        if (wrong == NULL) {
+            check_planned(&random, &tables, &kept);
+        }
+    } else {
+        expect(0, "the reader takes the sheet and the kept table refuses it");
+    }
+}
+
+/* ---- The run */
+
+static void write_sheet(void)
+{
+    size_t i;
+    printf("    \"");
+    for (i = 0; i < text.length; i++) {
+        uint8_t byte = text.bytes[i];
+        if (byte == '\n') {
+            printf("\\n");
+        } else if (byte < 0x20 || byte >= 0x7f || byte == '"' || byte == '\\') {
+            printf("\\%03o", byte);
+        } else {
+            putchar(byte);
+        }
+    }
+    printf("\"\n");
+}
+
+/* A page was touched that was not lent: nothing can be said after that. */
+static void touched(int number)
+{
+    (void)number;
+    printf("FAILED: sheet %" PRIu64 " of seed %" PRIu64 ": memory was touched that was not lent\n", current, seed);
+    write_sheet();
+    fflush(stdout);
+    _exit(3);
+}
+
+static uint64_t argument(int count, char **values, int at, uint64_t otherwise)
+{
+    return at < count ? strtoull(values[at], NULL, 10) : otherwise;
+}
+
+int main(int argc, char **argv)
+{
+    uint64_t count = argument(argc, argv, 1, 0), first = argument(argc, argv, 3, 0), failed = 0;
+    clock_t start = clock();
+    int i;
+    if (argc < 3 || argc > 4) {
+        fprintf(stderr, "usage: fuzz COUNT SEED [FIRST]\n");
+        return 2;
+    }
+    seed = argument(argc, argv, 2, 1);
+    sheet_area = make_area(ROOM);
+    space_area = make_area(PROGRAM_WORDS * sizeof(int32_t));
+    answer_area = make_area(ANSWER_WORDS * sizeof(int64_t));
+    times_area = make_area(MOST_TIMES * sizeof(int64_t));
+    if (!guarded(&sheet_area) || !guarded(&space_area) || !guarded(&answer_area) || !guarded(&times_area)) {
+        fprintf(stderr, "fuzz: the pages around the memory lent are not guarded\n");
+        return 2;
+    }
+    signal(SIGSEGV, touched);
+    signal(SIGBUS, touched);
+    for (current = first; current - first < count; current++) {
+        try_sheet();
+        if (wrong != NULL && failed++ < SHOWN) {
+            printf("FAILED: sheet %" PRIu64 " of seed %" PRIu64 ": %s\n", current, seed, wrong);
+            write_sheet();
+        }
+    }
+    printf("%" PRIu64 " sheets of seed %" PRIu64 ", %.1f s of processor time\n", count, seed, (double)(clock() - start) / CLOCKS_PER_SEC);
+    printf("reading:");
+    for (i = 1; i <= 7; i++) {
+        printf(" %d: %" PRIu64 ",", i, met.read[i]);
+    }
+    printf(" good: %" PRIu64 "; of these 8: %" PRIu64 ", planned: %" PRIu64 ", of these first 9: %" PRIu64 "\n", met.read[0], met.no_order,
+           met.planned, met.too_small);
+    printf("times: yes: %" PRIu64 ", no: %" PRIu64 ", 8: %" PRIu64 ", 10: %" PRIu64 ", 11: %" PRIu64 "\n", met.tested[TUZHELAR_YES],
+           met.tested[TUZHELAR_NO], met.tested[TUZHELAR_ORDER], met.tested[TUZHELAR_COMPONENTS], met.tested[TUZHELAR_TIME]);
+    printf("the longest list: %zu lines; the most selections: %" PRId64 "\n", met.most_lines, met.most_selections);
+    printf("%" PRIu64 " passed, %" PRIu64 " failed\n", count - failed, failed);
+    return failed != 0;
+}

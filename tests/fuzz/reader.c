@@ -1,0 +1,204 @@
+/*
+ * Document 01, "The sheet" and "Reading". A line is taken whole, up to its LF, split at its commas, and then asked for each kind of
+ * fault in turn: "in one line 2 before 3 before 4 before 5".
+ */
+#include "reader.h"
+
+#include <string.h>
+
+/* What a line's items may be. */
+enum rule { SIZE, ENTRY, DUE };
+
+/* What one item is. */
+enum form { WRONG, ABSENT, NUMBER };
+
+struct item {
+    enum form form;
+    int beyond; /* a number outside +-LIMIT */
+    int64_t value; /* where it is not beyond */
+};
+
+struct reading {
+    const uint8_t *rest;
+    size_t length;
+};
+
+static int is_digit(uint8_t byte)
+{
+    return byte >= '0' && byte <= '9';
+}
+
+/* "A number is 0, or an optional minus, a digit 1 to 9 and any digits. Absent is a lone minus." */
+static struct item read_item(const uint8_t *bytes, size_t length)
+{
+    struct item item = {WRONG, 0, 0};
+    size_t first = length > 0 && bytes[0] == '-' ? 1 : 0, i;
+    if (length == 1 && bytes[0] == '-') {
+        item.form = ABSENT;
+        return item;
+    }
+    if (length == 1 && bytes[0] == '0') {
+        item.form = NUMBER;
+        return item;
+    }
+    if (first == length || bytes[first] == '0') {
+        return item;
+    }
+    for (i = first; i < length; i++) {
+        if (!is_digit(bytes[i])) {
+            return item;
+        }
+    }
+    item.form = NUMBER;
+    /* A numeral of more than six digits is above 100,000, however long; shorter ones cannot overflow. */
+    item.beyond = length - first > 6;
+    for (i = first; !item.beyond && i < length; i++) {
+        item.value = 10 * item.value + (bytes[i] - '0');
+    }
+    item.beyond = item.beyond || item.value > LIMIT;
+    item.value = first == 1 ? -item.value : item.value;
+    return item;
+}
+
+/* Splits the rest of a line at its commas. Returns the number of items; only the first `most` are read. */
+static size_t split(const uint8_t *bytes, size_t length, struct item *items, size_t most)
+{
+    size_t count = 0, start = 0, i;
+    for (i = 0; i <= length; i++) {
+        if (i == length || bytes[i] == ',') {
+            if (count < most) {
+                items[count] = read_item(bytes + start, i - start);
+            }
+            count++;
+            start = i + 1;
+        }
+    }
+    return count;
+}
+
+/* The fault of a line whose form is right, or 0. */
+static uint32_t fault(enum rule rule, const struct item *items, size_t count)
+{
+    size_t i;
+    for (i = 0; i < count; i++) {
+        if (rule == SIZE && items[i].form == ABSENT) {
+            return 2;
+        }
+    }
+    for (i = 0; i < count; i++) {
+        if (rule == SIZE && (items[i].beyond || items[i].value < 1 || items[i].value > MOST)) {
+            return 3;
+        }
+    }
+    for (i = 0; i < count; i++) {
+        if (rule != SIZE && items[i].form == NUMBER && items[i].beyond) {
+            return 4;
+        }
+    }
+    for (i = 0; i < count; i++) {
+        if (rule == DUE && items[i].form == ABSENT) {
+            return 5;
+        }
+    }
+    return 0;
+}
+
+/* One line: its entries, and 0 or its refusal. */
+static uint32_t read_line(struct reading *reading, const char *key, enum rule rule, int count, int64_t *entries)
+{
+    const uint8_t *line = reading->rest;
+    const uint8_t *end = reading->length == 0 ? NULL : (const uint8_t *)memchr(line, '\n', reading->length);
+    size_t key_length = strlen(key), length, i;
+    struct item items[MOST];
+    uint32_t refusal;
+    if (end == NULL) {
+        return 2;
+    }
+    length = (size_t)(end - line);
+    reading->rest = end + 1;
+    reading->length -= length + 1;
+    if (length < key_length || memcmp(line, key, key_length) != 0) {
+        return 2;
+    }
+    if (split(line + key_length, length - key_length, items, (size_t)count) != (size_t)count) {
+        return 2;
+    }
+    for (i = 0; i < (size_t)count; i++) {
+        if (items[i].form == WRONG) {
+            return 2;
+        }
+    }
+    refusal = fault(rule, items, (size_t)count);
+    for (i = 0; refusal == 0 && i < (size_t)count; i++) {
+        entries[i] = items[i].form == ABSENT ? NONE : items[i].value;
+    }
+    return refusal;
+}
+
+static int all_absent(const int64_t *entries, int count)
+{
+    int i;
+    for (i = 0; i < count; i++) {
+        if (entries[i] != NONE) {
+            return 0;
+        }
+    }
+    return 1;
+}
+
+static void clear(struct tables *tables)
+{
+    int i, j;
+    tables->panels = tables->triggers = 0;
+    for (i = 0; i < MOST; i++) {
+        tables->floor[i] = tables->due[i] = NONE;
+        for (j = 0; j < MOST; j++) {
+            tables->lag[i][j] = tables->after[i][j] = NONE;
+        }
+    }
+}
+
+uint32_t read_tables(const uint8_t *sheet, size_t length, struct tables *tables)
+{
+    struct reading reading = {sheet, length};
+    int64_t size = 0;
+    uint32_t refusal;
+    int m, n, i;
+    clear(tables);
+    if (length > LONGEST) {
+        return 1;
+    }
+    if ((refusal = read_line(&reading, "panels=", SIZE, 1, &size)) != 0) {
+        return refusal;
+    }
+    m = tables->panels = (int)size;
+    if ((refusal = read_line(&reading, "triggers=", SIZE, 1, &size)) != 0) {
+        return refusal;
+    }
+    n = tables->triggers = (int)size;
+    for (i = 0; i < m; i++) {
+        if ((refusal = read_line(&reading, "lag=", ENTRY, n, tables->lag[i])) != 0) {
+            return refusal;
+        }
+    }
+    if ((refusal = read_line(&reading, "floor=", ENTRY, m, tables->floor)) != 0) {
+        return refusal;
+    }
+    if ((refusal = read_line(&reading, "due=", DUE, n, tables->due)) != 0) {
+        return refusal;
+    }
+    for (i = 0; i < n; i++) {
+        if ((refusal = read_line(&reading, "after=", ENTRY, n, tables->after[i])) != 0) {
+            return refusal;
+        }
+    }
+    if (reading.length != 0) {
+        return 2;
+    }
+    for (i = 0; i < m; i++) {
+        if (all_absent(tables->lag[i], n)) {
+            return 6;
+        }
+    }
+    return all_absent(tables->floor, m) ? 7 : 0;
+}

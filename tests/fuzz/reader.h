@@ -1,0 +1,21 @@
+/* A second reader of sheets, written from document 01 alone. */
+#ifndef READER_H
+#define READER_H
+
+#include <stddef.h>
+#include <stdint.h>
+
+#define MOST 6             /* panels and triggers */
+#define LONGEST 2048       /* bytes of a sheet */
+#define LIMIT 100000       /* entries lie within +- this */
+#define NONE INT64_MIN     /* an absent entry */
+
+struct tables {
+    int panels, triggers;
+    int64_t lag[MOST][MOST], floor[MOST], due[MOST], after[MOST][MOST];
+};
+
+/* 0 and the sheet's tables, or the refusal, 1 to 7. Entries past the sheet's sizes are absent. */
+uint32_t read_tables(const uint8_t *sheet, size_t length, struct tables *tables);
+
+#endif

@@ -1,0 +1,570 @@
+/* Four kinds of sheets: random bytes, good ones, good ones with faults of chosen kinds at chosen places, good ones with changes. */
+#include "sheets.h"
+
+#include <inttypes.h>
+#include <stdio.h>
+#include <string.h>
+
+#include "reader.h"
+
+#define LINES 24     /* of a draft */
+#define ITEMS 9      /* of a line */
+#define ITEM_BYTES 24
+#define COUNT_OF(array) ((int)(sizeof(array) / sizeof(array)[0]))
+
+/* ---- Random numbers: splitmix64 */
+
+uint64_t next_random(struct random *random)
+{
+    uint64_t z = random->state += UINT64_C(0x9e3779b97f4a7c15);
+    z = (z ^ (z >> 30)) * UINT64_C(0xbf58476d1ce4e5b9);
+    z = (z ^ (z >> 27)) * UINT64_C(0x94d049bb133111eb);
+    return z ^ (z >> 31);
+}
+
+struct random random_for(uint64_t seed, uint64_t number)
+{
+    struct random random;
+    random.state = seed;
+    random.state = next_random(&random) ^ (number * UINT64_C(0xd6051ba535d79a2d));
+    return random;
+}
+
+int below(struct random *random, int end)
+{
+    return (int)(next_random(random) % (uint64_t)end);
+}
+
+int64_t between(struct random *random, int64_t low, int64_t high)
+{
+    return low + (int64_t)(next_random(random) % (uint64_t)(high - low + 1));
+}
+
+int chance(struct random *random, int percent)
+{
+    return below(random, 100) < percent;
+}
+
+/* ---- Text; what is past its room is dropped */
+
+static void add_bytes(struct text *text, const void *bytes, size_t length)
+{
+    size_t room = ROOM - text->length;
+    length = length < room ? length : room;
+    if (length > 0) {
+        memcpy(text->bytes + text->length, bytes, length);
+    }
+    text->length += length;
+}
+
+static void add(struct text *text, const char *string)
+{
+    add_bytes(text, string, strlen(string));
+}
+
+static void add_repeated(struct text *text, char byte, int count)
+{
+    for (; count > 0; count--) {
+        add_bytes(text, &byte, 1);
+    }
+}
+
+/* Puts `count` bytes at a place, in the place of `gone` ones. */
+static void splice(struct text *text, size_t at, size_t gone, const uint8_t *bytes, size_t count)
+{
+    struct text changed = {{0}, 0};
+    add_bytes(&changed, text->bytes, at);
+    add_bytes(&changed, bytes, count);
+    add_bytes(&changed, text->bytes + at + gone, text->length - at - gone);
+    *text = changed;
+}
+
+/* ---- Drafts: a sheet by lines and items, before it is written */
+
+struct item_text {
+    char text[ITEM_BYTES];
+    int nines; /* digits 9 behind the text, for numerals of any length */
+};
+
+struct line {
+    char key[ITEM_BYTES];
+    struct item_text items[ITEMS];
+    int count;
+    char end[4];
+    int end_length;
+};
+
+struct draft {
+    struct line lines[LINES];
+    int count;
+    int m, n;
+};
+
+static void write_draft(const struct draft *draft, struct text *text)
+{
+    int i, j;
+    text->length = 0;
+    for (i = 0; i < draft->count; i++) {
+        const struct line *line = &draft->lines[i];
+        add(text, line->key);
+        for (j = 0; j < line->count; j++) {
+            add(text, j == 0 ? "" : ",");
+            add(text, line->items[j].text);
+            add_repeated(text, '9', line->items[j].nines);
+        }
+        add_bytes(text, line->end, (size_t)line->end_length);
+    }
+}
+
+static struct line *add_line(struct draft *draft, const char *key)
+{
+    struct line *line = &draft->lines[draft->count++];
+    memset(line, 0, sizeof *line);
+    strcpy(line->key, key);
+    strcpy(line->end, "\n");
+    line->end_length = 1;
+    return line;
+}
+
+static void set_item(struct line *line, int at, const char *text)
+{
+    strcpy(line->items[at].text, text);
+    line->items[at].nines = 0;
+}
+
+static void set_number(struct line *line, int at, int64_t value)
+{
+    snprintf(line->items[at].text, ITEM_BYTES, "%" PRId64, value);
+    line->items[at].nines = 0;
+}
+
+static void add_number(struct line *line, int64_t value)
+{
+    set_number(line, line->count++, value);
+}
+
+static void add_absent(struct line *line)
+{
+    set_item(line, line->count++, "-");
+}
+
+/* ---- Good sheets */
+
+/* How entries are drawn: within +-size, percents of absent ones, and whether nearly all are at the limits. */
+struct manner {
+    int64_t size;
+    int no_lag, no_floor, no_after;
+    int extreme;
+};
+
+static int64_t number(struct random *random, const struct manner *manner)
+{
+    static const int64_t EXTREMES[] = {LIMIT, -LIMIT, LIMIT - 1, 1 - LIMIT, 0};
+    if (manner->extreme && chance(random, 80)) {
+        return EXTREMES[below(random, COUNT_OF(EXTREMES))];
+    }
+    return between(random, -manner->size, manner->size);
+}
+
+/* A line of entries of which, where `one` is set, at least one is present. */
+static void add_row(struct random *random, struct draft *draft, const char *key, const struct manner *manner, int items, int absent,
+                    int one)
+{
+    struct line *line = add_line(draft, key);
+    int present = one ? below(random, items) : -1, j;
+    for (j = 0; j < items; j++) {
+        if (j != present && chance(random, absent)) {
+            add_absent(line);
+        } else {
+            add_number(line, number(random, manner));
+        }
+    }
+}
+
+/* After lines that some times keep: with times v, each entry is at most v(i) - v(j), and equal to it at times. */
+static void add_order(struct random *random, struct draft *draft, const struct manner *manner)
+{
+    int64_t v[MOST], half = manner->size / 2;
+    int tight = below(random, 101), i, j;
+    for (j = 0; j < draft->n; j++) {
+        v[j] = between(random, -half, half);
+    }
+    for (i = 0; i < draft->n; i++) {
+        struct line *line = add_line(draft, "after=");
+        for (j = 0; j < draft->n; j++) {
+            int64_t slack = chance(random, tight) ? 0 : between(random, 0, manner->size);
+            int64_t entry = v[i] - v[j] - slack;
+            if (chance(random, manner->no_after) || entry < -LIMIT) {
+                add_absent(line);
+            } else {
+                add_number(line, entry);
+            }
+        }
+    }
+}
+
+/* Lags, floors and due marks that nearly tie, from marks of panels and triggers: many entries are kept, and many selections walked. */
+static void add_tied(struct random *random, struct draft *draft, const struct manner *manner)
+{
+    int64_t u[MOST], v[MOST], third = manner->size / 3, noise = between(random, 0, chance(random, 50) ? 3 : third);
+    int present, i, j;
+    struct line *line;
+    for (i = 0; i < draft->m; i++) {
+        u[i] = between(random, -third, third);
+    }
+    for (j = 0; j < draft->n; j++) {
+        v[j] = between(random, -third, third);
+    }
+    for (i = 0; i < draft->m; i++) {
+        line = add_line(draft, "lag=");
+        present = below(random, draft->n);
+        for (j = 0; j < draft->n; j++) {
+            if (j != present && chance(random, manner->no_lag)) {
+                add_absent(line);
+            } else {
+                add_number(line, u[i] - v[j] + between(random, 0, noise));
+            }
+        }
+    }
+    line = add_line(draft, "floor=");
+    present = below(random, draft->m);
+    for (i = 0; i < draft->m; i++) {
+        if (i != present && chance(random, manner->no_floor)) {
+            add_absent(line);
+        } else {
+            add_number(line, u[i]);
+        }
+    }
+    line = add_line(draft, "due=");
+    for (j = 0; j < draft->n; j++) {
+        add_number(line, v[j]);
+    }
+}
+
+static void make_draft(struct random *random, struct draft *draft)
+{
+    static const int64_t SIZES[] = {1, 1, 2, 3, 9, 400, 2000, LIMIT};
+    static const int ABSENT[] = {0, 0, 20, 50, 80};
+    struct manner manner;
+    int i;
+    manner.size = SIZES[below(random, COUNT_OF(SIZES))];
+    manner.extreme = manner.size == LIMIT && chance(random, 50);
+    manner.no_lag = ABSENT[below(random, COUNT_OF(ABSENT))];
+    manner.no_floor = ABSENT[below(random, COUNT_OF(ABSENT))];
+    manner.no_after = chance(random, 40) ? 100 : 20 + below(random, 81);
+    memset(draft, 0, sizeof *draft);
+    draft->m = 1 + below(random, MOST);
+    draft->n = 1 + below(random, MOST);
+    add_number(add_line(draft, "panels="), draft->m);
+    add_number(add_line(draft, "triggers="), draft->n);
+    if (chance(random, 25)) {
+        add_tied(random, draft, &manner);
+    } else {
+        for (i = 0; i < draft->m; i++) {
+            add_row(random, draft, "lag=", &manner, draft->n, manner.no_lag, 1);
+        }
+        add_row(random, draft, "floor=", &manner, draft->m, manner.no_floor, 1);
+        add_row(random, draft, "due=", &manner, draft->n, 0, 0);
+    }
+    if (chance(random, 90)) {
+        add_order(random, draft, &manner);
+        return;
+    }
+    /* Any entries: circles above 0 are likely. */
+    manner.no_after = 50 + below(random, 50);
+    for (i = 0; i < draft->n; i++) {
+        add_row(random, draft, "after=", &manner, draft->n, manner.no_after, 0);
+    }
+}
+
+/* ---- Faults of chosen kinds */
+
+static const char *const WRONG_NUMERALS[] = {"",   "-0",  "00", "05",  "-05", "+5",  " 5", "5 ",     "--",  "-5-",
+                                             "5-", "0x1", "x",  "1.0", "1e3", "0-",  "01", "5\r",    "\t5", "- 5",
+                                             "--5", "000", "1_0", "\xe2\x88\x92\x35", "5;5", "=", "0,", ",0"};
+static const char *const BEYOND[] = {"100001",     "-100001",     "1000000",    "-999999",
+                                     "2147483648", "-2147483649", "4294967301", "18446744073709551621", "-18446744073709551615"};
+static const char *const AT_LIMIT[] = {"100000", "-100000", "99999", "-99999"};
+static const char *const WRONG_SIZES[] = {"0", "7", "-1", "10", "-6", "66", "100001", "4294967298", "18446744073709551618"};
+static const char *const KEYS[] = {"panels=", "triggers=", "lag=", "floor=", "due=", "after="};
+static const struct {
+    const char *bytes;
+    int length;
+} ENDS[] = {{"\r\n", 2}, {"", 0}, {"\n\n", 2}, {" \n", 2}, {",\n", 2}, {"\0\n", 2}, {"\r", 1}, {"\n ", 2}, {"\n\r", 2}};
+
+static struct line *any_line(struct random *random, struct draft *draft)
+{
+    return &draft->lines[below(random, draft->count)];
+}
+
+/* The i-th line of those with a key, or none. */
+static struct line *line_of(struct draft *draft, const char *key, int i)
+{
+    int at;
+    for (at = 0; at < draft->count; at++) {
+        if (strcmp(draft->lines[at].key, key) == 0 && i-- == 0) {
+            return &draft->lines[at];
+        }
+    }
+    return NULL;
+}
+
+static void set_any(struct random *random, struct line *line, const char *text)
+{
+    if (line != NULL && line->count > 0) {
+        set_item(line, below(random, line->count), text);
+    }
+}
+
+static void wrong_key(struct random *random, struct line *line)
+{
+    size_t length = strlen(line->key), at;
+    switch (below(random, 5)) {
+    case 0:
+        strcpy(line->key, KEYS[below(random, COUNT_OF(KEYS))]);
+        break;
+    case 1:
+        strcat(line->key, "=");
+        break;
+    case 2:
+        line->key[0] = (char)(line->key[0] == '\0' ? ' ' : line->key[0] ^ 0x20);
+        break;
+    case 3:
+        if (length > 0) {
+            line->key[length - 1] = '\0';
+        }
+        break;
+    default:
+        if (length > 0) {
+            at = (size_t)below(random, (int)length);
+            line->key[at] = (char)between(random, 1, 127);
+        }
+    }
+}
+
+static void all_absent_in(struct line *line)
+{
+    int j;
+    for (j = 0; line != NULL && j < line->count; j++) {
+        set_item(line, j, "-");
+    }
+}
+
+/* A circle above 0 through one trigger or two. */
+static void circle(struct random *random, struct draft *draft)
+{
+    int i = below(random, draft->n), j = below(random, draft->n);
+    int64_t there = between(random, -50, 50);
+    struct line *row = line_of(draft, "after=", i), *back = line_of(draft, "after=", j);
+    if (row == NULL || back == NULL || j >= row->count || i >= back->count) {
+        return;
+    }
+    if (i == j) {
+        set_number(row, i, between(random, 1, 3));
+    } else {
+        set_number(row, j, there);
+        set_number(back, i, 1 - there);
+    }
+}
+
+static void remove_line(struct draft *draft, int at)
+{
+    memmove(&draft->lines[at], &draft->lines[at + 1], sizeof draft->lines[0] * (size_t)(draft->count - at - 1));
+    draft->count--;
+}
+
+static void repeat_line(struct draft *draft, int at)
+{
+    if (draft->count < LINES) {
+        memmove(&draft->lines[at + 1], &draft->lines[at], sizeof draft->lines[0] * (size_t)(draft->count - at));
+        draft->count++;
+    }
+}
+
+static void exchange_lines(struct draft *draft, int a, int b)
+{
+    struct line line = draft->lines[a];
+    draft->lines[a] = draft->lines[b];
+    draft->lines[b] = line;
+}
+
+/* One fault, or something beside one, of a kind and at a place that are drawn. */
+static void add_fault(struct random *random, struct draft *draft)
+{
+    struct line *line = any_line(random, draft);
+    int at = below(random, draft->count), end;
+    switch (below(random, 18)) {
+    case 0:
+        wrong_key(random, line);
+        break;
+    case 1:
+        if (draft->count > 1) {
+            remove_line(draft, at);
+        }
+        break;
+    case 2:
+        repeat_line(draft, at);
+        break;
+    case 3:
+        exchange_lines(draft, at, below(random, draft->count));
+        break;
+    case 4:
+        line->count -= line->count > 0;
+        break;
+    case 5:
+        if (line->count < ITEMS) {
+            add_number(line, between(random, -9, 9));
+        }
+        break;
+    case 6:
+        set_any(random, line, WRONG_NUMERALS[below(random, COUNT_OF(WRONG_NUMERALS))]);
+        break;
+    case 7:
+        end = below(random, COUNT_OF(ENDS));
+        memcpy(line->end, ENDS[end].bytes, (size_t)ENDS[end].length);
+        line->end_length = ENDS[end].length;
+        break;
+    case 8:
+        draft->lines[draft->count - 1].end_length = 0;
+        break;
+    case 9:
+        set_any(random, &draft->lines[at % 2], WRONG_SIZES[below(random, COUNT_OF(WRONG_SIZES))]);
+        break;
+    case 10:
+        set_any(random, line, BEYOND[below(random, COUNT_OF(BEYOND))]);
+        break;
+    case 11:
+        if (line->count > 0) {
+            int item = below(random, line->count);
+            set_item(line, item, chance(random, 50) ? "9" : "-9");
+            line->items[item].nines = chance(random, 80) ? below(random, 30) : 400 + below(random, 1600);
+        }
+        break;
+    case 12:
+        set_any(random, line, AT_LIMIT[below(random, COUNT_OF(AT_LIMIT))]);
+        break;
+    case 13:
+        set_any(random, line, "-");
+        break;
+    case 14:
+        set_any(random, line_of(draft, "due=", 0), "-");
+        break;
+    case 15:
+        all_absent_in(line_of(draft, "lag=", below(random, draft->m)));
+        break;
+    case 16:
+        all_absent_in(line_of(draft, "floor=", 0));
+        break;
+    default:
+        circle(random, draft);
+    }
+}
+
+/* ---- Changes of bytes and lines, wherever they fall */
+
+static const char LETTERS[] = "panelstrigfoduw=,-0123456789\n";
+
+static uint8_t any_byte(struct random *random)
+{
+    return chance(random, 70) ? (uint8_t)LETTERS[below(random, (int)sizeof LETTERS - 1)] : (uint8_t)next_random(random);
+}
+
+/* The line around a place: where it starts and how long it is, with its LF. */
+static size_t line_around(const struct text *text, size_t at, size_t *start)
+{
+    size_t end = at;
+    *start = at;
+    while (*start > 0 && text->bytes[*start - 1] != '\n') {
+        (*start)--;
+    }
+    while (end < text->length && text->bytes[end] != '\n') {
+        end++;
+    }
+    return end + (end < text->length) - *start;
+}
+
+static void change(struct random *random, struct text *text)
+{
+    uint8_t byte = any_byte(random), copy[ROOM];
+    size_t at, start, length;
+    if (text->length == 0) {
+        add_bytes(text, &byte, 1);
+        return;
+    }
+    at = (size_t)below(random, (int)text->length);
+    switch (below(random, 9)) {
+    case 0:
+        text->bytes[at] = (uint8_t)(text->bytes[at] ^ (1 << below(random, 8)));
+        break;
+    case 1:
+        text->bytes[at] = byte;
+        break;
+    case 2:
+        splice(text, at, 0, &byte, 1);
+        break;
+    case 3:
+        splice(text, at, 1, NULL, 0);
+        break;
+    case 4:
+        byte = text->bytes[at];
+        splice(text, at, 0, &byte, 1);
+        break;
+    case 5:
+        length = line_around(text, at, &start);
+        memcpy(copy, text->bytes + start, length);
+        splice(text, start, 0, copy, length);
+        break;
+    case 6:
+        length = line_around(text, at, &start);
+        splice(text, start, length, NULL, 0);
+        break;
+    case 7:
+        text->length = at;
+        break;
+    default:
+        /* Behind the end: often up to the longest sheet, or past it. */
+        if (chance(random, 60)) {
+            byte = chance(random, 70) ? '\n' : byte;
+            add_repeated(text, (char)byte, LONGEST - 2 + below(random, 5) - (int)text->length);
+        } else {
+            add_bytes(text, &byte, 1);
+        }
+    }
+}
+
+static void random_bytes(struct random *random, struct text *text)
+{
+    int any = chance(random, 50);
+    size_t length = (size_t)(chance(random, 80) ? below(random, 80) : chance(random, 50) ? below(random, ROOM) : LONGEST - 3 + below(random, 6));
+    text->length = 0;
+    if (chance(random, 50)) {
+        add(text, "panels=1\ntriggers=1\n");
+    }
+    while (text->length < length) {
+        uint8_t byte = any ? (uint8_t)next_random(random) : any_byte(random);
+        add_bytes(text, &byte, 1);
+    }
+}
+
+void make_sheet(struct random *random, struct text *text)
+{
+    int kind = below(random, 100), faults;
+    struct draft draft;
+    if (kind < 10) {
+        random_bytes(random, text);
+        return;
+    }
+    make_draft(random, &draft);
+    /* 10 to 39 are good sheets, 40 to 69 have faults, the others changes. */
+    if (kind >= 40 && kind < 70) {
+        for (faults = 1 + below(random, 2); faults > 0; faults--) {
+            add_fault(random, &draft);
+        }
+    }
+    write_draft(&draft, text);
+    if (kind >= 70) {
+        for (faults = 1 + below(random, 3); faults > 0; faults--) {
+            change(random, text);
+        }
+    }
+}

@@ -1,0 +1,135 @@
+/*
+ * Wrong planners, to see that the test sees them: linked with --wrap, each call goes to the library and comes back with one fault, which
+ * the variable WRONG names by its number. `run` tries each.
+ */
+#include <stdlib.h>
+
+#include "tuzhelar.h"
+
+#define FAULTS 22
+
+uint32_t __real_tuzhelar_plan(const uint8_t *sheet, size_t sheet_length, int32_t *space, size_t space_length, int64_t *answer,
+                              size_t answer_length);
+uint32_t __real_tuzhelar_kept(const uint8_t *sheet, size_t sheet_length, int64_t *answer, size_t answer_length);
+uint32_t __real_tuzhelar_test(const uint8_t *sheet, size_t sheet_length, size_t count, const int64_t *times, size_t times_length);
+uint32_t __wrap_tuzhelar_plan(const uint8_t *sheet, size_t sheet_length, int32_t *space, size_t space_length, int64_t *answer,
+                              size_t answer_length);
+uint32_t __wrap_tuzhelar_kept(const uint8_t *sheet, size_t sheet_length, int64_t *answer, size_t answer_length);
+uint32_t __wrap_tuzhelar_test(const uint8_t *sheet, size_t sheet_length, size_t count, const int64_t *times, size_t times_length);
+
+static volatile uint8_t read_byte;
+
+static int fault(int number)
+{
+    static int named;
+    const char *value;
+    if (named == 0) {
+        value = getenv("WRONG");
+        named = value == NULL ? 0 : atoi(value);
+        if (named < 1 || named > FAULTS) {
+            exit(2);
+        }
+    }
+    return named == number;
+}
+
+/* Faults of reading, in all three functions. */
+static uint32_t reading(const uint8_t *sheet, size_t length, uint32_t number)
+{
+    if (fault(1) && length > 0) {
+        read_byte = sheet[length]; /* a byte past the end */
+    }
+    if (fault(2) && length > 0) {
+        read_byte = sheet[-1]; /* a byte before the start */
+    }
+    if (fault(3) && number == TUZHELAR_SIZE) {
+        return TUZHELAR_FORM;
+    }
+    if (fault(4) && number == TUZHELAR_NO_DUE) {
+        return TUZHELAR_RANGE;
+    }
+    if (fault(5) && number == TUZHELAR_NO_LAG) {
+        return TUZHELAR_NO_FLOOR;
+    }
+    if (fault(6) && length == TUZHELAR_SHEET_BYTES) {
+        return TUZHELAR_TOO_LONG;
+    }
+    return number;
+}
+
+uint32_t __wrap_tuzhelar_plan(const uint8_t *sheet, size_t sheet_length, int32_t *space, size_t space_length, int64_t *answer,
+                              size_t answer_length)
+{
+    uint32_t number = reading(sheet, sheet_length, __real_tuzhelar_plan(sheet, sheet_length, space, space_length, answer, answer_length));
+    int done = number == TUZHELAR_DONE, i;
+    if (fault(7) && done) {
+        space[space_length] = 0; /* a word past the space */
+    }
+    if (fault(8) && number == TUZHELAR_SPACE && space_length > 0) {
+        space[0] = 0; /* a refusal writes */
+    }
+    if (fault(9) && number == TUZHELAR_ORDER && answer_length > 0) {
+        answer[0] = 0;
+    }
+    if (fault(10) && done && answer_length > 4) {
+        answer[4] = 0; /* a word too many */
+    }
+    if (fault(11) && done && answer_length > 3 && (size_t)answer[3] * TUZHELAR_LINE_WORDS == space_length) {
+        return TUZHELAR_SPACE; /* full too early */
+    }
+    if (fault(12) && done && answer_length > 3 && answer[3] > 1) {
+        answer[3]--; /* the last line lost */
+    }
+    if (fault(13) && done && answer_length > 3 && answer[3] > 1) {
+        for (i = 0; i < TUZHELAR_LINE_WORDS; i++) { /* two lines exchanged */
+            int32_t word = space[i];
+            space[i] = space[i + TUZHELAR_LINE_WORDS];
+            space[i + TUZHELAR_LINE_WORDS] = word;
+        }
+    }
+    if (fault(14) && done && answer_length > 3) {
+        for (i = 1; i <= space[0]; i++) { /* a component one less */
+            if (space[i] != TUZHELAR_ABSENT && space[i] < 0) {
+                space[i]--;
+                break;
+            }
+        }
+    }
+    if (fault(15) && number == TUZHELAR_ORDER) {
+        return TUZHELAR_DONE;
+    }
+    return number;
+}
+
+uint32_t __wrap_tuzhelar_kept(const uint8_t *sheet, size_t sheet_length, int64_t *answer, size_t answer_length)
+{
+    uint32_t number = reading(sheet, sheet_length, __real_tuzhelar_kept(sheet, sheet_length, answer, answer_length));
+    if (fault(16) && number == TUZHELAR_DONE && answer_length > 0) {
+        answer[0]++; /* not the least deviation */
+    }
+    if (fault(17) && number == TUZHELAR_DONE && answer_length > 5) {
+        answer[5]++; /* not the byte's count */
+    }
+    if (fault(18) && number == TUZHELAR_ORDER) {
+        return TUZHELAR_DONE;
+    }
+    return number;
+}
+
+uint32_t __wrap_tuzhelar_test(const uint8_t *sheet, size_t sheet_length, size_t count, const int64_t *times, size_t times_length)
+{
+    uint32_t number = reading(sheet, sheet_length, __real_tuzhelar_test(sheet, sheet_length, count, times, times_length));
+    if (fault(19) && number == TUZHELAR_NO) {
+        return TUZHELAR_YES;
+    }
+    if (fault(20) && number == TUZHELAR_YES) {
+        return TUZHELAR_NO;
+    }
+    if (fault(21) && number == TUZHELAR_TIME) {
+        return TUZHELAR_COMPONENTS;
+    }
+    if (fault(22)) {
+        read_byte = (uint8_t)times[times_length]; /* a word past the times */
+    }
+    return number;
+}
