@@ -12,7 +12,7 @@ pub fn places(x: [u64; 6], word: u64, n: usize) -> u8
     let mut set: u8 = 0;
     let mut bit: u8 = 1;
     let mut j: usize = 0;
-    while j < n {
+    while j < n && j < 6 {
         if x[j] == word {
             set = set | bit;
         }

@@ -49,7 +49,7 @@ fn lateness(at: [u64; 6], due: [u64; 6], n: usize) -> [u64; 6]
 {
     let mut r = [0u64; 6];
     let mut j: usize = 0;
-    while j < n {
+    while j < n && j < 6 {
         r[j] = words::minus(at[j], due[j]);
         j += 1;
     }
@@ -78,7 +78,7 @@ fn joined(held: [u8; 6], late: [u64; 6], most: u64, n: usize) -> u8
 {
     let mut set: u8 = 0;
     let mut l: usize = 0;
-    while l < n {
+    while l < n && l < 6 {
         if late[l] == most {
             set = set | held[l];
         }

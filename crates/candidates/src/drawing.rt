@@ -55,7 +55,7 @@ fn drawn(star: &[[u64; 6]; 6], pull: u64, starred: [u64; 6], n: usize, t: usize)
 {
     let mut r = [0u64; 6];
     let mut i: usize = 0;
-    while i < n {
+    while i < n && i < 6 {
         r[i] = words::larger(star[i][t], words::plus(pull, starred[i]));
         i += 1;
     }
@@ -69,7 +69,7 @@ fn shifted(x: [u64; 6], top: u64, n: usize) -> [u64; 6]
 {
     let mut r = [0u64; 6];
     let mut j: usize = 0;
-    while j < n {
+    while j < n && j < 6 {
         r[j] = words::minus(x[j], top);
         j += 1;
     }

@@ -13,7 +13,7 @@ pub fn sums(x: [u64; 6], y: [u64; 6], n: usize) -> [u64; 6]
 {
     let mut r = [0u64; 6];
     let mut j: usize = 0;
-    while j < n {
+    while j < n && j < 6 {
         r[j] = words::plus(x[j], y[j]);
         j += 1;
     }
@@ -27,7 +27,7 @@ pub fn largest(x: [u64; 6], n: usize) -> u64
 {
     let mut best: u64 = 0;
     let mut j: usize = 0;
-    while j < n {
+    while j < n && j < 6 {
         best = words::larger(x[j], best);
         j += 1;
     }

@@ -4,6 +4,7 @@ use mathlib.Core.Path.{_≡_, refl}
 use mathlib.Core.Logic.{⊎-elim}
 use Prim.Native.Nat.{_≤_, _<_, _-_, _^_}
 use native.Mathlib.Omega.{arith}
+use borrow.Author.Tests.{ltb-false}
 use lib.ListN.{getD}
 use Rattle.tables.proofs.StepLaws.{bit-more, bit-low}
 use Rattle.candidates.specs.Bits.{Marked}
@@ -20,14 +21,14 @@ abbrev μ-loop : tie.MeasureT-loop
 loop-holds : tie.Need-loop-holds Inv-loop μ-loop
 loop-holds c = (omega arith, refl, passed-none _)
 
-mul-if1 : tie.Need-mul-if1 Inv-loop μ-loop
-mul-if1 c = omega arith
+mul-if2 : tie.Need-mul-if2 Inv-loop μ-loop
+mul-if2 c = omega arith
 
-array-read-if1 : tie.Need-array-read-if1 Inv-loop μ-loop
-array-read-if1 c = omega arith
+array-read-if2 : tie.Need-array-read-if2 Inv-loop μ-loop
+array-read-if2 c = omega arith
 
 add-bit : tie.Need-add-bit Inv-loop μ-loop
-add-bit c = let k = c .before .before .loop in omega (arith, bit-low _ _ (k .inv .1) (omega arith))
+add-bit c = let k = c .before .before .before .loop in omega (arith, bit-low _ _ (k .inv .1) (omega arith))
 
 add-j : tie.Need-add-j Inv-loop μ-loop
 add-j c = omega arith
@@ -37,15 +38,18 @@ loop-less c = omega arith
 
 loop-again : tie.Need-loop-again Inv-loop μ-loop
 loop-again c =
-    let k = c .before .before .loop in (
+    let k = c .before .before .before .loop in (
       omega arith,
       bit-more _ _ (k .inv .1),
       ⊎-elim (λ w. rw (w .1, k .inv .1) (passed-more _ _ _ (omega arith) (k .inv .2) (w .0 .taken)))
-          (λ w. rw (w .1) (passed-less _ _ _ (k .inv .2) (w .0 .left))) (c .if1 .came),
+          (λ w. rw (w .1) (passed-less _ _ _ (k .inv .2) (w .0 .left))) (c .if2 .came),
     )
 
 returns : tie.Need-returns Inv-loop μ-loop
-returns c = let e : c .before .loop .j ≡ c .before .before .args .n = omega arith in rw e at (c .before .loop .inv .2)
+returns c = let e : ⊥ = omega (arith, ltb-false) in absurd e
+
+returns-2 : tie.Need-returns-2 Inv-loop μ-loop
+returns-2 c = let e : c .before .loop .j ≡ c .before .before .args .n = omega arith in rw e at (c .before .loop .inv .2)
 
 pub places-spec : {M : Type 1} → statement M
 places-spec =
@@ -54,10 +58,11 @@ places-spec =
     Inv-loop
     μ-loop
     loop-holds
-    mul-if1
-    array-read-if1
+    mul-if2
+    array-read-if2
     add-bit
     add-j
     loop-less
     loop-again
-    returns)
+    returns
+    returns-2)

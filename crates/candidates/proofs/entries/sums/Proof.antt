@@ -2,6 +2,7 @@
 use mathlib.Core.Path.{_≡_}
 use Prim.Native.Nat.{_≤_, _-_}
 use native.Mathlib.Omega.{arith}
+use borrow.Author.Tests.{ltb-false}
 use Rattle.maxplus.specs.Entry.{_⊗_}
 use Rattle.words.specs.Words.{entry}
 use Rattle.tables.specs.Held.{meantV}
@@ -31,7 +32,7 @@ array-read-plus-2 : tie.Need-array-read-plus-2 Inv-loop μ-loop
 array-read-plus-2 c = omega arith
 
 plus-requires : tie.Need-plus-requires Inv-loop μ-loop
-plus-requires c κs = let s = c .before .before in (s .pre .1 .at _ (omega arith), s .pre .2 .at _ (omega arith))
+plus-requires c κs = let s = c .before .before .before in (s .pre .1 .at _ (omega arith), s .pre .2 .at _ (omega arith))
 
 mul-r : tie.Need-mul-r Inv-loop μ-loop
 mul-r c = omega arith
@@ -47,11 +48,14 @@ loop-less c = omega arith
 
 loop-again : tie.Need-loop-again Inv-loop μ-loop
 unfolding meantV
-loop-again c = (omega arith, filled-more _ 0 _ _ _ (omega arith) (c .before .before .loop .inv .1) (c .plus .ensures))
+loop-again c = (omega arith, filled-more _ 0 _ _ _ (omega arith) (c .before .before .before .loop .inv .1) (c .plus .ensures))
 
 returns : tie.Need-returns Inv-loop μ-loop
+returns c = let e : ⊥ = omega (arith, ltb-false) in absurd e
+
+returns-2 : tie.Need-returns-2 Inv-loop μ-loop
 unfolding meantV
-returns c = record { at = λ j h. c .before .loop .inv .1 .done j (omega arith) }
+returns-2 c = record { at = λ j h. c .before .loop .inv .1 .done j (omega arith) }
 
 pub sums-spec : {M : Type 1} → statement M
 sums-spec =
@@ -70,4 +74,5 @@ sums-spec =
     add-j
     loop-less
     loop-again
-    returns)
+    returns
+    returns-2)
