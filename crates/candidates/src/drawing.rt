@@ -8,8 +8,8 @@ ghost use Rattle.tables.specs.Held.{meant, meantV, HoldsV, Closely, CloselyV};
 ghost use Rattle.candidates.specs.Lines.{Written, Drawn};
 ghost use Rattle.candidates.specs.Steps.{ray-of};
 use crate::Line;
+use crate::entries::dot;
 use crate::entries::largest;
-use crate::entries::sums;
 
 // M* w, which serves every trigger.
 pub fn starred(star: &[[u64; 6]; 6], w: Line, n: usize) -> [u64; 6]
@@ -21,8 +21,7 @@ pub fn starred(star: &[[u64; 6]; 6], w: Line, n: usize) -> [u64; 6]
     let mut r = [0u64; 6];
     let mut i: usize = 0;
     while i < n {
-        let parts = sums(star[i], at, n);
-        r[i] = largest(parts, n);
+        r[i] = dot(star, i, at, n);
         i += 1;
     }
     r
