@@ -20,7 +20,7 @@ pub fn starred(star: &[[u64; 6]; 6], w: Line, n: usize) -> [u64; 6]
     let at = w.at;
     let mut r = [0u64; 6];
     let mut i: usize = 0;
-    while i < n {
+    while i < n && i < 6 {
         r[i] = dot(star, i, at, n);
         i += 1;
     }

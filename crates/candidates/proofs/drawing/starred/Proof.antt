@@ -2,6 +2,7 @@
 use mathlib.Core.Path.{_≡_}
 use Prim.Native.Nat.{_*_, _≤_, _-_}
 use native.Mathlib.Omega.{arith}
+use borrow.Author.Tests.{ltb-false}
 use Rattle.maxplus.specs.Tables.{mv}
 use Rattle.words.specs.Words.{entry, Close}
 use Rattle.sheet.specs.Sheet.{limit}
@@ -22,7 +23,7 @@ loop-holds c = (omega arith, filled-none _ 0 _)
 
 dot-requires : tie.Need-dot-requires Inv-loop μ-loop
 dot-requires c κs =
-    let s = c .before .before .before in
+    let s = c .before .before .before .before in
     (omega arith, omega arith, closely-part _ (omega arith) (omega arith) (s .pre .1), closely-moreV (omega arith) (s .pre .2))
 
 mul-r : tie.Need-mul-r Inv-loop μ-loop
@@ -39,7 +40,7 @@ loop-less c = omega arith
 
 loop-again : tie.Need-loop-again Inv-loop μ-loop
 loop-again c =
-    let k = c .before .before in
+    let k = c .before .before .before in
     let s = k .before .before in
     let e = c .dot .ensures in (
       omega arith,
@@ -47,8 +48,11 @@ loop-again c =
     )
 
 returns : tie.Need-returns Inv-loop μ-loop
+returns c = let e : ⊥ = omega (arith, ltb-false) in absurd e
+
+returns-2 : tie.Need-returns-2 Inv-loop μ-loop
 unfolding meantV
-returns c =
+returns-2 c =
     let r = c .before .loop .inv .1 in
     (record { at = λ j h. r .done j (omega arith) .0 }, record { at = λ j h. r .done j (omega arith) .1 })
 
@@ -65,4 +69,5 @@ starred-spec =
     add-i
     loop-less
     loop-again
-    returns)
+    returns
+    returns-2)
