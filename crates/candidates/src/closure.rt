@@ -160,7 +160,7 @@ fn closed(held: u8, tight: [u8; 6], front: u8, panels: usize) -> u8
     }
 }
 
-// The triggers in the closure of every present component.
+// The triggers in the closure of every present component. An empty set stays empty, so it ends the loop.
 fn common(at: [u64; 6], held: [u8; 6], tight: [u8; 6], front: u8, panels: usize, n: usize) -> u8
     requires { ⌜ (n ≤ 6) × (panels ≤ 6) × ((k : ℕ) → k < n → getD held k 0 < 64) × (front < 64) ⌝ }
     ensures { λ r. ⌜ Marked (λ j. (k : ℕ) → k < n → Present (meantV at k) → Closed tight panels front (getD held k 0) j) r ⌝ }
