@@ -213,6 +213,10 @@ module _ (Q : ℕ → Type 0) (R : ℕ → ℕ → Type 0) where
     λ u. (λ k i. u k (omega arith), u l (omega arith) c),
   )) (marked-and p q)
 
+  -- an intersection that is empty stays empty
+  pub every-stop : (l n m : ℕ) → l ≤ n → Marked (λ j. (k : ℕ) → k < l → Q k → R k j) m → m ≡ 0 → Marked (λ j. (k : ℕ) → k < n → Q k → R k j) 0
+  every-stop l n m h p e = marked-none (λ j i u. marked-empty p e j i (λ k q d. u k (omega arith) d))
+
   pub every-less : (l m : ℕ) → Marked (λ j. (k : ℕ) → k < l → Q k → R k j) m → ¬ (Q l) → Marked (λ j. (k : ℕ) → k < l + 1 → Q k → R k j) m
   every-less l m p c = marked-same (λ j h. (
     λ u k i d. elim (ℕ-discrete k l) [ yes e ↦ absurd (c (rw e at d)) | no e ↦ u k (omega arith) d ],

@@ -1,20 +1,20 @@
 -- Laws of six words: written place by place, where they are close, and what their line is.
 use mathlib.Core.Path.{_≡_, refl, ap, sym, _∙_}
-use mathlib.Core.List.{List, []}
+use mathlib.Core.List.{List}
 use Prim.Native.Nat.{ℕ, _+_, _≤_, _<_}
 use native.Mathlib.Omega.{arith}
 use native.Mathlib.Decide.{ℕ-discrete, decLt}
 use lib.ListN.{getD, set, replicate, length-set}
 use lib.Seq.{getD-set-same, getD-set-other, ext-getD}
-use Rattle.maxplus.specs.Entry.{_⊗_}
+use Rattle.maxplus.specs.Entry.{E, _≼_, _⊗_}
 use Rattle.maxplus.specs.Tables.{sup, Vec, mv}
 use Rattle.maxplus.specs.Line.{at, line}
 use Rattle.maxplus.proofs.EntryLaws.{_▸_, ≼-anti, ≼-of, ≼-back}
-use Rattle.maxplus.proofs.SupLaws.{sup-ub, sup-at, sup-ext}
+use Rattle.maxplus.proofs.SupLaws.{sup-ub, sup-at}
 use Rattle.maxplus.proofs.LineLaws.{line-ext, at-line}
 use Rattle.words.specs.Words.{entry, Close}
-use Rattle.words.proofs.Laws.{entry-inj, close-more, close-of, of-close, close-plus}
-use Rattle.tables.specs.Held.{meant, meantV, HoldsV, Closely, CloselyV}
+use Rattle.words.proofs.Laws.{entry-inj, entry-mono, entry-reflects, close-more, close-of, of-close, close-plus}
+use Rattle.tables.specs.Held.{cell, meant, meantV, Closely, CloselyV}
 use Rattle.tables.proofs.StepLaws.{blank-word}
 use Rattle.candidates.specs.Lines.{line-of, Sized, Written}
 
@@ -50,12 +50,27 @@ written-same h r = record { sized = r .sized; at = λ j k. r .at j k ∙ h j k }
 pub written-all : {x : Vec} {i n : ℕ} {w : List ℕ} → i ≤ n → n ≤ i → Written i x w → Written n x w
 written-all {x} {i} {n} {w} h k r = let e : i ≡ n = omega arith in rw e at r
 
+-- ---- words and entries that are compared: s is the word of e
+module _ {e : E} {s v : ℕ} (is : entry s ≡ e) where
+  pub same-word : s ≡ v → e ≡ entry v
+  same-word h = sym is ∙ ap entry h
+
+  pub other-word : ¬ (s ≡ v) → ¬ (e ≡ entry v)
+  other-word h k = h (entry-inj (is ∙ k))
+
+  pub within-word : s ≤ v → e ≼ entry v
+  within-word h = ≼-back is ▸ entry-mono s v h
+
+  pub beyond-word : v < s → ¬ (e ≼ entry v)
+  beyond-word h k = let l = entry-reflects s v (≼-of is ▸ k) in omega arith
+
 -- ---- close words
 pub closely-moreV : {n c d : ℕ} {w : List ℕ} → c ≤ d → CloselyV n c w → CloselyV n d w
 closely-moreV h k = record { at = λ j hj. close-more h (k .at j hj) }
 
-pub closely-row : {m n c : ℕ} {t : List (List ℕ)} (i : ℕ) → i < m → Closely m n c t → CloselyV n c (getD t i [])
-closely-row i h k = record { at = λ j hj. k .at i j h hj }
+-- the rows down to row i
+pub closely-part : {m n c d : ℕ} {t : List (List ℕ)} (i : ℕ) → i < m → c ≤ d → Closely m n c t → Closely (i + 1) n d t
+closely-part i h l k = record { at = λ a b p q. close-more l (k .at a b (omega arith) q) }
 
 -- a largest is one of its parts
 pub close-largest : {n c : ℕ} {x : List ℕ} (r : ℕ) → CloselyV n c x → entry r ≡ sup n (meantV x) → Close c r
@@ -64,15 +79,14 @@ close-largest {n} {c} {x} r h e = close-of c r (λ z f.
     let (j, hj, l) = sup-at n (meantV x) (≼-back (sym e ∙ f)) in
     of-close c (getD x j 0) (h .at j hj) z (≼-anti (sup-ub n (meantV x) j hj ▸ ≼-of (sym e ∙ f)) l))
 
--- ---- a row of a table and six words: the largest sum, and the places of a sum
-module _ (n : ℕ) (t : List (List ℕ)) (i : ℕ) (x s : List ℕ) (sums : HoldsV n (λ j. meantV (getD t i []) j ⊗ meantV x j) s) where
-  pub dot-is : (r : ℕ) → entry r ≡ sup n (meantV s) → entry r ≡ mv n (meant t) (meantV x) i
-  unfolding mv meant meantV
-  dot-is r e = e ∙ sup-ext n (sums .at)
-
-  pub dot-close : {m c d : ℕ} (r : ℕ) → i < m → Closely m n c t → CloselyV n d x → entry r ≡ sup n (meantV s) → Close (c + d) r
-  unfolding meantV
-  dot-close r h k l e = close-largest {x = s} r (record { at = λ j hj. close-plus _ _ _ (sums .at j hj) (k .at i j h hj) (l .at j hj) }) e
+-- and a largest sum is one of the sums
+pub close-dot : {m n c d : ℕ} {t : List (List ℕ)} {x : List ℕ} (i r : ℕ) → i < m → Closely m n c t → CloselyV n d x →
+    entry r ≡ mv n (meant t) (meantV x) i → Close (c + d) r
+unfolding mv meant meantV
+close-dot {n = n} {c} {d} {t} {x} i r h k l e = close-of (c + d) r (λ z f.
+    let (j, hj, g) = sup-at n (λ j. meant t i j ⊗ meantV x j) (≼-back (sym e ∙ f)) in
+    let s = f ∙ ≼-anti g (sup-ub n (λ j. meant t i j ⊗ meantV x j) j hj ▸ ≼-of (sym e ∙ f)) in
+    of-close (c + d) r (close-plus (cell t i j) (getD x j 0) r s (k .at i j h hj) (l .at j hj)) z f)
 
 -- ---- their line
 pub line-at : (n : ℕ) (w : List ℕ) (j : ℕ) → j < n → at n (line-of n w) j ≡ meantV w j

@@ -5,7 +5,7 @@ use mathlib.Core.List.{List}
 use Prim.Native.Nat.{ℕ, _<_}
 use lib.Bits.{bitAnd}
 use lib.ListN.{getD}
-use Rattle.maxplus.specs.Entry.{E, _⊗_, _⊕_, Present}
+use Rattle.maxplus.specs.Entry.{E, _≼_, _⊗_, _⊕_, Present}
 use Rattle.maxplus.specs.Tables.{sup, Vec, Mat}
 use Rattle.candidates.specs.Bits.{Has, Marked}
 
@@ -13,17 +13,24 @@ use Rattle.candidates.specs.Bits.{Has, Marked}
 unfoldable pub ray-of : Mat → Vec → Vec → ℕ → Vec
 ray-of S u y t i = S i t ⊕ u t ⊗ y i
 
--- A(k), for each k: the j with S(k,j) + x(j) = x(k)
+-- A(k), for an x(k) that is there: the j with S(k,j) + x(j) = x(k)
+abbrev pub Held : ℕ → Mat → Vec → ℕ → ℕ → Type 0
+Held n S x k j = Present (x k) × ((j < n) × (S k j ⊗ x j ≡ x k))
+
 pub record HeldSets (n : ℕ) (S : Mat) (x : Vec) (r : List ℕ) : Type 0 where
-  pub at : (k : ℕ) → k < n → Marked (λ j. (j < n) × (S k j ⊗ x j ≡ x k)) (getD r k 0)
+  pub at : (k : ℕ) → k < n → Marked (λ j. Held n S x k j) (getD r k 0)
+
+-- j reaches a, and no place is beyond
+abbrev pub Reached : ℕ → Vec → E → ℕ → Type 0
+Reached n t a j = (j < n) × (t j ≡ a) × ((k : ℕ) → k < n → t k ≼ a)
 
 -- times t by trigger, what is asked for a, the largest lateness o: the panel has a floor and lands just where Δ asks
 abbrev pub Tight : ℕ → Vec → E → E → Type 0
 Tight n t a o = Present a × (a ⊗ o ≡ sup n t)
 
--- the triggers that reach the landing of a tight panel; else 64, which no set of six bits holds
+-- where there is a lateness, the triggers that reach the landing of a tight panel; else 64, which no set of six bits holds
 pub record Reaching (n : ℕ) (t : Vec) (a o : E) (m : ℕ) : Type 0 where
-  pub tight : Tight n t a o → Marked (λ j. (j < n) × (t j ≡ sup n t)) m
+  pub tight : Present o → Tight n t a o → Marked (λ j. (j < n) × (t j ≡ sup n t)) m
   pub never : ¬ (Tight n t a o) → m ≡ 64
 
 pub record TightSets (panels n : ℕ) (A : Mat) (a x : Vec) (o : E) (r : List ℕ) : Type 0 where

@@ -12,13 +12,13 @@ ghost use Rattle.sheet.specs.Sheet.{limit};
 ghost use Rattle.tables.specs.Held.{meant, meantV, HoldsV, Closely, CloselyV, Says};
 ghost use Rattle.candidates.specs.Bits.{Has, Marked};
 ghost use Rattle.candidates.specs.Lines.{line-of};
-ghost use Rattle.candidates.specs.Steps.{HeldSets, TightSets, Reaching, Inside, Closed};
+ghost use Rattle.candidates.specs.Steps.{Held, HeldSets, TightSets, Reaching, Inside, Closed};
 ghost use Rattle.candidates.specs.Prepared.{Prepared, Ready};
 use crate::Line;
 use crate::Marks;
 use crate::bits::places;
+use crate::bits::reached;
 use crate::entries::largest;
-use crate::entries::sums;
 
 // In the place of a panel's set where the panel is not tight: six bits never hold it.
 const NEVER: u8 = 64;
@@ -49,26 +49,37 @@ fn lateness(at: [u64; 6], due: [u64; 6], n: usize) -> [u64; 6]
 {
     let mut r = [0u64; 6];
     let mut j: usize = 0;
-    while j < n {
+    while j < n && j < 6 {
         r[j] = words::minus(at[j], due[j]);
         j += 1;
     }
     r
 }
 
-// A(k) for each trigger k: the j with M*(k,j) + c(j) = c(k).
+// A(k) for each trigger k.
 fn held_sets(star: &[[u64; 6]; 6], at: [u64; 6], n: usize) -> [u8; 6]
     requires { ⌜ (n ≤ 6) × Closely n n (5 * limit) (now star) × CloselyV n (52 * limit) at ⌝ }
     ensures { λ r. ⌜ HeldSets n (meant (now (star .entry))) (meantV at) r ⌝ }
 {
     let mut r = [0u8; 6];
     let mut k: usize = 0;
-    while k < n {
-        let parts = sums(star[k], at, n);
-        r[k] = places(parts, at[k], n);
+    while k < n && k < 6 {
+        r[k] = held_by(star, k, at, n);
         k += 1;
     }
     r
+}
+
+// A(k): the j with M*(k,j) + c(j) = c(k). No closure asks for that of an absent c(k).
+fn held_by(star: &[[u64; 6]; 6], k: usize, at: [u64; 6], n: usize) -> u8
+    requires { ⌜ (n ≤ 6) × (k < n) × Closely n n (5 * limit) (now star) × CloselyV n (52 * limit) at ⌝ }
+    ensures { λ r. ⌜ Marked (λ j. Held n (meant (now (star .entry))) (meantV at) k j) r ⌝ }
+{
+    let word = at[k];
+    if !words::present(word) {
+        return 0;
+    }
+    places(star, k, at, word, n)
 }
 
 // A(R): what is held by the triggers that reach the largest lateness.
@@ -78,7 +89,7 @@ fn joined(held: [u8; 6], late: [u64; 6], most: u64, n: usize) -> u8
 {
     let mut set: u8 = 0;
     let mut l: usize = 0;
-    while l < n {
+    while l < n && l < 6 {
         if late[l] == most {
             set = set | held[l];
         }
@@ -118,12 +129,8 @@ fn reaching(lag: &[[u64; 6]; 6], i: usize, ask: u64, at: [u64; 6], most: u64, n:
     if !words::present(ask) {
         return NEVER;
     }
-    let times = sums(lag[i], at, n);
-    let lands = largest(times, n);
-    if words::plus(ask, most) != lands {
-        return NEVER;
-    }
-    places(times, lands, n)
+    let set = reached(lag, i, at, words::plus(ask, most), n);
+    if set == 0 { NEVER } else { set }
 }
 
 // Some tight panel's reaching triggers all lie in the set.
@@ -153,16 +160,19 @@ fn closed(held: u8, tight: [u8; 6], front: u8, panels: usize) -> u8
     }
 }
 
-// The triggers in the closure of every present component.
+// The triggers in the closure of every present component. An empty set stays empty, so it ends the loop.
 fn common(at: [u64; 6], held: [u8; 6], tight: [u8; 6], front: u8, panels: usize, n: usize) -> u8
     requires { ⌜ (n ≤ 6) × (panels ≤ 6) × ((k : ℕ) → k < n → getD held k 0 < 64) × (front < 64) ⌝ }
     ensures { λ r. ⌜ Marked (λ j. (k : ℕ) → k < n → Present (meantV at k) → Closed tight panels front (getD held k 0) j) r ⌝ }
 {
     let mut all: u8 = 63;
     let mut k: usize = 0;
-    while k < n {
+    while k < n && k < 6 {
         if words::present(at[k]) {
             all = all & closed(held[k], tight, front, panels);
+            if all == 0 {
+                return 0;
+            }
         }
         k += 1;
     }

@@ -8,8 +8,8 @@ ghost use Rattle.tables.specs.Held.{meant, meantV, HoldsV, Closely, CloselyV};
 ghost use Rattle.candidates.specs.Lines.{Written, Drawn};
 ghost use Rattle.candidates.specs.Steps.{ray-of};
 use crate::Line;
+use crate::entries::dot;
 use crate::entries::largest;
-use crate::entries::sums;
 
 // M* w, which serves every trigger.
 pub fn starred(star: &[[u64; 6]; 6], w: Line, n: usize) -> [u64; 6]
@@ -20,9 +20,8 @@ pub fn starred(star: &[[u64; 6]; 6], w: Line, n: usize) -> [u64; 6]
     let at = w.at;
     let mut r = [0u64; 6];
     let mut i: usize = 0;
-    while i < n {
-        let parts = sums(star[i], at, n);
-        r[i] = largest(parts, n);
+    while i < n && i < 6 {
+        r[i] = dot(star, i, at, n);
         i += 1;
     }
     r
@@ -55,7 +54,7 @@ fn drawn(star: &[[u64; 6]; 6], pull: u64, starred: [u64; 6], n: usize, t: usize)
 {
     let mut r = [0u64; 6];
     let mut i: usize = 0;
-    while i < n {
+    while i < n && i < 6 {
         r[i] = words::larger(star[i][t], words::plus(pull, starred[i]));
         i += 1;
     }
@@ -69,7 +68,7 @@ fn shifted(x: [u64; 6], top: u64, n: usize) -> [u64; 6]
 {
     let mut r = [0u64; 6];
     let mut j: usize = 0;
-    while j < n {
+    while j < n && j < 6 {
         r[j] = words::minus(x[j], top);
         j += 1;
     }

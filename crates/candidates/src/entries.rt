@@ -1,24 +1,9 @@
-// Six words of entries: sums place by place, and the largest.
+// Six words of entries: the largest of them, and the largest sum of them and a table's row i.
 ghost use mathlib.Core.Path.{_≡_};
-ghost use Prim.Native.Nat.{_≤_};
-ghost use Rattle.maxplus.specs.Entry.{_⊗_};
-ghost use Rattle.maxplus.specs.Tables.{sup};
+ghost use Prim.Native.Nat.{_+_, _≤_, _<_};
+ghost use Rattle.maxplus.specs.Tables.{sup, mv};
 ghost use Rattle.words.specs.Words.{entry, far};
-ghost use Rattle.tables.specs.Held.{meantV, HoldsV, CloselyV};
-
-// The sums of the first n places.
-pub fn sums(x: [u64; 6], y: [u64; 6], n: usize) -> [u64; 6]
-    requires { ⌜ (n ≤ 6) × CloselyV n far x × CloselyV n far y ⌝ }
-    ensures { λ r. ⌜ HoldsV n (λ j. meantV x j ⊗ meantV y j) r ⌝ }
-{
-    let mut r = [0u64; 6];
-    let mut j: usize = 0;
-    while j < n {
-        r[j] = words::plus(x[j], y[j]);
-        j += 1;
-    }
-    r
-}
+ghost use Rattle.tables.specs.Held.{meant, meantV, Closely, CloselyV};
 
 // The largest of the first n.
 pub fn largest(x: [u64; 6], n: usize) -> u64
@@ -27,8 +12,22 @@ pub fn largest(x: [u64; 6], n: usize) -> u64
 {
     let mut best: u64 = 0;
     let mut j: usize = 0;
-    while j < n {
+    while j < n && j < 6 {
         best = words::larger(x[j], best);
+        j += 1;
+    }
+    best
+}
+
+// The largest of the first n sums.
+pub fn dot(table: &[[u64; 6]; 6], i: usize, x: [u64; 6], n: usize) -> u64
+    requires { ⌜ (n ≤ 6) × (i < 6) × Closely (i + 1) n far (now table) × CloselyV n far x ⌝ }
+    ensures { λ r. ⌜ entry r ≡ mv n (meant (now (table .entry))) (meantV x) i ⌝ }
+{
+    let mut best: u64 = 0;
+    let mut j: usize = 0;
+    while j < n && j < 6 {
+        best = words::larger(words::plus(table[i][j], x[j]), best);
         j += 1;
     }
     best

@@ -3,12 +3,13 @@ use mathlib.Core.Path.{_≡_}
 use mathlib.Core.Logic.{⊎-elim}
 use Prim.Native.Nat.{ℕ, _≤_, _<_, _-_}
 use native.Mathlib.Omega.{arith}
+use borrow.Author.Tests.{ltb-false}
 use lib.ListN.{getD}
 use Rattle.maxplus.specs.Entry.{Present}
 use Rattle.tables.specs.Held.{meantV}
 use Rattle.candidates.specs.Bits.{Marked}
 use Rattle.candidates.specs.Steps.{Closed}
-use Rattle.candidates.proofs.BitLaws.{every-none, every-more, every-less}
+use Rattle.candidates.proofs.BitLaws.{every-none, every-more, every-less, every-stop}
 use Rattle.candidates.proofs.SetLaws.{flag-present, flag-absent}
 use Rattle.candidates.proofs.closure.common.Statement.{statement}
 use Rattle.candidates.proofs.closure.common.Tie as tie
@@ -36,7 +37,16 @@ array-read-closed : tie.Need-array-read-closed Inv-loop μ-loop
 array-read-closed c = omega arith
 
 closed-requires : tie.Need-closed-requires Inv-loop μ-loop
-closed-requires c κs = let s = c .before .before .before .before in (omega arith, s .pre .2 _ (omega arith), s .pre .3)
+closed-requires c κs = let s = c .before .before .before .before .before in (omega arith, s .pre .2 _ (omega arith), s .pre .3)
+
+returns : tie.Need-returns Inv-loop μ-loop
+unfolding meantV
+returns c =
+    let p = c .before .before .before in
+    let k = p .before .before .before .loop in
+    every-stop _ _ _ _ _ (omega arith)
+    (every-more _ _ _ _ _ (k .inv .1) (c .before .closed .ensures) (flag-present _ _ (p .present .ensures) (c .before .before .if2 .taken)))
+    (c .if3 .taken)
 
 add-k : tie.Need-add-k Inv-loop μ-loop
 add-k c = omega arith
@@ -47,15 +57,18 @@ loop-less c = omega arith
 loop-again : tie.Need-loop-again Inv-loop μ-loop
 unfolding meantV
 loop-again c =
-    let k = c .before .before .before .loop in
+    let k = c .before .before .before .before .loop in
     let p = c .before .present .ensures in (
       omega arith,
-      ⊎-elim (λ w. rw (w .2) (every-more _ _ _ _ _ (k .inv .1) (w .1 .ensures) (flag-present _ _ p (w .0 .taken))))
-          (λ w. rw (w .1) (every-less _ _ _ _ (k .inv .1) (flag-absent _ _ p (w .0 .left)))) (c .if1 .came),
+      ⊎-elim (λ w. rw (w .3) (every-more _ _ _ _ _ (k .inv .1) (w .1 .ensures) (flag-present _ _ p (w .0 .taken))))
+          (λ w. rw (w .1) (every-less _ _ _ _ (k .inv .1) (flag-absent _ _ p (w .0 .left)))) (c .if2 .came),
     )
 
-returns : tie.Need-returns Inv-loop μ-loop
-returns c = let e : c .before .loop .k ≡ c .before .before .args .n = omega arith in rw e at (c .before .loop .inv .1)
+returns-2 : tie.Need-returns-2 Inv-loop μ-loop
+returns-2 c = let e : ⊥ = omega (arith, ltb-false) in absurd e
+
+returns-3 : tie.Need-returns-3 Inv-loop μ-loop
+returns-3 c = let e : c .before .loop .k ≡ c .before .before .args .n = omega arith in rw e at (c .before .loop .inv .1)
 
 pub common-spec : {M : Type 1} → statement M
 common-spec =
@@ -69,7 +82,9 @@ common-spec =
     present-requires
     array-read-closed
     closed-requires
+    returns
     add-k
     loop-less
     loop-again
-    returns)
+    returns-2
+    returns-3)

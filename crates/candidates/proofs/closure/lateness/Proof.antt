@@ -2,6 +2,7 @@
 use mathlib.Core.Path.{_≡_}
 use Prim.Native.Nat.{_*_, _≤_, _-_}
 use native.Mathlib.Omega.{arith}
+use borrow.Author.Tests.{ltb-false}
 use Rattle.maxplus.specs.Entry.{_⊗_, inv}
 use Rattle.words.specs.Words.{entry, Close}
 use Rattle.words.proofs.Laws.{close-more, close-minus}
@@ -34,7 +35,7 @@ array-read-minus-2 c = omega arith
 
 minus-requires : tie.Need-minus-requires Inv-loop μ-loop
 minus-requires c κs =
-    let s = c .before .before in
+    let s = c .before .before .before in
     (close-more (omega arith) (s .pre .1 .at _ (omega arith)), close-more (omega arith) (s .pre .2 .at _ (omega arith)))
 
 mul-r : tie.Need-mul-r Inv-loop μ-loop
@@ -52,7 +53,7 @@ loop-less c = omega arith
 loop-again : tie.Need-loop-again Inv-loop μ-loop
 unfolding meantV
 loop-again c =
-    let k = c .before .before in
+    let k = c .before .before .before in
     let s = k .before in
     let e = c .minus .ensures in (
       omega arith,
@@ -61,8 +62,11 @@ loop-again c =
     )
 
 returns : tie.Need-returns Inv-loop μ-loop
+returns c = let e : ⊥ = omega (arith, ltb-false) in absurd e
+
+returns-2 : tie.Need-returns-2 Inv-loop μ-loop
 unfolding meantV
-returns c =
+returns-2 c =
     let r = c .before .loop .inv .1 in
     (record { at = λ j h. r .done j (omega arith) .0 }, record { at = λ j h. r .done j (omega arith) .1 })
 
@@ -83,4 +87,5 @@ lateness-spec =
     add-j
     loop-less
     loop-again
-    returns)
+    returns
+    returns-2)

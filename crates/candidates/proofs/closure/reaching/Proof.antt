@@ -2,9 +2,8 @@
 use native.Mathlib.Omega.{arith}
 use borrow.Author.Tests.{not-true, not-false}
 use Rattle.words.proofs.Laws.{close-more}
-use Rattle.tables.specs.Held.{meant, meantV}
-use Rattle.candidates.proofs.WordLaws.{closely-moreV, closely-row}
-use Rattle.candidates.proofs.SetLaws.{flag-present, flag-absent, reaching-not, reaching-is, reaching-other}
+use Rattle.candidates.proofs.WordLaws.{closely-moreV, closely-part}
+use Rattle.candidates.proofs.SetLaws.{flag-present, flag-absent, reaching-not, reaching-some, reaching-none}
 use Rattle.candidates.proofs.closure.reaching.Statement.{statement}
 use Rattle.candidates.proofs.closure.reaching.Tie as tie
 
@@ -14,53 +13,27 @@ present-requires c κs = tt
 returns : tie.Need-returns
 returns c = reaching-not (λ u. flag-absent _ _ (c .before .present .ensures) (not-true _ (c .if1 .taken)) (u .0))
 
-mul-sums : tie.Need-mul-sums
-mul-sums c = omega arith
-
-element-copy-out-sums : tie.Need-element-copy-out-sums
-element-copy-out-sums c = omega arith
-
-sums-requires : tie.Need-sums-requires
-sums-requires c κs =
-    let s = c .before .before .before in
-    (omega arith, closely-moreV (omega arith) (closely-row _ (omega arith) (s .pre .2)), closely-moreV (omega arith) (s .pre .4))
-
-largest-requires : tie.Need-largest-requires
-largest-requires c κs = omega arith
-
 plus-requires : tie.Need-plus-requires
-plus-requires c κs =
-    let s = c .before .before .before .before .before in
-    (close-more (omega arith) (s .pre .3), close-more (omega arith) (s .pre .5))
+plus-requires c κs = let s = c .before .before in (close-more (omega arith) (s .pre .3), close-more (omega arith) (s .pre .5))
+
+reached-requires : tie.Need-reached-requires
+reached-requires c κs =
+    let s = c .before .before .before in
+    (omega arith, omega arith, closely-part _ (omega arith) (omega arith) (s .pre .2), closely-moreV (omega arith) (s .pre .4))
 
 returns-2 : tie.Need-returns-2
-unfolding meant meantV
 returns-2 c =
     let k = c .before .before in
-    reaching-other _ _ _ _ _ (k .before .sums .ensures) (c .before .plus .ensures) (k .largest .ensures) (c .if2 .taken)
-
-places-requires : tie.Need-places-requires
-places-requires c κs = omega arith
+    reaching-none _ (k .plus .ensures) (c .before .reached .ensures) (omega arith) (c .if2 .taken)
 
 returns-3 : tie.Need-returns-3
-unfolding meant meantV
 returns-3 c =
-    let k = c .before .before .before in
-    let e = k .before .before .before in
-    reaching-is _ _ _ _ _ (k .before .sums .ensures) (c .before .before .plus .ensures) (k .largest .ensures)
-    (flag-present _ _ (e .before .present .ensures) (not-false _ (e .if1 .left))) (c .before .if2 .left) (c .places .ensures)
+    let k = c .before .before in
+    let e = k .before in
+    reaching-some _ (k .plus .ensures) (c .before .reached .ensures)
+    (flag-present _ _ (e .before .present .ensures) (not-false _ (e .if1 .left))) (c .if2 .left)
 
 pub reaching-spec : {M : Type 1} → statement M
 reaching-spec =
     tie.close
-    (tie.spec
-    present-requires
-    returns
-    mul-sums
-    element-copy-out-sums
-    sums-requires
-    largest-requires
-    plus-requires
-    returns-2
-    places-requires
-    returns-3)
+    (tie.spec present-requires returns plus-requires reached-requires returns-2 returns-3)

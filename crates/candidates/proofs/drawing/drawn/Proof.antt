@@ -2,6 +2,7 @@
 use mathlib.Core.Path.{_≡_}
 use Prim.Native.Nat.{_*_, _≤_, _-_}
 use native.Mathlib.Omega.{arith}
+use borrow.Author.Tests.{ltb-false}
 use Rattle.maxplus.specs.Entry.{_⊗_, _⊕_}
 use Rattle.words.specs.Words.{entry, Close}
 use Rattle.words.proofs.Laws.{close-more}
@@ -42,7 +43,7 @@ array-read-plus c = omega arith
 
 plus-requires : tie.Need-plus-requires Inv-loop μ-loop
 plus-requires c κs =
-    let s = c .before .before .before in
+    let s = c .before .before .before .before in
     (close-more (omega arith) (s .pre .3), close-more (omega arith) (s .pre .4 .at _ (omega arith)))
 
 larger-requires : tie.Need-larger-requires Inv-loop μ-loop
@@ -63,7 +64,7 @@ loop-less c = omega arith
 loop-again : tie.Need-loop-again Inv-loop μ-loop
 unfolding meant meantV
 loop-again c =
-    let k = c .before .before .before .before in
+    let k = c .before .before .before .before .before in
     let s = k .before in (
       omega arith,
       filled-more _ 0 _ _ _ (omega arith) (k .loop .inv .1)
@@ -72,8 +73,11 @@ loop-again c =
     )
 
 returns : tie.Need-returns Inv-loop μ-loop
+returns c = let e : ⊥ = omega (arith, ltb-false) in absurd e
+
+returns-2 : tie.Need-returns-2 Inv-loop μ-loop
 unfolding meantV
-returns c =
+returns-2 c =
     let r = c .before .loop .inv .1 in
     (record { at = λ j h. r .done j (omega arith) .0 }, record { at = λ j h. r .done j (omega arith) .1 })
 
@@ -97,4 +101,5 @@ drawn-spec =
     add-i
     loop-less
     loop-again
-    returns)
+    returns
+    returns-2)

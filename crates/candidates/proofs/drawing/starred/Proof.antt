@@ -2,12 +2,13 @@
 use mathlib.Core.Path.{_≡_}
 use Prim.Native.Nat.{_*_, _≤_, _-_}
 use native.Mathlib.Omega.{arith}
+use borrow.Author.Tests.{ltb-false}
 use Rattle.maxplus.specs.Tables.{mv}
 use Rattle.words.specs.Words.{entry, Close}
 use Rattle.sheet.specs.Sheet.{limit}
 use Rattle.tables.specs.Held.{meant, meantV}
 use Rattle.tables.proofs.Loops.{Filled, filled-none, filled-more}
-use Rattle.candidates.proofs.WordLaws.{closely-moreV, closely-row, dot-is, dot-close}
+use Rattle.candidates.proofs.WordLaws.{closely-moreV, closely-part, close-dot}
 use Rattle.candidates.proofs.drawing.starred.Statement.{statement}
 use Rattle.candidates.proofs.drawing.starred.Tie as tie
 
@@ -20,22 +21,10 @@ abbrev μ-loop : tie.MeasureT-loop
 loop-holds : tie.Need-loop-holds Inv-loop μ-loop
 loop-holds c = (omega arith, filled-none _ 0 _)
 
-mul-sums : tie.Need-mul-sums Inv-loop μ-loop
-mul-sums c = omega arith
-
-element-copy-out-sums : tie.Need-element-copy-out-sums Inv-loop μ-loop
-element-copy-out-sums c = omega arith
-
-sums-requires : tie.Need-sums-requires Inv-loop μ-loop
-sums-requires c κs =
-    let s = c .before .before .before .before in (
-      omega arith,
-      closely-moreV (omega arith) (closely-row _ (omega arith) (s .pre .1)),
-      closely-moreV (omega arith) (s .pre .2),
-    )
-
-largest-requires : tie.Need-largest-requires Inv-loop μ-loop
-largest-requires c κs = omega arith
+dot-requires : tie.Need-dot-requires Inv-loop μ-loop
+dot-requires c κs =
+    let s = c .before .before .before .before in
+    (omega arith, omega arith, closely-part _ (omega arith) (omega arith) (s .pre .1), closely-moreV (omega arith) (s .pre .2))
 
 mul-r : tie.Need-mul-r Inv-loop μ-loop
 mul-r c = omega arith
@@ -51,19 +40,19 @@ loop-less c = omega arith
 
 loop-again : tie.Need-loop-again Inv-loop μ-loop
 loop-again c =
-    let k = c .before .before .before .before in
+    let k = c .before .before .before in
     let s = k .before .before in
-    let p = c .before .sums .ensures in (
+    let e = c .dot .ensures in (
       omega arith,
-      filled-more _ 0 _ _ _ (omega arith) (k .loop .inv .1) (
-        dot-is _ (s .args .star .now) (k .loop .i) (s .args .w .at) _ p _ (c .largest .ensures),
-        dot-close _ (s .args .star .now) (k .loop .i) (s .args .w .at) _ p _ (omega arith) (s .pre .1) (s .pre .2) (c .largest .ensures),
-      ),
+      filled-more _ 0 _ _ _ (omega arith) (k .loop .inv .1) (e, close-dot _ _ (omega arith) (s .pre .1) (s .pre .2) e),
     )
 
 returns : tie.Need-returns Inv-loop μ-loop
+returns c = let e : ⊥ = omega (arith, ltb-false) in absurd e
+
+returns-2 : tie.Need-returns-2 Inv-loop μ-loop
 unfolding meantV
-returns c =
+returns-2 c =
     let r = c .before .loop .inv .1 in
     (record { at = λ j h. r .done j (omega arith) .0 }, record { at = λ j h. r .done j (omega arith) .1 })
 
@@ -74,13 +63,11 @@ starred-spec =
     Inv-loop
     μ-loop
     loop-holds
-    mul-sums
-    element-copy-out-sums
-    sums-requires
-    largest-requires
+    dot-requires
     mul-r
     array-write-r
     add-i
     loop-less
     loop-again
-    returns)
+    returns
+    returns-2)

@@ -2,6 +2,7 @@
 use mathlib.Core.Path.{_≡_, refl}
 use Prim.Native.Nat.{_≤_, _-_}
 use native.Mathlib.Omega.{arith}
+use borrow.Author.Tests.{ltb-false}
 use Rattle.maxplus.specs.Tables.{sup}
 use Rattle.words.specs.Words.{entry}
 use Rattle.tables.specs.Held.{meantV}
@@ -35,10 +36,13 @@ loop-less c = omega arith
 
 loop-again : tie.Need-loop-again Inv-loop μ-loop
 unfolding meantV
-loop-again c = (omega arith, largest-more _ _ _ _ _ (refl {a = entry _}) (c .before .before .loop .inv .1) (c .larger .ensures))
+loop-again c = (omega arith, largest-more _ _ _ _ _ (refl {a = entry _}) (c .before .before .before .loop .inv .1) (c .larger .ensures))
 
 returns : tie.Need-returns Inv-loop μ-loop
-returns c = let e : c .before .loop .j ≡ c .before .before .args .n = omega arith in rw e at (c .before .loop .inv .1)
+returns c = let e : ⊥ = omega (arith, ltb-false) in absurd e
+
+returns-2 : tie.Need-returns-2 Inv-loop μ-loop
+returns-2 c = let e : c .before .loop .j ≡ c .before .before .args .n = omega arith in rw e at (c .before .loop .inv .1)
 
 pub largest-spec : {M : Type 1} → statement M
 largest-spec =
@@ -53,4 +57,5 @@ largest-spec =
     add-j
     loop-less
     loop-again
-    returns)
+    returns
+    returns-2)
