@@ -3,9 +3,9 @@ use mathlib.Core.Path.{_≡_, refl, ap, sym, _∙_}
 use mathlib.Core.List.{List}
 use Prim.Native.Nat.{ℕ, _+_, _≤_, _<_}
 use native.Mathlib.Omega.{arith}
-use native.Mathlib.Decide.{ℕ-discrete, decLt}
+use native.Mathlib.Decide.{ℕ-discrete}
 use lib.ListN.{getD, set, replicate, length-set}
-use lib.Seq.{getD-set-same, getD-set-other, ext-getD}
+use lib.Seq.{getD-set-same, getD-set-other}
 use Rattle.maxplus.specs.Entry.{E, _≼_, _⊗_}
 use Rattle.maxplus.specs.Tables.{sup, Vec, mv}
 use Rattle.maxplus.specs.Line.{at, line}
@@ -99,11 +99,3 @@ line-same {n} {x} {y} h = line-ext n (line n x) (line n y) (λ j k. at-line n x 
 pub written-line : {n : ℕ} {x : Vec} {w : List ℕ} → Written n x w → line-of n w ≡ line n x
 unfolding line-of
 written-line r = line-same (r .at)
-
--- words with the same line are the same
-pub line-of-inj : {n : ℕ} {v w : List ℕ} → Sized n v → Sized n w → line-of n v ≡ line-of n w → v ≡ w
-unfolding meantV
-line-of-inj {n} {v} {w} s t e = ext-getD 0 v w (s .size ∙ sym (t .size)) (λ j h. elim (decLt j n) [
-  | yes k ↦ entry-inj (sym (line-at n v j k) ∙ ap (λ c. at n c j) e ∙ line-at n w j k)
-  | no k ↦ s .past j (omega arith) ∙ sym (t .past j (omega arith))
-])

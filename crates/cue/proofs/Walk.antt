@@ -252,12 +252,6 @@ module _ (n : ℕ) (P : Tables) where
     unfolding steps
     steps-bound = fixings-bound (floor-panels n P) (kept n P D)
 
-    -- six panels and six triggers at most
-    pub steps-six : n ≤ 6 → panels ≤ 6 → steps n P D ≤ 55986
-    steps-six hn hm = le-trans steps-bound
-        (le-trans (geometric-mono n 6 _ 6 hn (le-trans floor-panels-few hm))
-        (let e : geometric 6 6 ≤ 55986 = unfold geometric in omega arith in e))
-
   -- ---- no dead end
   -- "d(k,j) − p(k) ≥ d(i,j) − p(i)"
   pub serves-as-well-iff : (i j k : ℕ) →

@@ -1,26 +1,24 @@
 -- Laws of listing: below every line, what is left after a full buffer, how many lines there can be, and how far their words go.
 use mathlib.Core.Path.{_≡_, refl, ap, ap₂, sym, subst, _∙_}
 use mathlib.Core.Logic.{inl, inr}
-use mathlib.Core.List.{List, [], _∷_, _++_, zip}
-use Prim.Native.Nat.{ℕ, zero, suc, _+_, _*_, _≤_, _<_}
+use mathlib.Core.List.{List, [], _∷_, _++_}
+use Prim.Native.Nat.{ℕ, zero, suc, _*_, _≤_, _<_}
 use native.Mathlib.Omega.{arith}
 use lib.IntN.{pos}
-use lib.ListN.{length, getD, take, drop, length-take, length-append, take-append-drop}
+use lib.ListN.{length, getD, take, drop, length-take, take-append-drop}
 use lib.Seq.{split-at, take-all, getD-take}
 use Rattle.maxplus.specs.Entry.{E, absent, num, Present}
-use Rattle.maxplus.specs.Finite.{In, each, mapL}
+use Rattle.maxplus.specs.Finite.{In}
 use Rattle.maxplus.specs.Tables.{Vec}
 use Rattle.maxplus.specs.Line.{Line, at, line, ltL, Normal}
-use Rattle.maxplus.specs.Sorted.{Cmp, less, same, more, Strict, Sorted, put, sift}
+use Rattle.maxplus.specs.Sorted.{Strict, Sorted}
 use Rattle.maxplus.proofs.FiniteLaws.{in-app, in-right, in-map}
-use Rattle.maxplus.proofs.EachLaws.{map-length}
 use Rattle.maxplus.proofs.LineLaws.{strict}
 use Rattle.maxplus.proofs.SortedLaws.{above, in-above, above-sorted, sorted-eq}
 use Rattle.cue.specs.Meaning.{Tables}
-use Rattle.cue.specs.Method.{floor-panels, least, selections, candidate, candidates, lines}
+use Rattle.cue.specs.Method.{lines}
 use Rattle.cue.proofs.Extreme.{lines-increasing, lines-normal}
 use Rattle.cue.proofs.Bounds.{line-six}
-use Rattle.generators.specs.Minimal.{minimal, needed?}
 use Rattle.words.specs.Words.{entry}
 use Rattle.words.proofs.Laws.{entry-zero, close-of}
 use Rattle.sheet.specs.Sheet.{limit}

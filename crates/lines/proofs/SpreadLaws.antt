@@ -1,9 +1,9 @@
 -- Laws of spreading over the levels: raised bounds are bounds of one level more, below each vector that meets the levels there is one, and
 -- so the lines that are drawn from them cover the cone.
 use mathlib.Core.Path.{_≡_, refl, ap, ap₂, sym, subst, _∙_}
-use mathlib.Core.Logic.{_⊎_, inl, inr, _↔_}
-use mathlib.Core.List.{List, [], _∷_, _++_, append-assoc}
-use Prim.Native.Nat.{ℕ, _+_, _*_, _≤_, _<_}
+use mathlib.Core.Logic.{inl, inr}
+use mathlib.Core.List.{List, [], _++_, append-assoc}
+use Prim.Native.Nat.{ℕ, _+_, _≤_, _<_}
 use native.Mathlib.Omega.{arith}
 use native.Mathlib.Decide.{ℕ-discrete, decLt}
 use lib.Dec.{T, ltb, lt→ltb}
@@ -15,27 +15,26 @@ use Rattle.maxplus.specs.Finite.{In, mapL}
 use Rattle.maxplus.specs.Tables.{Vec}
 use Rattle.maxplus.specs.Line.{Line, at, Normal}
 use Rattle.maxplus.specs.Sorted.{sift}
-use Rattle.maxplus.proofs.EntryLaws.{≼-refl, _▸_, ≼-absent, ≼-of, ≼-back, ⊕-l, ⊕-r, ⊕-lub, ⊗-comm, ⊗-nothing, distrib}
+use Rattle.maxplus.proofs.EntryLaws.{_▸_, ≼-absent, ≼-of, ≼-back, ⊕-l, ⊕-r, ⊕-lub, ⊗-comm, ⊗-nothing, distrib}
 use Rattle.maxplus.proofs.FiniteLaws.{in-app, in-left, in-right, in-at, in-place}
 use Rattle.words.specs.Words.{entry}
 use Rattle.words.proofs.Laws.{entry-zero, entry-mono, close-none, close-larger}
-use Rattle.sheet.specs.Sheet.{limit}
 use Rattle.cue.specs.Meaning.{Tables}
 use Rattle.cue.specs.Method.{through, least, floor-panels, ask, kept}
 use Rattle.cue.proofs.Cone.{Cone}
 use Rattle.cue.proofs.Walk.{and-of, and-r, floor-panels-in, in-floor-panels}
 use Rattle.cue.proofs.Candidates.{line-from, line-from-normal, Served, Serving, kept-mark, line-from-cone}
 use Rattle.cue.proofs.Covering.{Covering}
-use Rattle.tables.specs.Held.{cell, meant, meantV, CloselyV}
+use Rattle.tables.specs.Held.{cell, meant, meantV}
 use Rattle.tables.proofs.StepLaws.{blank-word}
 use Rattle.candidates.specs.Bits.{Has}
-use Rattle.candidates.specs.Lines.{line-of, Sized}
+use Rattle.candidates.specs.Lines.{line-of}
 use Rattle.candidates.specs.Prepared.{Prepared}
 use Rattle.candidates.specs.declared.Marks.{Marks}
 use Rattle.candidates.proofs.WordLaws.{blank, sized-none, sized-set}
-use Rattle.candidates.proofs.PreparedLaws.{levels-few, needs-close, drawn-from}
-use Rattle.lines.specs.Buffer.{room, row, held, Stored}
-use Rattle.lines.specs.Bounds.{places, Under, Covered, Raised, RaisedBy, Expanded}
+use Rattle.candidates.proofs.PreparedLaws.{needs-close, drawn-from}
+use Rattle.lines.specs.Buffer.{room, row, held}
+use Rattle.lines.specs.Bounds.{places, Under, Raised, Expanded}
 use Rattle.lines.specs.Given.{Given}
 use Rattle.lines.specs.Listing.{first, Gathered, drawn, drawn-all, Met, Bound, Bounds, Below, Spread, Filled}
 use Rattle.lines.proofs.HeldLaws.{held-row, stored-as}

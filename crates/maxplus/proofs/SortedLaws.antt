@@ -118,39 +118,6 @@ module _ {A : Type 0} (lt : A → A → Type 0) (S : Strict lt) where
   unfolding above
   above-sorted a l = sift-sorted (gt? a) l
 
-  -- a list in order whose least member is b goes on with what is above b
-  first-then : (r l : List A) (b : A) → Sorted lt S r → ((c : A) → In c r → In c l) → ((c : A) → In c l → lt b c → In c r) → In b r →
-      ((c : A) → In c r → ¬ (lt c b)) → r ≡ b ∷ above b l
-  first-then [] l b s f g h least = absurd h
-  first-then (c ∷ r) l b s f g h least = ap₂ _∷_ (sym e) (sorted-eq r (above b l) (s .1) (above-sorted b l)
-      (λ d k. in-above b l d .1 (f d (inr k), rw e (s .0 d k)))
-      (λ d k. let q = in-above b l d .0 k in tail d (q .1) (g d (q .0) (q .1))))
-    where
-      e : b ≡ c
-      e = elim h [ inl q ↦ q | inr q ↦ absurd (least c (inl refl) (s .0 b q)) ]
-
-      tail : (d : A) → lt b d → (d ≡ c) ⊎ In d r → In d r
-      tail d k (inl q) = absurd (S .irrefl b (rw (q ∙ sym e) at k))
-      tail d k (inr q) = q
-
-  -- the least member of all begins the list
-  pub least-begins : (l : List A) → Sorted lt S l → (b : A) → In b l → ((c : A) → In c l → ¬ (lt c b)) → l ≡ b ∷ above b l
-  least-begins l s b h least = first-then l l b s (λ c k. k) (λ c k q. k) h least
-
-  -- the least member above a comes next
-  pub least-next : (a : A) (l : List A) (b : A) → In b l → lt a b → ((c : A) → In c l → lt a c → ¬ (lt c b)) → above a l ≡ b ∷ above b l
-  least-next a l b h k least = first-then (above a l) l b (above-sorted a l) (λ c q. in-above a l c .0 q .0)
-      (λ c q r. in-above a l c .1 (q, S .trans a b c k r)) (in-above a l b .1 (h, k))
-      (λ c q. let t = in-above a l c .0 q in least c (t .0) (t .1))
-
-  -- and the end
-  pub none-next : (a : A) (l : List A) → ((c : A) → In c l → ¬ (lt a c)) → above a l ≡ []
-  none-next a l f = go (above a l) (λ c h. let t = in-above a l c .0 h in f c (t .0) (t .1))
-    where
-      go : (r : List A) → ((c : A) → In c r → ⊥) → r ≡ []
-      go [] g = refl
-      go (c ∷ r) g = absurd (g c (inl refl))
-
   -- ---- sorting out what is wanted makes no list longer
   put-few : (a : A) (l : List A) → length (put lt S a l) ≤ suc (length l)
   unfolding put

@@ -7,7 +7,6 @@ use native.Mathlib.Omega.{arith}
 use lib.Dec.{leb}
 use lib.IntN.{ℤ}
 use lib.ListN.{length}
-use Rattle.maxplus.specs.Finite.{each}
 use Rattle.maxplus.specs.Line.{Line}
 use Rattle.maxplus.specs.Tables.{NoGain}
 use Rattle.maxplus.proofs.EachLaws.{length-each}

@@ -257,6 +257,3 @@ module _ (r : sheet.Rule) (es : List E) (s : List ℕ) (h : checked r es s ≡ g
 
   pub good-words : words-of es ≡ strip (row es)
   good-words = rw good-clip
-
-  pub good-small : (e : E) → In e es → clip e ≡ e
-  good-small e i = in-fixed es good-clip e i

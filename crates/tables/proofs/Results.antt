@@ -5,32 +5,31 @@ use mathlib.Core.List.{List, [], _∷_}
 use mathlib.Core.Bool.{Bool, true, false, cond, _&&_}
 use Prim.Native.Nat.{ℕ, zero, suc, _*_, _≤_, _<_}
 use native.Mathlib.Omega.{arith}
-use native.Mathlib.Decide.{decLt}
 use native.Mathlib.Nat.{le-refl}
 use lib.Count.{ones}
-use lib.Dec.{leb, ltb}
+use lib.Dec.{ltb}
 use lib.IntN.{ℤ}
 use lib.ListN.{length, getD, take}
 use lib.Seq.{getD-take}
 use borrow.Author.Tests.{lt-ltb}
-use Rattle.maxplus.specs.Entry.{E, absent, num, _⊗_, inv, leqE, Present, present?}
+use Rattle.maxplus.specs.Entry.{E, absent, num, _⊗_, inv, Present, present?}
 use Rattle.maxplus.specs.Finite.{In, onlyIf}
 use Rattle.maxplus.specs.Tables.{Vec, Mat, sup, mv, mm, power, star, NoGain}
 use Rattle.maxplus.proofs.EntryLaws.{_▸_, ≼-of, ≼-back, inv-num, present?-yes}
 use Rattle.maxplus.proofs.FiniteLaws.{each-in, in-at}
-use Rattle.maxplus.proofs.EachLaws.{each-same, map-at}
+use Rattle.maxplus.proofs.EachLaws.{each-same}
 use Rattle.maxplus.proofs.SupLaws.{sup-ext}
 use Rattle.words.specs.Words.{word, entry, Close}
-use Rattle.words.proofs.Laws.{entry-word, word-order}
+use Rattle.words.proofs.Laws.{entry-word}
 use Rattle.sheet.specs.Sheet.{limit, Sheet}
 use Rattle.sheet.specs.Reading.{strip, grid}
 use Rattle.sheet.proofs.PlaceLaws.{strip-at, grid-at}
 use Rattle.cue.specs.Meaning.{Tables, timing, overdue, shortfall, Readable}
-use Rattle.cue.specs.Method.{through, pullE, pull, mark, leastE, least, floor-panels, serves-as-well, kept, kept-byte, kept-count}
+use Rattle.cue.specs.Method.{through, pullE, pull, mark, leastE, least, floor-panels, kept, kept-byte, kept-count}
 use Rattle.cue.proofs.Deviation.{pull-is, mv-through, mark-keeps, mark-shortfall}
 use Rattle.cue.proofs.Bounds.{Within, Limited, star-within, through-within, pull-within, least-within}
 use Rattle.tables.specs.declared.levels.Packed.{Packed}
-use Rattle.tables.specs.Held.{cell, meant, meantV, Holds, HoldsV, Closely, CloselyV, Says}
+use Rattle.tables.specs.Held.{meant, meantV, Holds, HoldsV, Closely, CloselyV, Says}
 use Rattle.tables.specs.Steps.{pull-of, landing-of, least-of, reaches, kept-of, byte-of, bit, KeptBytes, floored}
 use Rattle.tables.specs.Levels.{PackedAs, LevelsClose}
 use Rattle.tables.specs.Cue.{tables-of}
@@ -217,40 +216,9 @@ module _ (n : ℕ) (P : Tables) (lag after : List (List ℕ)) (floor due : List 
         pub level-panel : (l : ℕ) → l < k .panels → (getD (k .at) l 0 < P .panels) × Present (P .floor (getD (k .at) l 0))
         level-panel l h = rw (packed-at l h) (level-floored _ (in-at 0 (floor-panels n P) l (let q = packed-many in omega arith)))
 
-        pub packed-byte : (l : ℕ) → l < k .panels → getD (k .kept) l 0 ≡ kept-byte n P D (getD (k .at) l 0)
-        packed-byte l h = sym (getD-take (k .panels) (k .kept) l 0 h) ∙ ap (λ a. getD a l 0) (hk .bytes-are) ∙
-            map-at (λ i. getD r i 0) (floored (P .panels) (meantV floor)) l 0 0 (let q = hk .many in omega arith) ∙
-            ap (λ i. getD r i 0) (ap (λ a. getD a l 0) (sym (hk .panels-are)) ∙ getD-take (k .panels) (k .at) l 0 h) ∙
-            kept-held _ (level-panel l h .0)
-
-        pub packed-small : (l : ℕ) → getD (k .kept) l 0 < 64
-        packed-small l = elim (decLt l (k .panels)) [
-          | yes h ↦ rw (packed-byte l h) (kept-small n P D _ (H .few))
-          | no h ↦ rw (hk .past l (omega arith)) (omega arith)
-        ]
-
-        pub packed-bit : (l j : ℕ) → l < k .panels → j < 6 → bit (getD (k .kept) l 0) j ≡ ltb j n && kept n P D (getD (k .at) l 0) j
-        packed-bit l j h q = ap (λ b. bit b j) (packed-byte l h) ∙ kept-bit n P D _ j (H .few) q
-
         pub levels-close : LevelsClose (k .panels) n d floor (k .at)
         levels-close = record {
           panel = λ l h. let q = level-panel l h .0 in let s = H .few-panels in omega arith;
           through-close = λ l j h hj. through-close hd .at (getD (k .at) l 0) j (level-panel l h .0) hj;
           floor-close = λ l h. floors-close .at (getD (k .at) l 0) (level-panel l h .0);
         }
-
-        pub gains-held : {g : List (List ℕ)} →
-            Holds (k .panels) n (λ l j. meant d (getD (k .at) l 0) j ⊗ inv (meantV floor (getD (k .at) l 0))) g →
-            Holds (k .panels) n (λ l j. through n P (getD (k .at) l 0) j ⊗ inv (P .floor (getD (k .at) l 0))) g
-        gains-held h = record {
-          at = λ l j hl hj. h .at l j hl hj ∙
-              ap₂ (λ a p. a ⊗ inv p) (hd .at _ j (level-panel l hl .0) hj) (H .floors .at _ (level-panel l hl .0));
-        }
-
-        -- words compare as step 5 does: "d(k,j) − p(k) ≥ d(i,j) − p(i)"
-        pub gains-order : {g : List (List ℕ)} →
-            Holds (k .panels) n (λ l j. through n P (getD (k .at) l 0) j ⊗ inv (P .floor (getD (k .at) l 0))) g →
-            (a b j : ℕ) → a < k .panels → b < k .panels → j < n →
-            leb (cell g a j) (cell g b j) ≡ serves-as-well n P (getD (k .at) a 0) j (getD (k .at) b 0)
-        unfolding serves-as-well meant
-        gains-order {g} h a b j ha hb hj = word-order (cell g a j) (cell g b j) ∙ ap₂ leqE (h .at a j ha hj) (h .at b j hb hj)

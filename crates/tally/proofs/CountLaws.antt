@@ -12,7 +12,7 @@ use Rattle.tables.proofs.StepLaws.{blank-word}
 use Rattle.walk.specs.Trace.{Event, fixing, whole, bitsFrom, members, forEach, cut, serves, walkFrom, walkOf, fixings, selections}
 use Rattle.walk.specs.State.{Masks, countsOf}
 use Rattle.walk.specs.declared.Counts.{Counts}
-use Rattle.walk.proofs.Bytes.{members-split, members-none, cut-small, low-in}
+use Rattle.walk.proofs.Bytes.{members-split, members-none, cut-small}
 use Rattle.walk.proofs.Small.{set-below}
 use Rattle.walk.proofs.TraceLaws.{fixings-append, selections-append, selections-few}
 use Rattle.walk.proofs.Whole.{bits-few, forEach-few, most, most-few}

@@ -3,10 +3,10 @@
 // level is looked into once.
 ghost use mathlib.Core.Path.{_≡_};
 ghost use Prim.Native.Nat.{_≤_, _<_};
-ghost use lib.ListN.{length, getD};
+ghost use lib.ListN.{length};
 ghost use Rattle.tables.specs.Held.{Says};
 ghost use Rattle.walk.specs.State.{Masks, countsOf};
-ghost use Rattle.tally.specs.Counting.{CutBelow, SameFrom, Remembered, Ready, Counted, ahead, tried};
+ghost use Rattle.tally.specs.Counting.{CutBelow, SameFrom, Ready, Counted, ahead, tried};
 use walk::Counts;
 use walk::cut_by;
 use walk::low;

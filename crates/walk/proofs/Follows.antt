@@ -9,15 +9,15 @@ use borrow.Author.Tests.{lt-ltb}
 use lib.Dec.{T, eqb, ltb, eqb→eq}
 use lib.IntN.{ℤ}
 use lib.ListN.{length, getD, take, drop, drop-of-length-le}
-use lib.Seq.{drop-cons, getD-take, length-take-le}
+use lib.Seq.{drop-cons}
 use Rattle.maxplus.specs.Finite.{In, each, onlyIf, mapL, countIf}
 use Rattle.maxplus.proofs.FiniteLaws.{in-map}
 use Rattle.maxplus.proofs.EachLaws.{each-same, map-each, map-length, map-twice}
 use Rattle.cue.specs.Meaning.{Tables}
 use Rattle.cue.specs.Method as M
-use Rattle.cue.proofs.Walk.{geometric, steps-bound, cut-within, walk-within}
+use Rattle.cue.proofs.Walk.{geometric, steps-bound, cut-within}
 use Rattle.walk.specs.Trace.{Event, fixing, whole, bit, cut, serves, walkFrom, walkOf, selections, fixings}
-use Rattle.walk.specs.State.{Sound, Steps, startOf, countsOf}
+use Rattle.walk.specs.State.{Steps, startOf, countsOf}
 use Rattle.walk.specs.Follows.{Follows}
 use Rattle.walk.specs.declared.Walk.{Walk}
 use Rattle.walk.specs.declared.Stepped.{Stepped}
@@ -187,15 +187,3 @@ module _ {n : ℕ} {P : Tables} {D : ℤ} {f : ℕ} {masks : List ℕ} {gains : 
     -- what a step shows is one of document 01's selections
     pub shown-in : In (shown f panels (r .next)) (M.selections n P D)
     shown-in = rw (← selections-follow F) (in-map (zip panels) (selections (walkOf masks gains f)) (take f (r .next .picks)) (walked-in b s e))
-
-    -- each pick is a trigger of the sheet, kept at its panel
-    pub picks-kept : (l : ℕ) → l < f →
-        (getD (r .next .picks) l 0 < n) × T (M.kept n P D (getD panels l 0) (getD (r .next .picks) l 0))
-    unfolding M.selections
-    picks-kept l h =
-        walk-within n P (M.floor-panels n P) (M.kept n P D) (shown f panels (r .next)) shown-in (getD panels l 0) (getD (r .next .picks) l 0)
-        (place (s .gives .sound))
-      where
-        place : Sound f (r .next) → In (getD panels l 0, getD (r .next .picks) l 0) (shown f panels (r .next))
-        place o = rw (← getD-take f (r .next .picks) l 0 h)
-            (in-zip panels (take f (r .next .picks)) l (omega (arith, F .many)) (omega (arith, length-take-le f (r .next .picks) (omega arith))))

@@ -62,9 +62,6 @@ module _ {kept : List ℕ} {gains : List (List ℕ)} {f : ℕ} {w : Walk} {r : S
     pub end-fixings : w .fixings + fixings (pending kept gains f w) ≡ r .next .fixings
     end-fixings = sym (marked-fixings (w .fixings) (pending kept gains f w)) ∙ ap fixings (last .0) ∙ fixings-marks (r .next .fixings)
 
-    pub end-ended : Ended (r .next)
-    end-ended = last .1
-
 -- a state that the walk comes to, after the selections seen
 pub record Walked (kept : List ℕ) (gains : List (List ℕ)) (f : ℕ) (w : Walk) (seen : List (List ℕ)) : Type 0 where
   pub ready : Ready kept gains f w
