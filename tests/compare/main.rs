@@ -27,7 +27,7 @@ use under_test::{PlanAnswer, UNDER_TEST};
 const USAGE: &str = "usage: compare [SECONDS] [SEED] | --self | --time FILE.. | --plan | --kept";
 const SECONDS: f64 = 4.0;
 const SEED: u64 = 1;
-/// Plannings of a sheet that are timed; their median counts.
+/// Plannings of a sheet that are timed; the longest counts.
 const TIMED: usize = 15;
 /// No timed sheet may take longer.
 const LONGEST: Duration = Duration::from_millis(100);
@@ -91,10 +91,10 @@ fn run_time(files: &[&str]) -> ExitCode {
     let mut checks = Checks::default();
     for file in files {
         let sheet = std::fs::read(file).unwrap_or_default();
-        let (answer, median) = timed(&sheet);
+        let (answer, longest) = timed(&sheet);
         let [deviation, steps, selections, count, ..] = answer.words;
-        let good = answer.code == 0 && median <= LONGEST;
-        let ms = median.as_secs_f64() * 1e3;
+        let good = answer.code == 0 && longest <= LONGEST;
+        let ms = longest.as_secs_f64() * 1e3;
         let code = answer.code;
         let what = format!(
             "{file}: {ms:.2} ms, code {code}, Δ {deviation}, steps {steps}, selections {selections}, count {count}"
@@ -105,27 +105,17 @@ fn run_time(files: &[&str]) -> ExitCode {
     verdict(checks.passed, checks.failed)
 }
 
-/// The answer of planning a sheet, and the median of its times.
+/// The answer of planning a sheet, and the longest of its times by the wall clock.
 fn timed(sheet: &[u8]) -> (PlanAnswer, Duration) {
     let mut space = vec![0; TIMED_SPACE];
     let mut answer = (UNDER_TEST.plan)(sheet, &mut space);
-    let mut times = [Duration::ZERO; TIMED];
-    for time in &mut times {
-        let start = processor_time();
+    let mut longest = Duration::ZERO;
+    for _ in 0..TIMED {
+        let start = Instant::now();
         answer = (UNDER_TEST.plan)(sheet, &mut space);
-        *time = processor_time() - start;
+        longest = longest.max(start.elapsed());
     }
-    times.sort();
-    (answer, times[TIMED / 2])
-}
-
-/// The time that this process has had a processor, so that others on the machine do not count.
-fn processor_time() -> Duration {
-    unsafe extern "C" {
-        fn clock() -> std::ffi::c_long;
-    }
-    // SAFETY: C's `clock` takes nothing and only reads a counter, in microseconds on POSIX.
-    Duration::from_micros(unsafe { clock() }.max(0) as u64)
+    (answer, longest)
 }
 
 // ---------------------------------------------------------------- compare --self
