@@ -18,11 +18,12 @@ use Rattle.sheet.specs.Sheet.{Got, got, Sheet, _>>=_, read}
 use Rattle.sheet.specs.Sheet as sheet
 use Rattle.sheet.proofs.Refusals.{refusal-numbered}
 use Rattle.tables.proofs.Good.{read-good}
+use Rattle.text.specs.Advice.{advice}
 use Rattle.text.specs.Texts.{kept-text, refusal-text}
 use Rattle.planner.specs.Outcome.{KeptOutcome, kept, refused, kept-of, orderly, keeping}
 use Rattle.planner.specs.Answers.{six, kept-answer}
 use Rattle.planner.specs.declared.kept.KeptTable.{KeptTable}
-use Rattle.kept.specs.Output.{kept-output}
+use Rattle.kept.specs.Output.{kept-output, kept-complaint}
 
 abbrev pub Sound : KeptOutcome → Type 0
 Sound (kept D panels k l) = length panels ≤ 6
@@ -77,6 +78,11 @@ kept-out : (o : KeptOutcome) → Sound o → kept-answer o .refusal ≡ 0 → ta
 kept-out (kept D P k l) few h = ap (λ p. kept-text D p k l) (panels-again P few)
 kept-out (refused k) numbered h = let e : ⊥ = omega arith in absurd e
 
+complained : (o : KeptOutcome) → advice (kept-answer o .refusal) ≡ kept-complaint o
+unfolding advice
+complained (kept D P k l) = refl
+complained (refused k) = refl
+
 module _ (s : List ℕ) (t : KeptTable) (e : t ≡ kept-answer (keeping s)) where
   pub refusal-out : ¬ (t .refusal ≡ 0) → refusal-text (t .refusal) ≡ kept-output (keeping s)
   refusal-out h = subst (λ (t : KeptTable). ¬ (t .refusal ≡ 0) → refusal-text (t .refusal) ≡ kept-output (keeping s)) (sym e) (refused-out (keeping s)) h
@@ -86,6 +92,9 @@ module _ (s : List ℕ) (t : KeptTable) (e : t ≡ kept-answer (keeping s)) wher
 
   pub table-out : t .refusal ≡ 0 → table-text t ≡ kept-output (keeping s)
   table-out h = subst (λ (t : KeptTable). t .refusal ≡ 0 → table-text t ≡ kept-output (keeping s)) (sym e) (kept-out (keeping s) (keeping-sound s)) h
+
+  pub complaint-out : advice (t .refusal) ≡ kept-complaint (keeping s)
+  complaint-out = ap (λ (t : KeptTable). advice (t .refusal)) e ∙ complained (keeping s)
 
 -- the deviation as a signed word is the deviation
 pub deviation-back : {D : ℤ} (P : List (ℕ × ℕ)) (k l : ℕ) → SFits w64 D → kept-text (toZ w64 (ofZ w64 D)) P k l ≡ kept-text D P k l

@@ -1,6 +1,6 @@
 -- What is known of a planning's outcome: a refusal has a number from 1 on, 9 a count; a plan has at most six triggers, no more lines than there
 -- is room for, and numbers that fit. So the text of the answer in a program is the text of the outcome.
-use mathlib.Core.Path.{_≡_, refl, ap, sym, subst}
+use mathlib.Core.Path.{_≡_, refl, ap, sym, subst, _∙_}
 use mathlib.Core.Bool.{Bool, true, false, cond}
 use mathlib.Core.List.{List, []}
 use Prim.Native.Nat.{ℕ, _+_, _*_, _/_, _≤_, _<_}
@@ -25,6 +25,7 @@ use Rattle.sheet.specs.Sheet as sheet
 use Rattle.sheet.proofs.Refusals.{refusal-numbered}
 use Rattle.tables.specs.Cue.{tables-of}
 use Rattle.tables.proofs.Good.{Good, read-good}
+use Rattle.text.specs.Advice.{advice}
 use Rattle.text.specs.Texts.{plan-text, refusal-text, full-text}
 use Rattle.text.specs.Writing.{Stands}
 use Rattle.planner.specs.Outcome.{Outcome, planned, full, refused, plan-of, orderly, planning, space-after}
@@ -32,6 +33,7 @@ use Rattle.planner.specs.Answers.{plan-answer}
 use Rattle.planner.specs.Text.{text, program-text}
 use Rattle.planner.specs.declared.plan.CuePlan.{CuePlan}
 use Rattle.planner.proofs.PlanLaws.{planning-refused, planning-8, planning-listed}
+use Rattle.plan.specs.Output.{complaint, program-complaint}
 
 abbrev pub Sound : ℕ → Outcome → Type 0
 Sound room (planned n D k l L) = (n ≤ 6) × (length L ≤ room) × Fitting n L
@@ -94,6 +96,13 @@ lists-of room (planned n D k l L) space q h =
 lists-of room (full k) space q h = let x : ⊥ = omega arith in absurd x
 lists-of room (refused k) space q h = let x : ⊥ = omega arith in absurd x
 
+-- the sentence of the answer's number is the outcome's
+complaint-of : (o : Outcome) → advice (plan-answer o .refusal) ≡ complaint o
+unfolding advice
+complaint-of (planned n D k l L) = refl
+complaint-of (full k) = refl
+complaint-of (refused k) = refl
+
 -- ---- in the program, which lends 14,000 words
 module _ (s : List ℕ) (space : List ℤ) (sized : length space ≡ 14000) (p : CuePlan) (e : p ≡ plan-answer (planning s space)) where
   room-is : length space / 7 ≡ 2000
@@ -127,6 +136,11 @@ module _ (s : List ℕ) (space : List ℤ) (sized : length space ≡ 14000) (p :
   plan-out after w h f out t =
       let l = lists h in
       rw (t (l .list) (rw w (l .stands)), toZ-ofZ f, l .text-is) program-is
+
+  pub complaint-out : advice (p .refusal) ≡ program-complaint s
+  unfolding planning program-complaint
+  complaint-out =
+      ap (λ (p : CuePlan). advice (p .refusal)) e ∙ complaint-of (planning s space) ∙ ap (λ room. complaint (plan-of room (orderly s))) room-is
 
 -- the program's room for 2,000 lines
 pub bytes-for : (len count : ℕ) → 200200 ≤ len → count ≤ 2000 → 100 * count + 200 ≤ len

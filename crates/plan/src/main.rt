@@ -1,23 +1,41 @@
-// The plan of the sheet on standard input, on standard output.
+// The plan of the sheet on standard input, on standard output; for a refusal also a sentence on standard error.
 ghost use mathlib.Core.Path.{_≡_};
 ghost use lib.ListN.{take};
 ghost use Rattle.io.specs.Counts.{Counts};
 ghost use Rattle.planner.specs.Text.{program-text};
+ghost use Rattle.plan.specs.Output.{program-complaint};
+use text::Ends;
 
-// What the program writes for a sheet; the place behind it. "The program lends space for 2,000 lines", seven words each. Only 9 is a refusal
-// with a count.
-fn answer(bytes: &[u8], space: &mut [i32; 14000], out: &mut [u8; 200200]) -> usize
-    ensures { λ r. ⌜ Counts r (now (out .exit)) ⌝ }
-    ensures { λ r. ⌜ take r (now (out .exit)) ≡ program-text (now (bytes .entry)) ⌝ }
+// What the program writes for a sheet; the places behind the two texts. "The program lends space for 2,000 lines", seven words each. Only 9 is
+// a refusal with a count.
+fn answer(
+    bytes: &[u8],
+    space: &mut [i32; 14000],
+    out: &mut [u8; 200200],
+    errors: &mut [u8; 300],
+) -> Ends
+    ensures { λ r. ⌜ Counts (r .text) (now (out .exit)) ⌝ }
+    ensures { λ r. ⌜ take (r .text) (now (out .exit)) ≡ program-text (now (bytes .entry)) ⌝ }
+    ensures { λ r. ⌜ Counts (r .complaint) (now (errors .exit)) ⌝ }
+    ensures { λ r. ⌜ take (r .complaint) (now (errors .exit)) ≡ program-complaint (now (bytes .entry)) ⌝ }
 {
     let plan = planner::plan::plan(bytes, space);
+    let complaint = text::advice::advice_text(errors, plan.refusal);
     if plan.refusal != 0 {
         if plan.count != 0 {
-            return text::full_text(out, plan.count as u64);
+            let full = text::full_text(out, plan.count as u64);
+            return Ends {
+                text: full,
+                complaint: complaint,
+            };
         }
-        return text::refusal_text(out, plan.refusal);
+        let refused = text::refusal_text(out, plan.refusal);
+        return Ends {
+            text: refused,
+            complaint: complaint,
+        };
     }
-    text::plan_text(
+    let planned = text::plan_text(
         out,
         plan.deviation,
         plan.steps as u64,
@@ -25,7 +43,11 @@ fn answer(bytes: &[u8], space: &mut [i32; 14000], out: &mut [u8; 200200]) -> usi
         plan.triggers,
         space,
         plan.count,
-    )
+    );
+    Ends {
+        text: planned,
+        complaint: complaint,
+    }
 }
 
 // One byte more than a sheet may have is enough to refuse it, so no more is read.
@@ -34,6 +56,12 @@ fn main() {
     let length = io::read_full(0, &mut sheet);
     let mut space = [0i32; 14000];
     let mut out = [0u8; 200200];
-    let end = answer(&sheet[..length], &mut space, &mut out);
-    io::write_all(1, &out[..end]);
+    let mut errors = [0u8; 300];
+    let ends = answer(&sheet[..length], &mut space, &mut out, &mut errors);
+    let text = ends.text;
+    io::write_all(1, &out[..text]);
+    let complaint = ends.complaint;
+    if complaint != 0 {
+        io::write_all(2, &errors[..complaint]);
+    }
 }

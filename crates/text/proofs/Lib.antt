@@ -4,3 +4,4 @@ pub mod NumeralLaws
 pub mod SignedLaws
 pub mod TextLaws
 pub mod WordLaws
+pub mod AdviceLaws

@@ -2,3 +2,4 @@
 pub mod Numerals
 pub mod Texts
 pub mod Writing
+pub mod Advice

@@ -1,5 +1,6 @@
 // The texts that the programs write, put into lent bytes: of a plan, of a kept table, of a refusal. Each function returns the place
 // behind what it wrote. A number has at most 20 bytes, and the room asked for is a round number above the longest text.
+pub mod advice;
 mod line;
 mod put;
 
@@ -15,6 +16,12 @@ use crate::line::put_lines;
 use crate::line::put_panels;
 use crate::put::natural_field;
 use crate::put::number_field;
+
+// The places behind a program's two texts: on standard output, and on standard error, where a refusal gets a sentence.
+pub struct Ends {
+    pub text: usize,
+    pub complaint: usize,
+}
 
 // The text of a plan whose lines stand in `words`. The four fields take at most 117 bytes, a line 78.
 pub fn plan_text(

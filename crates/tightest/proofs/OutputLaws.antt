@@ -1,13 +1,16 @@
--- What stands in the lent bytes after a text was put at their front.
+-- What stands in the lent bytes after a text was put at their front; and that a sheet and a timing fix both texts.
 use mathlib.Core.Path.{_≡_, ap, sym, _∙_}
 use mathlib.Core.List.{List, _++_}
 use Prim.Native.Nat.{ℕ}
 use native.Mathlib.Omega.{arith}
+use lib.IntN.{ℤ}
 use lib.ListN.{length, take, drop, length-append}
 use lib.Seq.{take-at, take-length}
 use Rattle.io.specs.Counts.{Counts}
 use Rattle.text.specs.Writing.{Writes}
 use Rattle.text.proofs.TextLaws.{counted}
+use Rattle.planner.proofs.TestLaws.{tested-one}
+use Rattle.tightest.specs.Output.{tested-text, tested-complaint, Answered}
 
 -- the text t, and r counts its bytes
 abbrev pub Stands : List ℕ → ℕ → List ℕ → Type 0
@@ -22,3 +25,8 @@ copied t before out r e f =
     let long = length-append t (drop (length t) before) in
     let same = ap length whole in
     written (record { within = omega arith; text = rw whole (take-at t (drop (length t) before) r (sym e)) })
+
+pub answered-one : {s : List ℕ} {count : ℕ} {X : ℕ → ℤ} {o e p f : List ℕ} → Answered s count X o e → Answered s count X p f → (o ≡ p) × (e ≡ f)
+answered-one {s} {count} {X} a b =
+    let same = tested-one s count X (a .answer) (b .answer) (a .tests) (b .tests) in
+    (a .text ∙ ap tested-text same ∙ sym (b .text), a .complaint ∙ ap tested-complaint same ∙ sym (b .complaint))

@@ -1,8 +1,13 @@
--- The text of a test's answer (document 01, "Testing a timing", and "A refusal is written `refused=` and its number, LF").
-use mathlib.Core.List.{List}
+-- The texts of a test's answer (document 01, "Testing a timing", and "A refusal is written `refused=` and its number, LF").
+use mathlib.Core.Path.{_≡_}
+use mathlib.Core.List.{List, []}
 use Prim.Native.Nat.{ℕ}
+use lib.IntN.{ℤ}
 use Rattle.sheet.specs.Text.{bytes}
+use Rattle.text.specs.Advice.{advice}
 use Rattle.text.specs.Texts.{refusal-text}
+use Rattle.planner.specs.Outcome.{Testing}
+use Rattle.planner.specs.Answers.{test-answer}
 use Rattle.planner.specs.declared.test.Tested.{Tested}
 use Rattle.planner.specs.declared.test.Tested.the-variants.{Yes, No, Refused}
 
@@ -10,3 +15,16 @@ abbrev pub tested-text : Tested → List ℕ
 tested-text Yes = bytes "tightest=yes\n"
 tested-text No = bytes "tightest=no\n"
 tested-text (Refused k) = refusal-text k
+
+-- on standard error: nothing for yes or no, a sentence for a refusal
+abbrev pub tested-complaint : Tested → List ℕ
+tested-complaint Yes = []
+tested-complaint No = []
+tested-complaint (Refused k) = advice k
+
+-- The two texts are those of testing's answer for a sheet and a timing.
+pub record Answered (s : List ℕ) (count : ℕ) (X : ℕ → ℤ) (out errors : List ℕ) : Type 0 where
+  pub answer : Tested
+  pub tests : Testing s count X (test-answer answer)
+  pub text : out ≡ tested-text answer
+  pub complaint : errors ≡ tested-complaint answer

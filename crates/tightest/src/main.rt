@@ -1,12 +1,15 @@
-// Whether the times of the argument are tightest for the sheet on standard input, on standard output.
+// Whether the times of the argument are tightest for the sheet on standard input, on standard output; for a refusal also a sentence on standard
+// error.
 mod numeral;
 mod times;
 
 ghost use mathlib.Core.Path.{_≡_};
 ghost use lib.ListN.{take};
 ghost use Rattle.io.specs.Counts.{Counts};
-ghost use Rattle.tightest.specs.Output.{tested-text};
+ghost use Rattle.timing.specs.Times.{component};
+ghost use Rattle.tightest.specs.Output.{tested-text, tested-complaint, Answered};
 use planner::test::Tested;
+use text::Ends;
 use timing::Timing;
 
 // What the program writes for a test's answer; the place behind it.
@@ -21,14 +24,46 @@ fn answer(tested: Tested, out: &mut [u8; 64]) -> usize
     }
 }
 
+// What it writes on standard error; the place behind it.
+fn complaint(tested: Tested, errors: &mut [u8; 300]) -> usize
+    ensures { λ r. ⌜ Counts r (now (errors .exit)) ⌝ }
+    ensures { λ r. ⌜ take r (now (errors .exit)) ≡ tested-complaint tested ⌝ }
+{
+    match tested {
+        Tested::Yes => 0,
+        Tested::No => 0,
+        Tested::Refused(refusal) => text::advice::advice_text(errors, refusal),
+    }
+}
+
+// What the program writes for a sheet and a timing; the places behind the two texts.
+fn answers(bytes: &[u8], timing: Timing, out: &mut [u8; 64], errors: &mut [u8; 300]) -> Ends
+    ensures { λ r. ⌜ Counts (r .text) (now (out .exit)) ⌝ }
+    ensures { λ r. ⌜ Counts (r .complaint) (now (errors .exit)) ⌝ }
+    ensures { λ r. ⌜ Answered (now (bytes .entry)) (timing .count) (component (timing .at)) (take (r .text) (now (out .exit))) (take (r .complaint) (now (errors .exit))) ⌝ }
+{
+    let tested = planner::test::test_timing(bytes, timing);
+    let text = answer(tested, out);
+    let complaint = complaint(tested, errors);
+    Ends {
+        text: text,
+        complaint: complaint,
+    }
+}
+
 // One byte more than a sheet may have is enough to refuse it, so no more is read.
 fn test_input(timing: Timing) {
     let mut sheet = [0u8; 2049];
     let length = io::read_full(0, &mut sheet);
-    let tested = planner::test::test_timing(&sheet[..length], timing);
     let mut out = [0u8; 64];
-    let end = answer(tested, &mut out);
-    io::write_all(1, &out[..end]);
+    let mut errors = [0u8; 300];
+    let ends = answers(&sheet[..length], timing, &mut out, &mut errors);
+    let text = ends.text;
+    io::write_all(1, &out[..text]);
+    let complaint = ends.complaint;
+    if complaint != 0 {
+        io::write_all(2, &errors[..complaint]);
+    }
 }
 
 // The space is longer than any argument that the system hands over. A program has no exit status of its own to choose, so a wrong call shows in

@@ -1,22 +1,25 @@
 -- `kept::answer` meets its contract. Assumes nothing.
 use mathlib.Core.Path.{_∙_}
 use borrow.Author.Needs.{needs}
-use Rattle.text.proofs.TextLaws.{counted}
-use Rattle.kept.proofs.Laws.{refusal-out, few-out, table-out, deviation-back}
+use Rattle.text.proofs.AdviceLaws.{answered}
+use Rattle.kept.proofs.Laws.{refusal-out, few-out, table-out, complaint-out, deviation-back}
 use Rattle.kept.proofs.answer.Statement.{statement}
 use Rattle.kept.proofs.answer.Tie as tie
 
 kept-table-requires : tie.Need-kept-table-requires
 kept-table-requires c κs = search needs
 
+advice-text-requires : tie.Need-advice-text-requires
+advice-text-requires c κs = search needs
+
 refusal-text-requires : tie.Need-refusal-text-requires
 refusal-text-requires c κs = search needs
 
 returns : tie.Need-returns
 returns c =
-    let w = c .refusal-text .ensures in
-    let k = c .before .before .before .before in
-    (counted _ _ (w .within), w .text ∙ refusal-out _ _ (k .kept-table .ensures) (c .before .before .if1 .taken))
+    let a = c .before .before .before .before in
+    let k = a .before .before .kept-table .ensures in
+    answered (c .refusal-text .ensures) (refusal-out _ _ k (c .before .before .if1 .taken)) (a .advice-text .ensures) (complaint-out _ _ k)
 
 cast-kept-text : tie.Need-cast-kept-text
 cast-kept-text c = search needs
@@ -26,22 +29,23 @@ cast-kept-text-2 c = search needs
 
 kept-text-requires : tie.Need-kept-text-requires
 kept-text-requires c κs =
-    let k = c .before .before .before .before .before .before .before .before in
+    let k = c .before .before .before .before .before .before .before .before .before .before in
     (search needs, few-out _ _ (k .kept-table .ensures))
 
 returns-2 : tie.Need-returns-2
 returns-2 c =
-    let w = c .kept-text .ensures in
-    let k = c .before .before .before .before .before .before .before .before .before in (
-      counted _ _ (w .within),
-      w .text ∙ deviation-back _ _ _ (record { sfits = c .before .struct-told .given .1 .0 .1 }) ∙ table-out _ _ (k .kept-table .ensures) (c .before .before .before .before .before .before .before .if1 .left),
-    )
+    let i = c .before .before .before .before .before .before .before in
+    let a = i .before .before in
+    let k = a .before .before .kept-table .ensures in
+    let t = deviation-back _ _ _ (record { sfits = c .before .struct-told .given .1 .0 .1 }) ∙ table-out _ _ k (i .if1 .left) in
+    answered (c .kept-text .ensures) t (a .advice-text .ensures) (complaint-out _ _ k)
 
 pub answer-spec : {M : Type 1} → statement M
 answer-spec =
     tie.close
     (tie.spec
     kept-table-requires
+    advice-text-requires
     refusal-text-requires
     returns
     cast-kept-text

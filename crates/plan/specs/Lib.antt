@@ -1,0 +1,2 @@
+-- What the program writes on standard error.
+pub mod Output

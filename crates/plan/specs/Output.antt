@@ -1,0 +1,14 @@
+-- What the program writes on standard error: nothing for a plan, a sentence for a refusal. What it writes on standard output is `program-text`.
+use mathlib.Core.List.{List, []}
+use Prim.Native.Nat.{ℕ}
+use Rattle.text.specs.Advice.{advice}
+use Rattle.planner.specs.Outcome.{Outcome, planned, full, refused, plan-of, orderly}
+
+abbrev pub complaint : Outcome → List ℕ
+complaint (planned n D k l L) = []
+complaint (full k) = advice 9
+complaint (refused k) = advice k
+
+-- "The program lends space for 2,000 lines."
+unfoldable pub program-complaint : List ℕ → List ℕ
+program-complaint s = complaint (plan-of 2000 (orderly s))

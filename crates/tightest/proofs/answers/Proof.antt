@@ -1,0 +1,23 @@
+-- `tightest::answers` meets its contract: the two texts are those of one answer of the test. Assumes nothing.
+use borrow.Author.Needs.{needs}
+use Rattle.tightest.proofs.answers.Statement.{statement}
+use Rattle.tightest.proofs.answers.Tie as tie
+
+test-timing-requires : tie.Need-test-timing-requires
+test-timing-requires c κs = search needs
+
+answer-requires : tie.Need-answer-requires
+answer-requires c κs = search needs
+
+complaint-requires : tie.Need-complaint-requires
+complaint-requires c κs = search needs
+
+returns : tie.Need-returns
+returns c =
+    let a = c .before .before .answer .ensures in
+    let e = c .complaint .ensures in
+    let t = c .before .before .before .before .test-timing in
+    (a .0, (e .0, record { answer = t .result; tests = t .ensures; text = a .1; complaint = e .1 }))
+
+pub answers-spec : {M : Type 1} → statement M
+answers-spec = tie.close (tie.spec test-timing-requires answer-requires complaint-requires returns)
