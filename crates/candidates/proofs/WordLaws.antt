@@ -15,7 +15,7 @@ use Rattle.maxplus.proofs.LineLaws.{line-ext, at-line}
 use Rattle.words.specs.Words.{entry, Close}
 use Rattle.words.proofs.Laws.{entry-inj, entry-mono, entry-reflects, close-more, close-of, of-close, close-plus}
 use Rattle.tables.specs.Held.{cell, meant, meantV, Closely, CloselyV}
-use Rattle.tables.proofs.StepLaws.{blank-word}
+use Rattle.tables.proofs.Loops.{blank-word}
 use Rattle.candidates.specs.Lines.{line-of, Sized, Written}
 
 -- ---- written place by place

@@ -1,9 +1,7 @@
 // Step 6's candidates of a selection, the test for extreme that needs no other candidate, and the order of lines.
 // A loop over n triggers, n at most 6, often names the constant end too, as in `j < n && j < 6`: the compiler then unrolls it.
-mod bits;
-pub mod closure;
 pub mod drawing;
-mod entries;
+pub mod entries;
 pub mod order;
 
 // A line, or w: its count of triggers and its six components as words of entries, the unused ones absent.

@@ -14,8 +14,7 @@ use Rattle.maxplus.specs.Finite.{In}
 use Rattle.maxplus.specs.Tables.{Vec, mm, idm, power, star, NoGain}
 use Rattle.maxplus.specs.Line.{Line, at, Normal}
 use Rattle.maxplus.proofs.WholeLaws.{up-add}
-use Rattle.maxplus.proofs.EntryLaws.{_▸_, ≼-anti, ≼-absent, ≼-of, ≼-back, ⊗-left, ⊗-right, ⊗-assoc, ⊗-unit, ⊗-nums, present-dec}
-use Rattle.maxplus.proofs.EntryLaws.{same-entry?}
+use Rattle.maxplus.proofs.EntryLaws.{_▸_, ≼-anti, ≼-absent, ≼-of, ≼-back, ⊗-left, ⊗-right, ⊗-assoc, ⊗-unit, ⊗-nums, present-dec, same-entry?}
 use Rattle.maxplus.proofs.FiniteLaws.{all-dec, dec-×, dec-⊎, dec-→, some-dec, decide-yes, decide-of}
 use Rattle.maxplus.proofs.SupLaws.{sup-at, sup-⊗r}
 use Rattle.maxplus.proofs.TableLaws.{idm-eq}

@@ -16,13 +16,13 @@ use Rattle.maxplus.proofs.EachLaws.{length-each, each-at}
 use Rattle.maxplus.proofs.StarLaws.{no-gain?}
 use Rattle.sheet.specs.Sheet.{Got, got, Sheet, _>>=_, read}
 use Rattle.sheet.specs.Sheet as sheet
-use Rattle.sheet.proofs.Refusals.{refusal-numbered}
-use Rattle.tables.proofs.Good.{read-good}
-use Rattle.text.specs.Advice.{advice}
-use Rattle.text.specs.Texts.{kept-text, refusal-text}
-use Rattle.planner.specs.Outcome.{KeptOutcome, kept, refused, kept-of, orderly, keeping}
-use Rattle.planner.specs.Answers.{six, kept-answer}
-use Rattle.planner.specs.declared.kept.KeptTable.{KeptTable}
+use Rattle.reading.proofs.Refusals.{refusal-numbered}
+use Rattle.known.proofs.Good.{read-good}
+use Rattle.advice.specs.Advice.{advice}
+use Rattle.writing.specs.Texts.{kept-text, refusal-text}
+use Rattle.keeping.specs.Keeping.{KeptOutcome, kept, refused, kept-of, keeping, six, kept-answer}
+use Rattle.orderly.specs.Orderly.{orderly}
+use Rattle.keeping.specs.declared.KeptTable.{KeptTable}
 use Rattle.kept.specs.Output.{kept-output, kept-complaint}
 
 abbrev pub Sound : KeptOutcome → Type 0

@@ -2,7 +2,7 @@
 ghost use mathlib.Core.Path.{_≡_};
 ghost use lib.ListN.{take};
 ghost use Rattle.io.specs.Counts.{Counts};
-ghost use Rattle.planner.specs.Outcome.{keeping};
+ghost use Rattle.keeping.specs.Keeping.{keeping};
 ghost use Rattle.kept.specs.Output.{kept-output, kept-complaint};
 use text::Ends;
 
@@ -13,8 +13,8 @@ fn answer(bytes: &[u8], out: &mut [u8; 256], errors: &mut [u8; 300]) -> Ends
     ensures { λ r. ⌜ Counts (r .complaint) (now (errors .exit)) ⌝ }
     ensures { λ r. ⌜ take (r .complaint) (now (errors .exit)) ≡ kept-complaint (keeping (now (bytes .entry))) ⌝ }
 {
-    let table = planner::kept::kept_table(bytes);
-    let complaint = text::advice::advice_text(errors, table.refusal);
+    let table = keeping::kept_table(bytes);
+    let complaint = advice::advice_text(errors, table.refusal);
     if table.refusal != 0 {
         let refused = text::refusal_text(out, table.refusal);
         return Ends {

@@ -29,11 +29,11 @@ use Rattle.candidates.specs.Lines.{line-of, Sized}
 use Rattle.candidates.specs.Prepared.{Prepared}
 use Rattle.candidates.specs.declared.Marks.{Marks}
 use Rattle.candidates.proofs.WordLaws.{blank, sized-none, line-at}
-use Rattle.lines.specs.Buffer.{room, row, held}
-use Rattle.lines.specs.Given.{Given}
-use Rattle.lines.specs.Listing.{rest, Filled}
-use Rattle.lines.proofs.ListLaws.{in-take}
-use Rattle.lines.proofs.HeldLaws.{stored-length, row-line}
+use Rattle.buffer.specs.Buffer.{room, row, held}
+use Rattle.gather.specs.Given.{Given}
+use Rattle.gather.specs.Gathering.{rest, Filled}
+use Rattle.buffer.proofs.ListLaws.{in-take}
+use Rattle.buffer.proofs.HeldLaws.{stored-length, row-line}
 
 -- ---- a line with no component stands below every line that has one
 below-some : (n : ℕ) (x : Vec) (c : Line n) (j : ℕ) → j < n → ((k : ℕ) → x k ≡ absent) → Present (at n c j) → ltL n (line n x) c

@@ -13,13 +13,14 @@ use Rattle.cue.proofs.WrittenLaws.{list-words-length}
 use Rattle.candidates.specs.Lines.{line-of, Sized}
 use Rattle.candidates.specs.declared.Marks.{Marks}
 use Rattle.candidates.proofs.WordLaws.{blank, sized-none}
-use Rattle.lines.specs.Buffer.{room, row, held}
-use Rattle.lines.specs.Space.{laid}
-use Rattle.lines.specs.Given.{Given}
-use Rattle.lines.specs.Listing.{rest, Filled, Answers}
+use Rattle.buffer.specs.Buffer.{room, row, held}
+use Rattle.buffer.specs.Space.{laid}
+use Rattle.gather.specs.Given.{Given}
+use Rattle.gather.specs.Gathering.{rest, Filled}
+use Rattle.lines.specs.Listing.{Answers}
 use Rattle.lines.specs.declared.Listed.the-variants.{Lines}
-use Rattle.lines.proofs.SpaceLaws.{laid-none, laid-more, list-words-more}
-use Rattle.lines.proofs.HeldLaws.{held-length, row-sized}
+use Rattle.buffer.proofs.SpaceLaws.{laid-none, laid-more, list-words-more}
+use Rattle.buffer.proofs.HeldLaws.{held-length, row-sized}
 use Rattle.lines.proofs.ListingLaws.{above-blank, filled-few, filled-all, filled-full, lines-few}
 use Rattle.cue.proofs.Few.{most}
 

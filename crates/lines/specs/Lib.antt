@@ -1,6 +1,2 @@
--- What the buffer holds, what is given, and what the list in the lent space is.
-pub mod Buffer
-pub mod Bounds
-pub mod Space
-pub mod Given
+-- What the list in the lent space is.
 pub mod Listing

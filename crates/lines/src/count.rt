@@ -3,10 +3,10 @@ ghost use mathlib.Core.Path.{_≡_};
 ghost use lib.ListN.{length};
 ghost use Rattle.cue.specs.Meaning.{Tables};
 ghost use Rattle.cue.specs.Method.{lines};
-ghost use Rattle.lines.specs.Given.{Given};
-use crate::ROOM;
-use crate::gather::gather;
+ghost use Rattle.gather.specs.Given.{Given};
+use buffer::ROOM;
 use candidates::Marks;
+use gather::gather;
 
 pub fn count_lines(
     marks: Marks,

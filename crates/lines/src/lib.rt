@@ -1,22 +1,17 @@
 // From prepared tables to document 01's list in a lent space. A buffer gathers the lines in order, one buffer-full after the other.
 ghost use Rattle.cue.specs.Meaning.{Tables};
 ghost use Rattle.cue.specs.Method.{lines};
-ghost use Rattle.lines.specs.Given.{Given};
+ghost use Rattle.gather.specs.Given.{Given};
 ghost use Rattle.lines.specs.Listing.{Answers};
 use crate::count::count_lines;
-use crate::gather::gather;
 use crate::write::write_held;
 use crate::write::write_lines;
+use buffer::ROOM;
 use candidates::Marks;
+use gather::gather;
 
-mod bounds;
-mod buffer;
 mod count;
-mod gather;
 mod write;
-
-// How many lines the buffer has room for: more than there are on nearly every sheet.
-pub const ROOM: usize = 128;
 
 // The count of lines written, or of those that do not fit.
 pub enum Listed {

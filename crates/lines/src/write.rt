@@ -11,12 +11,12 @@ ghost use Rattle.words.specs.Words.{entry, Close};
 ghost use Rattle.sheet.specs.Sheet.{limit};
 ghost use Rattle.tables.specs.Held.{CloselyV};
 ghost use Rattle.candidates.specs.Lines.{Sized, line-of};
-ghost use Rattle.lines.specs.Buffer.{room, held};
-ghost use Rattle.lines.specs.Given.{Given};
-ghost use Rattle.lines.specs.Space.{laid};
-use crate::ROOM;
-use crate::gather::gather;
+ghost use Rattle.buffer.specs.Buffer.{room, held};
+ghost use Rattle.gather.specs.Given.{Given};
+ghost use Rattle.buffer.specs.Space.{laid};
+use buffer::ROOM;
 use candidates::Marks;
+use gather::gather;
 use words::BIAS;
 
 const ABSENT: i32 = -2147483648;

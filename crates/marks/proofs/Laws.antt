@@ -19,12 +19,12 @@ use Rattle.cue.specs.Method.{through, pull, least, ask, kept, kept-byte, floor-
 use lib.IntN.{ℤ}
 use Rattle.words.specs.Words.{entry, Close, Near}
 use Rattle.sheet.specs.Sheet.{limit}
-use Rattle.sheet.specs.declared.Sheet.{Sheet}
+use Rattle.reading.specs.declared.Sheet.{Sheet}
 use Rattle.tables.specs.Held.{meant, meantV, Holds, HoldsV, Closely, CloselyV}
-use Rattle.tables.specs.Steps.{pull-of, least-of, kept-of, KeptBytes, floored}
-use Rattle.tables.specs.Levels.{PackedAs, LevelsClose}
-use Rattle.tables.specs.declared.levels.Packed.{Packed}
-use Rattle.tables.proofs.Results.{floors-close, dues-close, star-close, through-close, pulls-held, pulls-close, least-held, least-close, kept-held, floored-is, level-floored, kept-bit, kept-small}
+use Rattle.steps.specs.Steps.{pull-of, least-of, kept-of, KeptBytes, floored}
+use Rattle.levels.specs.Levels.{PackedAs, LevelsClose}
+use Rattle.levels.specs.declared.Packed.{Packed}
+use Rattle.known.proofs.Results.{floors-close, dues-close, star-close, through-close, pulls-held, pulls-close, least-held, least-close, kept-held, floored-is, level-floored, kept-bit, kept-small}
 use Rattle.words.proofs.Laws.{word-order, close-more, close-minus, entry-zero}
 use Rattle.walk.specs.Trace.{bit}
 use Rattle.walk.specs.Follows.{Follows}

@@ -9,11 +9,11 @@ use Rattle.cue.specs.Meaning.{Tables, Readable}
 use Rattle.cue.specs.Method.{through, pull, least, ask, kept-byte}
 use Rattle.words.specs.Words.{entry, Close}
 use Rattle.sheet.specs.Sheet.{limit}
-use Rattle.sheet.specs.declared.Sheet.{Sheet}
+use Rattle.reading.specs.declared.Sheet.{Sheet}
 use Rattle.tables.specs.Held.{cell, meantV, Holds, HoldsV}
-use Rattle.tables.specs.Steps.{floored}
-use Rattle.tables.specs.Levels.{PackedAs}
-use Rattle.tables.proofs.Results.{HeldBy}
+use Rattle.steps.specs.Steps.{floored}
+use Rattle.levels.specs.Levels.{PackedAs}
+use Rattle.known.proofs.Results.{HeldBy}
 use Rattle.marks.specs.declared.Marked.{Marked}
 
 -- the sheet's words hold P, whose order can be kept; two more tables hold M* and d

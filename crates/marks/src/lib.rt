@@ -9,7 +9,7 @@ ghost use Rattle.tables.specs.Held.{meant, meantV, Holds, HoldsV, CloselyV};
 ghost use Rattle.marks.specs.Marked.{Fit, MarkedAs, LevelsFar};
 ghost use lib.ListN.{getD};
 use candidates::Marks;
-use sheet::Sheet;
+use reading::Sheet;
 
 // What step 3 and 4 give: the word of Δ and each panel's byte; the panel of each level; and what the lines are drawn from.
 pub struct Marked {
@@ -28,10 +28,10 @@ pub fn marks_of(sheet: Sheet, star: &[[u64; 6]; 6], through: &[[u64; 6]; 6]) -> 
     let m = sheet.panels;
     let due = sheet.due;
     let floor = sheet.floor;
-    let pulls = tables::steps::pulls(star, due, n);
-    let least = tables::steps::least(through, pulls, floor, m, n);
-    let kept = tables::steps::kept(through, pulls, floor, least, m, n);
-    let packed = tables::levels::pack(kept, floor, m);
+    let pulls = steps::pulls(star, due, n);
+    let least = steps::least(through, pulls, floor, m, n);
+    let kept = steps::kept(through, pulls, floor, least, m, n);
+    let packed = levels::pack(kept, floor, m);
     let masks = packed.kept;
     let at = packed.at;
     let marks = Marks {

@@ -1,14 +1,30 @@
--- Decisions below a bound and over a list; who is in a list that is built.
+-- Equal numbers; decisions below a bound and over a list; who is in a list that is built.
 use mathlib.Core.Path.{_≡_, refl, ap, sym}
 use mathlib.Core.Logic.{_⊎_, inl, inr}
 use mathlib.Core.List.{List, [], _∷_, _++_}
-use mathlib.Core.Bool.{decide}
+use mathlib.Core.Bool.{Bool, true, false, decide}
 use Prim.Native.Nat.{ℕ, zero, suc, _<_}
 use native.Mathlib.Omega.{arith}
 use native.Mathlib.Decide.{ℕ-discrete}
-use lib.Dec.{T}
+use lib.Dec.{T, eqb}
 use lib.ListN.{length, getD}
+use borrow.Author.Tests.{eqb-true, eqb-false}
 use Rattle.maxplus.specs.Finite.{In, each, mapL}
+
+-- ---- equal numbers
+pub equal : (a b : ℕ) → a ≡ b → eqb a b ≡ true
+equal a b e = go (eqb a b) (eqb-false a b)
+  where
+    go : (x : Bool) → (x ≡ false → a ≡ b → ⊥) → x ≡ true
+    go true h = refl
+    go false h = absurd (h refl e)
+
+pub unequal : (a b : ℕ) → ¬ (a ≡ b) → eqb a b ≡ false
+unequal a b f = go (eqb a b) (eqb-true a b)
+  where
+    go : (x : Bool) → (x ≡ true → a ≡ b) → x ≡ false
+    go true h = absurd (f (h refl))
+    go false h = refl
 
 -- ---- decisions below a bound
 unfoldable pub all-or : (P : ℕ → Type 0) → ((k : ℕ) → Dec (P k)) → (n : ℕ) → ((k : ℕ) → k < n → P k) ⊎ ((k : ℕ) × (k < n) × ¬ (P k))

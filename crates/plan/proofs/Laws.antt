@@ -22,17 +22,17 @@ use Rattle.cue.proofs.Bounds.{results-32}
 use Rattle.cue.proofs.WrittenLaws.{Fitting, list-words-length}
 use Rattle.sheet.specs.Sheet.{Got, got, Sheet, read}
 use Rattle.sheet.specs.Sheet as sheet
-use Rattle.sheet.proofs.Refusals.{refusal-numbered}
-use Rattle.tables.specs.Cue.{tables-of}
-use Rattle.tables.proofs.Good.{Good, read-good}
-use Rattle.text.specs.Advice.{advice}
-use Rattle.text.specs.Texts.{plan-text, refusal-text, full-text}
-use Rattle.text.specs.Writing.{Stands}
-use Rattle.planner.specs.Outcome.{Outcome, planned, full, refused, plan-of, orderly, planning, space-after}
-use Rattle.planner.specs.Answers.{plan-answer}
-use Rattle.planner.specs.Text.{text, program-text}
-use Rattle.planner.specs.declared.plan.CuePlan.{CuePlan}
-use Rattle.planner.proofs.PlanLaws.{planning-refused, planning-8, planning-listed}
+use Rattle.reading.proofs.Refusals.{refusal-numbered}
+use Rattle.known.specs.Cue.{tables-of}
+use Rattle.known.proofs.Good.{Good, read-good}
+use Rattle.advice.specs.Advice.{advice}
+use Rattle.writing.specs.Texts.{plan-text, refusal-text, full-text}
+use Rattle.writing.specs.Writing.{Stands}
+use Rattle.planning.specs.Planning.{Outcome, planned, full, refused, plan-of, planning, space-after, plan-answer}
+use Rattle.orderly.specs.Orderly.{orderly}
+use Rattle.planning.specs.Text.{text, program-text}
+use Rattle.planning.specs.declared.CuePlan.{CuePlan}
+use Rattle.planning.proofs.PlanLaws.{planning-refused, planning-8, planning-listed}
 use Rattle.plan.specs.Output.{complaint, program-complaint}
 
 abbrev pub Sound : ℕ → Outcome → Type 0

@@ -1,8 +1,9 @@
 -- What the program writes on standard error: nothing for a plan, a sentence for a refusal. What it writes on standard output is `program-text`.
 use mathlib.Core.List.{List, []}
 use Prim.Native.Nat.{ℕ}
-use Rattle.text.specs.Advice.{advice}
-use Rattle.planner.specs.Outcome.{Outcome, planned, full, refused, plan-of, orderly}
+use Rattle.advice.specs.Advice.{advice}
+use Rattle.planning.specs.Planning.{Outcome, planned, full, refused, plan-of}
+use Rattle.orderly.specs.Orderly.{orderly}
 
 abbrev pub complaint : Outcome → List ℕ
 complaint (planned n D k l L) = []

@@ -2,7 +2,7 @@
 ghost use mathlib.Core.Path.{_≡_};
 ghost use lib.ListN.{take};
 ghost use Rattle.io.specs.Counts.{Counts};
-ghost use Rattle.planner.specs.Text.{program-text};
+ghost use Rattle.planning.specs.Text.{program-text};
 ghost use Rattle.plan.specs.Output.{program-complaint};
 use text::Ends;
 
@@ -19,8 +19,8 @@ fn answer(
     ensures { λ r. ⌜ Counts (r .complaint) (now (errors .exit)) ⌝ }
     ensures { λ r. ⌜ take (r .complaint) (now (errors .exit)) ≡ program-complaint (now (bytes .entry)) ⌝ }
 {
-    let plan = planner::plan::plan(bytes, space);
-    let complaint = text::advice::advice_text(errors, plan.refusal);
+    let plan = planning::plan(bytes, space);
+    let complaint = advice::advice_text(errors, plan.refusal);
     if plan.refusal != 0 {
         if plan.count != 0 {
             let full = text::full_text(out, plan.count as u64);

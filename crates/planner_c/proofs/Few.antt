@@ -15,10 +15,11 @@ use Rattle.cue.specs.Method.{least, lines, kept-byte, kept-count}
 use Rattle.cue.proofs.Few.{most, lines-few}
 use Rattle.sheet.specs.Sheet.{Got, got, Sheet, read}
 use Rattle.sheet.specs.Sheet as sheet
-use Rattle.tables.specs.Cue.{tables-of}
-use Rattle.tables.proofs.Good.{read-good}
-use Rattle.planner.specs.Outcome.{planned, full, kept-of, keeping, plan-of, planning, orderly}
-use Rattle.planner.specs.Answers.{plan-answer, kept-answer}
+use Rattle.known.specs.Cue.{tables-of}
+use Rattle.known.proofs.Good.{read-good}
+use Rattle.planning.specs.Planning.{planned, full, plan-of, planning, plan-answer}
+use Rattle.keeping.specs.Keeping.{kept-of, keeping, kept-answer}
+use Rattle.orderly.specs.Orderly.{orderly}
 
 module _ (s : List ℕ) where
   abbrev Sized : Got Sheet → Type 0

@@ -12,8 +12,8 @@ use mir.Val.{SFits, toZ, ofZ}
 use mir.Facts.{toZ-ofZ}
 use Rattle.maxplus.specs.Finite.{each}
 use borrow.Author.Tests.{eq-eqb, ne-eqb}
-use Rattle.planner.specs.declared.kept.KeptTable.{KeptTable}
-use Rattle.planner.specs.declared.plan.CuePlan.{CuePlan}
+use Rattle.keeping.specs.declared.KeptTable.{KeptTable}
+use Rattle.planning.specs.declared.CuePlan.{CuePlan}
 use Rattle.planner_c.specs.Words.{pairs, plan-words, kept-words, six-times}
 
 -- a word comes back as it was

@@ -7,9 +7,9 @@ use lib.IntN.{ℤ, pos}
 use lib.ListN.{getD}
 use lib.Seq.{sets}
 use Rattle.maxplus.specs.Finite.{each}
-use Rattle.planner.specs.Outcome.{TestOutcome, answer, refused}
-use Rattle.planner.specs.declared.kept.KeptTable.{KeptTable}
-use Rattle.planner.specs.declared.plan.CuePlan.{CuePlan}
+use Rattle.testing.specs.Testing.{TestOutcome, answer, refused}
+use Rattle.keeping.specs.declared.KeptTable.{KeptTable}
+use Rattle.planning.specs.declared.CuePlan.{CuePlan}
 
 -- Words are stored from a place on; one that is past the end is dropped, and the rest stays (`sets`).
 

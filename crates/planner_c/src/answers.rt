@@ -5,8 +5,8 @@ ghost use lib.IntN.{pos};
 ghost use lib.ListN.{getD, set};
 ghost use lib.Seq.{sets};
 ghost use Rattle.planner_c.specs.Words.{pairs, plan-words, kept-words, six-times};
-use planner::kept::KeptTable;
-use planner::plan::CuePlan;
+use keeping::KeptTable;
+use planning::CuePlan;
 
 fn byte_word(b: u8) -> i64
     ensures { λ r. ⌜ r ≡ pos b ⌝ }

@@ -1,14 +1,15 @@
 // The three operations for C and Rust. Nothing is asked of a length: a word that does not fit an answer is dropped, a time that is not lent
 // is 0, and no time past the sixth is looked at.
 ghost use mathlib.Core.Path.{_≡_};
-ghost use Rattle.planner.specs.Outcome.{TestOutcome, planning, space-after, keeping, Testing};
-ghost use Rattle.planner.specs.Answers.{plan-answer, kept-answer};
+ghost use Rattle.testing.specs.Testing.{TestOutcome, Testing};
+ghost use Rattle.planning.specs.Planning.{planning, space-after, plan-answer};
+ghost use Rattle.keeping.specs.Keeping.{keeping, kept-answer};
 ghost use Rattle.timing.specs.Times.{component};
 ghost use Rattle.planner_c.specs.Words.{plan-words, kept-words, six-times, test-number};
 use crate::answers::six_times;
 use crate::answers::write_kept;
 use crate::answers::write_plan;
-use planner::test::Tested;
+use testing::Tested;
 use timing::Timing;
 
 mod answers;
@@ -20,7 +21,7 @@ pub extern "C" fn tuzhelar_plan(sheet: &[u8], space: &mut [i32], answer: &mut [i
     ensures listed { λ r. ⌜ now (space .exit) ≡ space-after (planning (now (sheet .entry)) (now (space .entry))) (now (space .entry)) ⌝ }
     ensures answered { λ r. ⌜ now (answer .exit) ≡ plan-words (plan-answer (planning (now (sheet .entry)) (now (space .entry)))) (now (answer .entry)) ⌝ }
 {
-    let r = planner::plan::plan(sheet, space);
+    let r = planning::plan(sheet, space);
     write_plan(answer, r);
     r.refusal as u32
 }
@@ -31,7 +32,7 @@ pub extern "C" fn tuzhelar_kept(sheet: &[u8], answer: &mut [i64]) -> u32
     ensures returned { λ r. ⌜ r ≡ kept-answer (keeping (now (sheet .entry))) .refusal ⌝ }
     ensures answered { λ r. ⌜ now (answer .exit) ≡ kept-words (kept-answer (keeping (now (sheet .entry)))) (now (answer .entry)) ⌝ }
 {
-    let r = planner::kept::kept_table(sheet);
+    let r = keeping::kept_table(sheet);
     write_kept(answer, r);
     r.refusal as u32
 }
@@ -46,7 +47,7 @@ pub extern "C" fn tuzhelar_test(sheet: &[u8], count: usize, times: &[i64]) -> u3
         count: count,
         at: at,
     };
-    match planner::test::test_timing(sheet, timing) {
+    match testing::test_timing(sheet, timing) {
         Tested::Yes => 100,
         Tested::No => 101,
         Tested::Refused(k) => k as u32,

@@ -1,5 +1,5 @@
 // Reading's case table. Standard input holds cases, each `label|sheet;`; standard output gets a line for each: the refusal, or the sheet read.
-use sheet::Row;
+use rows::Row;
 
 // One word of a table: a blank, and the number or a minus.
 fn put_word(word: u64) {
@@ -40,7 +40,7 @@ fn put_rows(key: &[u8], rows: [Row; 6], lines: usize, count: usize) {
 }
 
 fn put_reading(s: &[u8]) {
-    let r = sheet::read_sheet(s);
+    let r = reading::read_sheet(s);
     if r.refusal != 0 {
         io::write_all(1, b" refused=");
         io::print_decimal(1, r.refusal as u64);

@@ -5,9 +5,9 @@ use mathlib.Core.List.{List, []}
 use mathlib.Core.Bool.{Bool, true, false, not}
 use Prim.Native.Nat.{ℕ, _+_, _≤_, _<_}
 use native.Mathlib.Omega.{arith}
-use native.Mathlib.Decide.{ℕ-discrete}
+use native.Mathlib.Decide.{ℕ-discrete, decLt}
 use native.Mathlib.Numerals.{add-one}
-use lib.ListN.{length, getD, set, length-set, replicate, getD-replicate}
+use lib.ListN.{length, getD, set, length-set, replicate, getD-replicate, List·getD-eq-default}
 use lib.Seq.{getD-set-same, getD-set-other}
 use Rattle.maxplus.specs.Entry.{E, _⊕_}
 use Rattle.maxplus.specs.Tables.{sup}
@@ -34,6 +34,9 @@ unfolding sup
 largest-more f k s b r e g h = rw (add-one, ← e, ← g) h
 
 -- ---- an array of six
+pub blank-word : (i : ℕ) → _≡_ {A = ℕ} (getD (replicate 6 0) i 0) 0
+blank-word i = elim (decLt i 6) [ yes h ↦ getD-replicate 6 i 0 0 h | no h ↦ List·getD-eq-default (replicate 6 0) 0 {n = i} (omega arith) ]
+
 module _ {A : Type 0} (Q : ℕ → A → Type 0) (d : A) where
   pub record Filled (r : List A) (i : ℕ) : Type 0 where
     pub size : length r ≡ 6

@@ -16,7 +16,7 @@ use Rattle.words.specs.Words.{word, entry, Close}
 use Rattle.words.proofs.Laws.{entry-word, entry-zero, close-of, of-close, close-more}
 use Rattle.cue.proofs.Bounds.{Within}
 use Rattle.tables.specs.Held.{meant, meantV, Holds, HoldsV, Closely, CloselyV, Raised}
-use Rattle.tables.proofs.StepLaws.{blank-word}
+use Rattle.tables.proofs.Loops.{blank-word}
 
 -- ---- the unit table
 pub entry-unit : entry (word unit) ≡ unit

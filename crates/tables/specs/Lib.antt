@@ -1,5 +1,2 @@
 -- What arrays of words say of a sheet's tables, and steps 2 to 5 of document 01 over entries.
 pub mod Held
-pub mod Steps
-pub mod Levels
-pub mod Cue

@@ -8,7 +8,7 @@ use lib.Bits.{bitAnd}
 use lib.Count.{trailingZeros}
 use lib.ListN.{length, getD, set, replicate, getD-replicate, length-set, length-append}
 use lib.Seq.{getD-set-same, getD-set-other}
-use Rattle.tables.proofs.StepLaws.{blank-word}
+use Rattle.tables.proofs.Loops.{blank-word}
 use Rattle.walk.specs.Trace.{Event, fixing, whole, bitsFrom, members, forEach, cut, serves, walkFrom, walkOf, fixings, selections}
 use Rattle.walk.specs.State.{Masks, countsOf}
 use Rattle.walk.specs.declared.Counts.{Counts}

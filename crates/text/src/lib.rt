@@ -1,8 +1,5 @@
 // The texts that the programs write, put into lent bytes: of a plan, of a kept table, of a refusal. Each function returns the place
 // behind what it wrote. A number has at most 20 bytes, and the room asked for is a round number above the longest text.
-pub mod advice;
-mod line;
-mod put;
 
 ghost use mathlib.Core.Path.{_≡_};
 ghost use mathlib.Core.List.{List, [], _∷_};
@@ -10,12 +7,12 @@ ghost use Prim.Native.Nat.{_+_, _*_, _≤_};
 ghost use lib.ListN.{length, take, getD};
 ghost use Rattle.maxplus.specs.Finite.{each};
 ghost use Rattle.maxplus.specs.Line.{Line};
-ghost use Rattle.text.specs.Texts.{plan-text, kept-text, refusal-text, full-text};
-ghost use Rattle.text.specs.Writing.{Writes, Stands};
-use crate::line::put_lines;
-use crate::line::put_panels;
-use crate::put::natural_field;
-use crate::put::number_field;
+ghost use Rattle.writing.specs.Texts.{plan-text, kept-text, refusal-text, full-text};
+ghost use Rattle.writing.specs.Writing.{Writes, Stands};
+use text_lines::put_lines;
+use text_lines::put_panels;
+use writing::natural_field;
+use writing::number_field;
 
 // The places behind a program's two texts: on standard output, and on standard error, where a refusal gets a sentence.
 pub struct Ends {

@@ -13,7 +13,7 @@ use Rattle.maxplus.specs.Whole.{neg}
 use Rattle.maxplus.specs.Entry.{num}
 use Rattle.words.specs.Words.{word}
 use Rattle.sheet.specs.Sheet.{got, digit, leading, value, behind, signed, item}
-use Rattle.sheet.proofs.ItemLaws.{Stop}
+use Rattle.items.proofs.ItemLaws.{Stop}
 use Rattle.timing.specs.Times.{far-limit}
 use Rattle.tightest.specs.Times.{number, negated, far-beyond, clip}
 use Rattle.tightest.specs.Inner.{NumeralAt, NumberIs}

@@ -7,9 +7,9 @@ use lib.IntN.{ℤ}
 use lib.ListN.{length, take, drop, length-append}
 use lib.Seq.{take-at, take-length}
 use Rattle.io.specs.Counts.{Counts}
-use Rattle.text.specs.Writing.{Writes}
-use Rattle.text.proofs.TextLaws.{counted}
-use Rattle.planner.proofs.TestLaws.{tested-one}
+use Rattle.writing.specs.Writing.{Writes}
+use Rattle.writing.proofs.TextLaws.{counted}
+use Rattle.testing.proofs.TestLaws.{tested-one}
 use Rattle.tightest.specs.Output.{tested-text, tested-complaint, Answered}
 
 -- the text t, and r counts its bytes

@@ -4,12 +4,11 @@ use mathlib.Core.List.{List, []}
 use Prim.Native.Nat.{ℕ}
 use lib.IntN.{ℤ}
 use Rattle.sheet.specs.Text.{bytes}
-use Rattle.text.specs.Advice.{advice}
-use Rattle.text.specs.Texts.{refusal-text}
-use Rattle.planner.specs.Outcome.{Testing}
-use Rattle.planner.specs.Answers.{test-answer}
-use Rattle.planner.specs.declared.test.Tested.{Tested}
-use Rattle.planner.specs.declared.test.Tested.the-variants.{Yes, No, Refused}
+use Rattle.advice.specs.Advice.{advice}
+use Rattle.writing.specs.Texts.{refusal-text}
+use Rattle.testing.specs.Testing.{Testing, test-answer}
+use Rattle.testing.specs.declared.Tested.{Tested}
+use Rattle.testing.specs.declared.Tested.the-variants.{Yes, No, Refused}
 
 abbrev pub tested-text : Tested → List ℕ
 tested-text Yes = bytes "tightest=yes\n"

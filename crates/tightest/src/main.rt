@@ -8,7 +8,7 @@ ghost use lib.ListN.{take};
 ghost use Rattle.io.specs.Counts.{Counts};
 ghost use Rattle.timing.specs.Times.{component};
 ghost use Rattle.tightest.specs.Output.{tested-text, tested-complaint, Answered};
-use planner::test::Tested;
+use testing::Tested;
 use text::Ends;
 use timing::Timing;
 
@@ -32,7 +32,7 @@ fn complaint(tested: Tested, errors: &mut [u8; 300]) -> usize
     match tested {
         Tested::Yes => 0,
         Tested::No => 0,
-        Tested::Refused(refusal) => text::advice::advice_text(errors, refusal),
+        Tested::Refused(refusal) => advice::advice_text(errors, refusal),
     }
 }
 
@@ -42,7 +42,7 @@ fn answers(bytes: &[u8], timing: Timing, out: &mut [u8; 64], errors: &mut [u8; 3
     ensures { λ r. ⌜ Counts (r .complaint) (now (errors .exit)) ⌝ }
     ensures { λ r. ⌜ Answered (now (bytes .entry)) (timing .count) (component (timing .at)) (take (r .text) (now (out .exit))) (take (r .complaint) (now (errors .exit))) ⌝ }
 {
-    let tested = planner::test::test_timing(bytes, timing);
+    let tested = testing::test_timing(bytes, timing);
     let text = answer(tested, out);
     let complaint = complaint(tested, errors);
     Ends {

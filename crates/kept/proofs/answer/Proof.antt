@@ -1,7 +1,7 @@
 -- `kept::answer` meets its contract. Assumes nothing.
 use mathlib.Core.Path.{_∙_}
 use borrow.Author.Needs.{needs}
-use Rattle.text.proofs.AdviceLaws.{answered}
+use Rattle.advice.proofs.AdviceLaws.{answered}
 use Rattle.kept.proofs.Laws.{refusal-out, few-out, table-out, complaint-out, deviation-back}
 use Rattle.kept.proofs.answer.Statement.{statement}
 use Rattle.kept.proofs.answer.Tie as tie

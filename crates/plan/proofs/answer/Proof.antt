@@ -1,7 +1,7 @@
 -- `plan::answer` meets its contract. Assumes nothing.
 use mathlib.Core.Path.{refl}
 use borrow.Author.Needs.{needs}
-use Rattle.text.proofs.AdviceLaws.{answered}
+use Rattle.advice.proofs.AdviceLaws.{answered}
 use Rattle.plan.proofs.Laws.{full-out, refusal-out, few-out, plan-out, complaint-out, bytes-for, words-for}
 use Rattle.plan.proofs.answer.Statement.{statement}
 use Rattle.plan.proofs.answer.Tie as tie

@@ -1,7 +1,7 @@
 -- `planner_c::tuzhelar_kept` meets its contract. Assumes nothing.
 use mathlib.Core.Path.{ap, sym, subst, _∙_}
 use Prim.Native.Nat.{_≤_}
-use Rattle.planner.specs.declared.kept.KeptTable.{KeptTable}
+use Rattle.keeping.specs.declared.KeptTable.{KeptTable}
 use Rattle.planner_c.specs.Words.{kept-words}
 use Rattle.planner_c.proofs.Few.{panels-few}
 use borrow.Author.Needs.{needs}

@@ -1,7 +1,7 @@
 -- `planner_c::tuzhelar_plan` meets its contract. Assumes nothing.
 use mathlib.Core.Path.{ap, sym, subst, _∙_}
 use Prim.Native.Nat.{_≤_}
-use Rattle.planner.specs.declared.plan.CuePlan.{CuePlan}
+use Rattle.planning.specs.declared.CuePlan.{CuePlan}
 use Rattle.planner_c.specs.Words.{plan-words}
 use Rattle.planner_c.proofs.Few.{count-few}
 use borrow.Author.Needs.{needs}

@@ -5,9 +5,8 @@ use mathlib.Core.List.{List}
 use Prim.Native.Nat.{ℕ}
 use lib.IntN.{ℤ}
 use Rattle.timing.specs.Times.{component}
-use Rattle.planner.specs.Outcome.{Testing, answer, refused}
-use Rattle.planner.specs.Answers.{test-answer}
-use Rattle.planner.specs.declared.test.Tested.{Tested}
+use Rattle.testing.specs.Testing.{Testing, answer, refused, test-answer}
+use Rattle.testing.specs.declared.Tested.{Tested}
 use borrow.Author.Needs.{needs}
 use Rattle.planner_c.proofs.tuzhelar_test.Statement.{statement}
 use Rattle.planner_c.proofs.tuzhelar_test.Tie as tie

@@ -1,8 +1,8 @@
 -- `text::full_text` meets its contract. Assumes nothing.
 use borrow.Author.Needs.{needs}
 use Rattle.sheet.specs.Text.{bytes}
-use Rattle.text.specs.Texts.{refusal-text, full-text}
-use Rattle.text.proofs.PutLaws.{then, written}
+use Rattle.writing.specs.Texts.{refusal-text, full-text}
+use Rattle.writing.proofs.PutLaws.{then, written}
 use Rattle.text.proofs.full_text.Statement.{statement}
 use Rattle.text.proofs.full_text.Tie as tie
 

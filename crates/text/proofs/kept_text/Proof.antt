@@ -3,9 +3,9 @@ use mathlib.Core.Path.{ap}
 use borrow.Author.Needs.{needs}
 use mir.Facts.{toZ-ofZ}
 use Rattle.sheet.specs.Text.{bytes}
-use Rattle.text.specs.Numerals.{numeral}
-use Rattle.text.specs.Texts.{field, kept-text}
-use Rattle.text.proofs.PutLaws.{then, put-as, written}
+use Rattle.writing.specs.Numerals.{numeral}
+use Rattle.writing.specs.Texts.{field, kept-text}
+use Rattle.writing.proofs.PutLaws.{then, put-as, written}
 use Rattle.text.proofs.kept_text.Statement.{statement}
 use Rattle.text.proofs.kept_text.Tie as tie
 

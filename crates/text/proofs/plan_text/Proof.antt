@@ -3,10 +3,10 @@ use mathlib.Core.Path.{ap, _∙_}
 use borrow.Author.Needs.{needs}
 use mir.Facts.{toZ-ofZ}
 use Rattle.sheet.specs.Text.{bytes}
-use Rattle.text.specs.Numerals.{numeral}
-use Rattle.text.specs.Texts.{field}
-use Rattle.text.proofs.PutLaws.{then, put-as}
-use Rattle.text.proofs.WordLaws.{plan-back}
+use Rattle.writing.specs.Numerals.{numeral}
+use Rattle.writing.specs.Texts.{field}
+use Rattle.writing.proofs.PutLaws.{then, put-as}
+use Rattle.writing.proofs.WordLaws.{plan-back}
 use Rattle.text.proofs.plan_text.Statement.{statement}
 use Rattle.text.proofs.plan_text.Tie as tie
 

@@ -1,8 +1,8 @@
 -- `text::refusal_text` meets its contract. Assumes nothing.
 use borrow.Author.Needs.{needs}
 use Rattle.sheet.specs.Text.{bytes}
-use Rattle.text.specs.Texts.{refusal-text}
-use Rattle.text.proofs.PutLaws.{written}
+use Rattle.writing.specs.Texts.{refusal-text}
+use Rattle.writing.proofs.PutLaws.{written}
 use Rattle.text.proofs.refusal_text.Statement.{statement}
 use Rattle.text.proofs.refusal_text.Tie as tie
 

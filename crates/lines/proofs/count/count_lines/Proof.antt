@@ -3,7 +3,7 @@ use mathlib.Core.Path.{_≡_, refl}
 use Prim.Native.Nat.{_-_}
 use native.Mathlib.Omega.{arith}
 use lib.ListN.{length}
-use Rattle.lines.specs.Buffer.{room}
+use Rattle.buffer.specs.Buffer.{room}
 use Rattle.cue.proofs.Few.{most}
 use Rattle.lines.proofs.TurnLaws.{Counted, counted-start, counted-few, counted-end, counted-more}
 use Rattle.lines.proofs.count.count_lines.Statement.{statement}

@@ -3,7 +3,7 @@ use mathlib.Core.Path.{_∙_}
 use native.Mathlib.Omega.{arith}
 use borrow.Author.Needs.{needs}
 use mir.Facts.{toZ-ofZ}
-use Rattle.lines.proofs.SpaceLaws.{signed-none, signed-high, signed-low, low-fits}
+use Rattle.buffer.proofs.SpaceLaws.{signed-none, signed-high, signed-low, low-fits}
 use Rattle.lines.proofs.write.signed_word.Statement.{statement}
 use Rattle.lines.proofs.write.signed_word.Tie as tie
 

@@ -4,10 +4,10 @@ use Prim.Native.Nat.{_-_, _≤_}
 use native.Mathlib.Omega.{arith}
 use lib.ListN.{length}
 use Rattle.cue.specs.Written.{list-words}
-use Rattle.lines.specs.Buffer.{row, held}
-use Rattle.lines.specs.Space.{laid}
-use Rattle.lines.proofs.SpaceLaws.{laid-none}
-use Rattle.lines.proofs.HeldLaws.{held-row, laid-none-held, laid-held}
+use Rattle.buffer.specs.Buffer.{row, held}
+use Rattle.buffer.specs.Space.{laid}
+use Rattle.buffer.proofs.SpaceLaws.{laid-none}
+use Rattle.buffer.proofs.HeldLaws.{held-row, laid-none-held, laid-held}
 use Rattle.lines.proofs.write.write_held.Statement.{statement}
 use Rattle.lines.proofs.write.write_held.Tie as tie
 

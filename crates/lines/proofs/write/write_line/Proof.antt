@@ -8,7 +8,7 @@ use mir.Syntax.{w32}
 use mir.Val.{toZ}
 use mir.Facts.{toZ-ofZ, toZ-pos}
 use Rattle.candidates.specs.Lines.{line-of}
-use Rattle.lines.proofs.SpaceLaws.{component-words, component-more, close-all, laid-line}
+use Rattle.buffer.proofs.SpaceLaws.{component-words, component-more, close-all, laid-line}
 use Rattle.lines.proofs.write.write_line.Statement.{statement}
 use Rattle.lines.proofs.write.write_line.Tie as tie
 

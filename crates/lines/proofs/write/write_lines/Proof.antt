@@ -3,7 +3,7 @@ use mathlib.Core.Path.{_≡_, refl, _∙_}
 use Prim.Native.Nat.{_+_, _-_, _*_, _≤_}
 use native.Mathlib.Omega.{arith}
 use lib.ListN.{length}
-use Rattle.lines.specs.Buffer.{room}
+use Rattle.buffer.specs.Buffer.{room}
 use Rattle.lines.proofs.ListingLaws.{held-close}
 use Rattle.lines.proofs.TurnLaws.{Writing, writing-start, writing-room, writing-more, writing-end}
 use Rattle.lines.proofs.write.write_lines.Statement.{statement}

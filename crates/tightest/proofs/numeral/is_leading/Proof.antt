@@ -1,5 +1,5 @@
 -- `tightest::numeral::is_leading` meets its contract. Assumes nothing.
-use Rattle.sheet.proofs.ItemLaws.{range-low, range-from}
+use Rattle.items.proofs.ItemLaws.{range-low, range-from}
 use Rattle.tightest.proofs.numeral.is_leading.Statement.{statement}
 use Rattle.tightest.proofs.numeral.is_leading.Tie as tie
 

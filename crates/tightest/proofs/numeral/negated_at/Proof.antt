@@ -1,7 +1,7 @@
 -- `tightest::numeral::negated_at` meets its contract. Assumes nothing.
 use mathlib.Core.Path.{sym, _∙_}
 use native.Mathlib.Omega.{arith}
-use Rattle.sheet.proofs.ItemLaws.{leading-digit, leading-worth}
+use Rattle.items.proofs.ItemLaws.{leading-digit, leading-worth}
 use Rattle.tightest.proofs.NumeralLaws.{negated-end, negated-numeral, negated-other}
 use borrow.Author.Needs.{needs}
 use Rattle.tightest.proofs.numeral.negated_at.Statement.{statement}

@@ -6,7 +6,7 @@ use native.Mathlib.Omega.{arith}
 use borrow.Author.Needs.{needs}
 use borrow.Author.Tests.{not-true, not-false}
 use lib.ListN.{length}
-use Rattle.sheet.proofs.ItemLaws.{range-bounds, stop-end, stop-other}
+use Rattle.items.proofs.ItemLaws.{range-bounds, stop-end, stop-other}
 use Rattle.tightest.proofs.NumeralLaws.{ReadTo, read-first, read-digit, read-whole}
 use Rattle.tightest.proofs.numeral.numeral_from.Statement.{statement}
 use Rattle.tightest.proofs.numeral.numeral_from.Tie as tie

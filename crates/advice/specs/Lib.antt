@@ -1,0 +1,2 @@
+-- What the programs tell a person about a refusal.
+pub mod Advice

@@ -1,0 +1,3 @@
+-- Laws of bits in a byte and of sets of triggers.
+pub mod BitLaws
+pub mod SetLaws

@@ -1,0 +1,253 @@
+-- Laws of sets of bounds: which are there, and below which there is one.
+use mathlib.Core.Path.{_≡_, refl, sym, subst, _∙_}
+use mathlib.Core.Bool.{Bool, true, false}
+use mathlib.Core.Logic.{_⊎_, inl, inr}
+use mathlib.Core.List.{List, []}
+use Prim.Native.Nat.{ℕ, _+_, _≤_, _<_}
+use native.Mathlib.Omega.{arith}
+use native.Mathlib.Decide.{ℕ-discrete}
+use lib.Dec.{T}
+use lib.ListN.{length, getD, set, length-set}
+use lib.Seq.{getD-set-same, getD-set-other}
+use Rattle.maxplus.specs.Entry.{_⊕_}
+use Rattle.words.specs.Words.{entry}
+use Rattle.tables.specs.Held.{meantV}
+use Rattle.candidates.specs.Bits.{Has}
+use Rattle.buffer.specs.Buffer.{row}
+use Rattle.bounds.specs.Bounds.{places, Under, Covered, Among, Thinned, Grown, Joined, Raised, RaisedBy, Branched, Expanded}
+
+-- ---- below
+pub under-refl : (a : List ℕ) → Under a a
+under-refl a = record { at = λ j h. omega arith }
+
+pub under-trans : {a b c : List ℕ} → Under a b → Under b c → Under a c
+under-trans h k = record { at = λ j i. let x = h .at j i in let y = k .at j i in omega arith }
+
+-- below in the first j components
+pub record UnderTo (a b : List ℕ) (j : ℕ) : Type 0 where
+  pub at : (k : ℕ) → k < j → getD a k 0 ≤ getD b k 0
+
+pub under-start : (a b : List ℕ) → UnderTo a b 0
+under-start a b = record { at = λ k h. let e : ⊥ = omega arith in absurd e }
+
+pub under-more : {a b : List ℕ} {j : ℕ} → UnderTo a b j → getD a j 0 ≤ getD b j 0 → UnderTo a b (j + 1)
+under-more {j = j} u h = record { at = λ k i. elim (ℕ-discrete k j) [ yes e ↦ rw e h | no e ↦ u .at k (omega arith) ] }
+
+pub under-end : {a b : List ℕ} {j : ℕ} → UnderTo a b j → 6 ≤ j → Under a b
+under-end u h = record { at = λ k i. u .at k (omega arith) }
+
+pub not-under : {a b : List ℕ} {j : ℕ} → j < 6 → getD b j 0 < getD a j 0 → ¬ (Under a b)
+not-under {j = j} h l u = let x = u .at j h in let e : ⊥ = omega arith in absurd e
+
+-- ---- covered: none of the first k lies below w
+pub record NoneTo (set : List (List ℕ)) (w : List ℕ) (k : ℕ) : Type 0 where
+  pub at : (i : ℕ) → i < k → ¬ (Under (row set i) w)
+
+pub none-start : (set : List (List ℕ)) (w : List ℕ) → NoneTo set w 0
+none-start set w = record { at = λ i h. let e : ⊥ = omega arith in absurd e }
+
+pub none-more : {set : List (List ℕ)} {w : List ℕ} {k : ℕ} → NoneTo set w k → ¬ (Under (row set k) w) → NoneTo set w (k + 1)
+none-more {k = k} u h = record { at = λ i l. elim (ℕ-discrete i k) [ yes e ↦ rw e h | no e ↦ u .at i (omega arith) ] }
+
+pub none-end : {set : List (List ℕ)} {w : List ℕ} {k many : ℕ} → NoneTo set w k → many ≤ k → ¬ (Covered set many w)
+none-end u h c = u .at (c .place) (omega (arith, c .there)) (c .under)
+
+pub covered-trans : {set : List (List ℕ)} {many : ℕ} {a b : List ℕ} → Covered set many a → Under a b → Covered set many b
+covered-trans c v = record { place = c .place; there = c .there; under = under-trans (c .under) v }
+
+covered-itself : {set : List (List ℕ)} {many : ℕ} (k : ℕ) {w : List ℕ} → k < many → w ≡ row set k → Covered set many w
+covered-itself k h e = record { place = k; there = h; under = rw e (under-refl _) }
+
+-- ---- one place written
+row-same : (s : List (List ℕ)) (k : ℕ) (v : List ℕ) → k < length s → row (set s k v) k ≡ v
+row-same s k v h = getD-set-same s k v [] h
+
+row-other : (s : List (List ℕ)) (k i : ℕ) (v : List ℕ) → ¬ (i ≡ k) → row (set s k v) i ≡ row s i
+row-other s k i v h = getD-set-other s k i v [] h
+
+-- ---- thinning: the first k have been looked at, and those from k on are as they were
+pub record Thinning (before : List (List ℕ)) (w : List ℕ) (s : List (List ℕ)) (left k : ℕ) : Type 0 where
+  pub size : length s ≡ places
+  pub few : left ≤ k
+  pub from : (i : ℕ) → i < left → Among before k (row s i)
+  pub left-in : (i : ℕ) → i < k → Under w (row before i) ⊎ Among s left (row before i)
+  pub later : (i : ℕ) → k ≤ i → row s i ≡ row before i
+
+module _ {before : List (List ℕ)} {w : List ℕ} where
+  pub thinning-start : length before ≡ places → Thinning before w before 0 0
+  thinning-start z = record {
+    size = z;
+    few = omega arith;
+    from = λ i h. let e : ⊥ = omega arith in absurd e;
+    left-in = λ i h. let e : ⊥ = omega arith in absurd e;
+    later = λ i h. refl;
+  }
+
+  module _ {s : List (List ℕ)} {left k : ℕ} (t : Thinning before w s left k) where
+    among-more : {v : List ℕ} → Among before k v → Among before (k + 1) v
+    among-more a = record { place = a .place; there = omega (arith, a .there); is = a .is }
+
+    pub thinning-out : Under w (row s k) → Thinning before w s left (k + 1)
+    thinning-out u = record {
+      size = t .size;
+      few = omega (arith, t .few);
+      from = λ i h. among-more (t .from i h);
+      left-in = λ i h. elim (ℕ-discrete i k) [ yes e ↦ inl (rw (e, ← t .later k (omega arith)) u) | no e ↦ t .left-in i (omega arith) ];
+      later = λ i h. t .later i (omega arith);
+    }
+
+    pub thinning-keep : k < places → Thinning before w (set s left (row s k)) (left + 1) (k + 1)
+    thinning-keep hk = record {
+      size = simp length-set (t .size);
+      few = omega (arith, t .few);
+      from = λ i h. elim (ℕ-discrete i left) [
+        | yes e ↦ record { place = k; there = omega arith; is = rw e (row-same s left (row s k) room ∙ t .later k (omega arith)) }
+        | no e ↦ rw (row-other s left i (row s k) e) (among-more (t .from i (omega arith)))
+      ];
+      left-in = λ i h. elim (ℕ-discrete i k) [
+        | yes e ↦ inr (record { place = left; there = omega arith; is = rw e (sym (row-same s left (row s k) room ∙ t .later k (omega arith))) })
+        | no e ↦ elim (t .left-in i (omega arith)) [
+          | inl u ↦ inl u
+          | inr a ↦ inr (record {
+            place = a .place;
+            there = omega (arith, a .there);
+            is = a .is ∙ sym (row-other s left (a .place) (row s k) (λ f. omega (arith, a .there)));
+          })
+        ]
+      ];
+      later = λ i h. row-other s left i (row s k) (λ f. let l = t .few in omega arith) ∙ t .later i (omega arith);
+    }
+      where
+        room : left < length s
+        room = omega (arith, t .few, t .size)
+
+    pub thinning-end : {many : ℕ} → k ≡ many → Thinned before many w s left
+    thinning-end e = record {
+      size = t .size;
+      few = omega (arith, t .few);
+      from = λ i h. rw (← e) (t .from i h);
+      left = λ i h. t .left-in i (omega arith);
+    }
+
+-- ---- growing: not at all, and told of more
+pub grown-none : {New : List ℕ → Type 0} {before : List (List ℕ)} {many : ℕ} → length before ≡ places → Grown New 0 before many before many
+grown-none {before = before} z = record { size = z; few = omega arith; from = λ k h. inr (record { place = k; there = h; is = refl }); old = λ i h. covered-itself i h refl }
+
+pub grown-as : {New New′ : List ℕ → Type 0} {more more′ : ℕ} {before : List (List ℕ)} {many : ℕ} {after : List (List ℕ)} {r : ℕ} →
+    ((v : List ℕ) → New v → New′ v) → more ≤ more′ → Grown New more before many after r → Grown New′ more′ before many after r
+grown-as f h g = record {
+  size = g .size;
+  few = omega (arith, g .few);
+  from = λ k l. elim (g .from k l) [ inl x ↦ inl (f _ x) | inr x ↦ inr x ];
+  old = g .old;
+}
+
+-- ---- joining
+module _ {before : List (List ℕ)} {many : ℕ} {w : List ℕ} where
+  pub joined-covered : length before ≡ places → Covered before many w → Joined before many w before many
+  joined-covered z c = record {
+    grown = grown-as (λ v e. e) (omega arith) (grown-none z);
+    new = c;
+  }
+
+  pub joined-new : {s : List (List ℕ)} {left : ℕ} → many < places → Thinned before many w s left → Joined before many w (set s left w) (left + 1)
+  joined-new {s} {left} h t = record {
+    grown = record {
+      size = simp length-set (t .size);
+      few = omega (arith, t .few);
+      from = λ k l. elim (ℕ-discrete k left) [
+        | yes e ↦ inl (rw e (row-same s left w room))
+        | no e ↦ inr (rw (row-other s left k w e) (t .from k (omega arith)))
+      ];
+      old = λ i l. elim (t .left i l) [
+        | inl u ↦ covered-trans there u
+        | inr a ↦ covered-itself (a .place) (omega (arith, a .there)) (a .is ∙ sym (row-other s left (a .place) w (λ f. omega (arith, a .there))))
+      ];
+    };
+    new = there;
+  }
+    where
+      room : left < length s
+      room = omega (arith, t .few, t .size)
+
+      there : Covered (set s left w) (left + 1) w
+      there = covered-itself left (omega arith) (sym (row-same s left w room))
+
+-- ---- growing further: what was below something stays below it
+module _ {New : List ℕ → Type 0} {more : ℕ} {before : List (List ℕ)} {many : ℕ} {after : List (List ℕ)} {r : ℕ} (g : Grown New more before many after r) where
+  pub grown-covered : {v : List ℕ} → Covered before many v → Covered after r v
+  grown-covered c = covered-trans (g .old (c .place) (c .there)) (c .under)
+
+  pub grown-then : {Old Both : List ℕ → Type 0} {first : List (List ℕ)} {none m : ℕ} → Grown Old m first none before many →
+      ((v : List ℕ) → Old v → Both v) → ((v : List ℕ) → New v → Both v) → Grown Both (m + more) first none after r
+  grown-then f a b = record {
+    size = g .size;
+    few = omega (arith, f .few, g .few);
+    from = λ k h. elim (g .from k h) [
+      | inl x ↦ inl (b _ x)
+      | inr i ↦ elim (f .from (i .place) (i .there)) [ inl x ↦ inl (a _ (rw (i .is) x)) | inr x ↦ inr (rw (i .is) x) ]
+    ];
+    old = λ i h. grown-covered (f .old i h);
+  }
+
+-- ---- a test for a trigger of a mask
+pub has-yes : {b c : Bool} → b ≡ c → b ≡ true → T c
+has-yes e t = subst T (sym t ∙ e) tt
+
+pub has-no : {b c : Bool} → b ≡ c → b ≡ false → ¬ (T c)
+has-no e f t = subst T (sym e ∙ f) t
+
+pub raised-by : (w wants : List ℕ) (j word : ℕ) → entry word ≡ entry (getD wants j 0) ⊕ entry (getD w j 0) → Raised w wants j (set w j word)
+unfolding meantV
+raised-by w wants j word e = record { word = word; larger = unfold meantV in e; is = refl }
+
+-- ---- branching: the first j triggers have been looked at
+module _ {w : List ℕ} {mask : ℕ} {wants : List ℕ} where
+  raised-more : {n : ℕ} (v : List ℕ) → RaisedBy w mask wants n v → RaisedBy w mask wants (n + 1) v
+  raised-more v r = record { trigger = r .trigger; below = omega (arith, r .below); kept = r .kept; raised = r .raised }
+
+  module _ {before : List (List ℕ)} {many : ℕ} where
+    pub branched-none : length before ≡ places → Branched w mask wants 0 before many before many
+    branched-none z = record { grown = grown-none z; new = λ j h b. let e : ⊥ = omega arith in absurd e }
+
+    module _ {j : ℕ} {s : List (List ℕ)} {held : ℕ} (t : Branched w mask wants j before many s held) where
+      pub branched-skip : ¬ (Has mask j) → Branched w mask wants (j + 1) before many s held
+      branched-skip h = record {
+        grown = grown-as raised-more (omega arith) (t .grown);
+        new = λ k l b. elim (ℕ-discrete k j) [ yes e ↦ absurd (h (rw (← e) b)) | no e ↦ t .new k (omega arith) b ];
+      }
+
+      pub branched-more : {v : List ℕ} {after : List (List ℕ)} {r : ℕ} → Has mask j → Raised w wants j v → Joined s held v after r →
+          Branched w mask wants (j + 1) before many after r
+      branched-more {v} h q g = record {
+        grown = grown-then (g .grown) (t .grown) raised-more (λ u e. record { trigger = j; below = omega arith; kept = h; raised = rw e q });
+        new = λ k l b. elim (ℕ-discrete k j) [
+          | yes e ↦ rw e (v, q, g .new)
+          | no e ↦ let (u, x, c) = t .new k (omega arith) b in (u, x, grown-covered (g .grown) c)
+        ];
+      }
+
+-- ---- expanding: the bounds up to place k have been raised
+module _ {bounds : List (List ℕ)} {from mask : ℕ} {wants : List ℕ} {n : ℕ} where
+  pub expanded-none : (s : List (List ℕ)) → length s ≡ places → Expanded bounds from from mask wants n s 0
+  expanded-none s z = record {
+    size = z;
+    few = omega arith;
+    made = λ k h. let e : ⊥ = omega arith in absurd e;
+    new = λ i j h l. let e : ⊥ = omega arith in absurd e;
+  }
+
+  pub expanded-more : {k held r : ℕ} {s after : List (List ℕ)} → n ≤ 6 → from ≤ k → Expanded bounds from k mask wants n s held →
+      Branched (row bounds k) mask wants n s held after r → Expanded bounds from (k + 1) mask wants n after r
+  expanded-more {k} hn hk t b = record {
+    size = b .grown .size;
+    few = omega (arith, b .grown .few, t .few);
+    made = λ i h. elim (b .grown .from i h) [
+      | inl x ↦ (k, omega arith, x)
+      | inr a ↦ let (m, hm, x) = t .made (a .place) (a .there) in (m, omega arith, rw (a .is) x)
+    ];
+    new = λ i j h l hj q. elim (ℕ-discrete i k) [
+      | yes e ↦ rw e (b .new j hj q)
+      | no e ↦ let (v, x, c) = t .new i j h (omega arith) hj q in (v, x, grown-covered (b .grown) c)
+    ];
+  }

@@ -1,0 +1,59 @@
+-- `lines::bounds::covered` meets its contract: none of the first `k` bounds lies below `w`.
+use Prim.Native.Nat.{_-_}
+use native.Mathlib.Omega.{arith}
+use Rattle.bounds.proofs.BoundLaws.{NoneTo, none-start, none-more, none-end}
+use Rattle.bounds.proofs.covered.Statement.{statement}
+use Rattle.bounds.proofs.covered.Tie as tie
+
+abbrev Inv-loop : tie.InvT-loop
+Inv-loop set many w k₀ k = NoneTo set w k
+
+abbrev μ-loop : tie.MeasureT-loop
+μ-loop set many w k₀ k = many - k
+
+loop-holds : tie.Need-loop-holds Inv-loop μ-loop
+loop-holds c = none-start _ _
+
+mul-under : tie.Need-mul-under Inv-loop μ-loop
+mul-under c = omega arith
+
+element-copy-out-under : tie.Need-element-copy-out-under Inv-loop μ-loop
+element-copy-out-under c = omega arith
+
+under-requires : tie.Need-under-requires Inv-loop μ-loop
+under-requires c κs = tt
+
+returns : tie.Need-returns Inv-loop μ-loop
+returns c = record {
+  place = c .before .before .before .before .loop .k;
+  there = c .before .before .before .loop-test .taken;
+  under = rw (c .if1 .taken) at (c .before .under .ensures);
+}
+
+add-k : tie.Need-add-k Inv-loop μ-loop
+add-k c = omega arith
+
+loop-less : tie.Need-loop-less Inv-loop μ-loop
+loop-less c = omega arith
+
+loop-again : tie.Need-loop-again Inv-loop μ-loop
+loop-again c = none-more (c .before .before .before .before .loop .inv) (rw (c .if1 .left) at (c .before .under .ensures))
+
+returns-2 : tie.Need-returns-2 Inv-loop μ-loop
+returns-2 c = none-end (c .before .loop .inv) (c .loop-test .left)
+
+pub covered-spec : {M : Type 1} → statement M
+covered-spec =
+    tie.close
+    (tie.spec
+    Inv-loop
+    μ-loop
+    loop-holds
+    mul-under
+    element-copy-out-under
+    under-requires
+    returns
+    add-k
+    loop-less
+    loop-again
+    returns-2)

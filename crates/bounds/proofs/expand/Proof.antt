@@ -1,0 +1,55 @@
+-- `lines::bounds::expand` meets its contract: the bounds up to place `k` have been raised.
+use mathlib.Core.Path.{_≡_}
+use Prim.Native.Nat.{_-_, _≤_}
+use native.Mathlib.Omega.{arith}
+use Rattle.bounds.specs.Bounds.{Expanded}
+use Rattle.bounds.proofs.BoundLaws.{expanded-none, expanded-more}
+use Rattle.bounds.proofs.expand.Statement.{statement}
+use Rattle.bounds.proofs.expand.Tie as tie
+
+abbrev Inv-loop : tie.InvT-loop
+Inv-loop next₀ set from to mask wants n held₀ k₀ next held k = (from ≤ k) × (k ≤ to) × Expanded set from k mask wants n next held
+
+abbrev μ-loop : tie.MeasureT-loop
+μ-loop next₀ set from to mask wants n held₀ k₀ next held k = to - k
+
+loop-holds : tie.Need-loop-holds Inv-loop μ-loop
+loop-holds c = (omega arith, omega (arith, c .pre .1), expanded-none _ (c .pre .4))
+
+mul-branch : tie.Need-mul-branch Inv-loop μ-loop
+mul-branch c = omega (arith, c .before .before .before .pre .3)
+
+element-copy-out-branch : tie.Need-element-copy-out-branch Inv-loop μ-loop
+element-copy-out-branch c = omega (arith, c .before .before .before .pre .3)
+
+branch-requires : tie.Need-branch-requires Inv-loop μ-loop
+branch-requires c κs = let l = c .before .before .before in let p = l .before .pre in let (a, b, e) = l .loop .inv in
+    (p .0, omega (arith, p .0, p .2, e .few, c .before .before .loop-test .taken), e .size)
+
+add-k : tie.Need-add-k Inv-loop μ-loop
+add-k c = omega arith
+
+loop-less : tie.Need-loop-less Inv-loop μ-loop
+loop-less c = omega arith
+
+loop-again : tie.Need-loop-again Inv-loop μ-loop
+loop-again c = let l = c .before .before .before .before in let (a, b, e) = l .loop .inv in
+    (omega arith, omega (arith, c .before .before .before .loop-test .taken), expanded-more (l .before .pre .0) a e (c .branch .ensures))
+
+returns : tie.Need-returns Inv-loop μ-loop
+returns c = let (a, b, i) = c .before .loop .inv in let e : c .before .loop .k ≡ c .before .before .args .to = omega (arith, b) in rw e at i
+
+pub expand-spec : {M : Type 1} → statement M
+expand-spec =
+    tie.close
+    (tie.spec
+    Inv-loop
+    μ-loop
+    loop-holds
+    mul-branch
+    element-copy-out-branch
+    branch-requires
+    add-k
+    loop-less
+    loop-again
+    returns)

@@ -1,0 +1,31 @@
+-- `lines::bounds::join` meets its contract.
+use borrow.Author.Needs.{needs}
+use Rattle.bounds.proofs.BoundLaws.{joined-covered, joined-new}
+use Rattle.bounds.proofs.join.Statement.{statement}
+use Rattle.bounds.proofs.join.Tie as tie
+
+covered-requires : tie.Need-covered-requires
+covered-requires c κs = search needs
+
+returns : tie.Need-returns
+returns c = joined-covered (c .before .before .before .pre .1) (rw (c .if1 .taken) at (c .before .covered .ensures))
+
+thin-requires : tie.Need-thin-requires
+thin-requires c κs = search needs
+
+mul-w : tie.Need-mul-w
+mul-w c = search needs
+
+element-set-from-w : tie.Need-element-set-from-w
+element-set-from-w c = search needs
+
+add-result : tie.Need-add-result
+add-result c = search needs
+
+returns-2 : tie.Need-returns-2
+returns-2 c = joined-new (c .before .before .before .before .before .pre .0) (c .thin .ensures)
+
+pub join-spec : {M : Type 1} → statement M
+join-spec =
+    tie.close
+    (tie.spec covered-requires returns thin-requires mul-w element-set-from-w add-result returns-2)

@@ -1,0 +1,2 @@
+-- What the sets of bounds hold.
+pub mod Bounds

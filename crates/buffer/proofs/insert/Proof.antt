@@ -1,0 +1,90 @@
+-- `lines::buffer::insert` meets its contract: the lines above `k` have moved.
+use mathlib.Core.Path.{_≡_, _∙_}
+use mathlib.Core.List.{[]}
+use Prim.Native.Nat.{_-_, _≤_}
+use native.Mathlib.Omega.{arith}
+use lib.ListN.{length-set}
+use Rattle.buffer.specs.Buffer.{room}
+use Rattle.buffer.proofs.BufferLaws.{Moved, moved-start, moved-more, moved-end}
+use Rattle.buffer.proofs.insert.Statement.{statement}
+use Rattle.buffer.proofs.insert.Tie as tie
+
+abbrev Inv-loop : tie.InvT-loop
+Inv-loop buf₀ len at c more k₀ buf k = (at ≤ k) × (k ≤ more - 1) × Moved [] buf₀ (more - 1) k buf
+
+abbrev μ-loop : tie.MeasureT-loop
+μ-loop buf₀ len at c more k₀ buf k = k
+
+grown-requires : tie.Need-grown-requires Inv-loop μ-loop
+grown-requires c κs = c .pre .2
+
+sub-k : tie.Need-sub-k Inv-loop μ-loop
+sub-k c = omega arith
+
+loop-holds : tie.Need-loop-holds Inv-loop μ-loop
+loop-holds c = (omega arith, omega arith, moved-start [] (c .before .args .buf .now) (c .grown .result - 1))
+
+sub-buf : tie.Need-sub-buf Inv-loop μ-loop
+sub-buf c = omega arith
+
+mul-buf : tie.Need-mul-buf Inv-loop μ-loop
+mul-buf c = omega arith
+
+element-copy-out-buf : tie.Need-element-copy-out-buf Inv-loop μ-loop
+element-copy-out-buf c = omega arith
+
+mul-t13 : tie.Need-mul-t13 Inv-loop μ-loop
+mul-t13 c = omega arith
+
+element-set-from-buf : tie.Need-element-set-from-buf Inv-loop μ-loop
+element-set-from-buf c = omega arith
+
+sub-k-2 : tie.Need-sub-k-2 Inv-loop μ-loop
+sub-k-2 c = omega arith
+
+loop-less : tie.Need-loop-less Inv-loop μ-loop
+loop-less c = omega arith
+
+loop-again : tie.Need-loop-again Inv-loop μ-loop
+loop-again c = let s = c .before .before .before .before in let l = c .before .before .loop in let m = c .before .before .before .grown .result in (
+  omega arith,
+  omega arith,
+  moved-more [] (s .args .buf .now) (m - 1) (l .k) (l .buf) (omega arith) (omega arith) (l .inv .2),
+)
+
+mul-c : tie.Need-mul-c Inv-loop μ-loop
+mul-c c = omega arith
+
+element-set-from-c : tie.Need-element-set-from-c Inv-loop μ-loop
+element-set-from-c c = omega arith
+
+returns : tie.Need-returns Inv-loop μ-loop
+returns c = let s = c .before .before .before in let l = c .before .loop in let m = c .before .before .grown .result in
+    let e : l .k ≡ s .args .at = omega arith in
+    record {
+      size = length-set (l .buf) (s .args .at) (s .args .c) ∙ l .inv .2 .size ∙ s .pre .3;
+      few = omega arith;
+      rows = moved-end [] room (s .args .buf .now) (s .args .len) (s .args .at) m (l .buf) (s .args .c) (s .pre .3) (s .pre .0) (s .pre .2)
+          (omega arith) (c .before .before .grown .ensures) (rw e at (l .inv .2));
+    }
+
+pub insert-spec : {M : Type 1} → statement M
+insert-spec =
+    tie.close
+    (tie.spec
+    Inv-loop
+    μ-loop
+    grown-requires
+    sub-k
+    loop-holds
+    sub-buf
+    mul-buf
+    element-copy-out-buf
+    mul-t13
+    element-set-from-buf
+    sub-k-2
+    loop-less
+    loop-again
+    mul-c
+    element-set-from-c
+    returns)

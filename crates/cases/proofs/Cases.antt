@@ -1,0 +1,224 @@
+-- Document 01's cases marked P as one table about the operations themselves: for each the sheet, what is lent, what the operation returns and
+-- what it leaves. A case holds where the operation's contract allows nothing else. `Learnt` of an operation is its contract as a caller has
+-- it: the toolchain reads it from the `ensures` in the source, so that another contract there makes another claim here.
+use mathlib.Core.Path.{_≡_, refl, ap, subst, _∙_}
+use mathlib.Core.Bool.{decide}
+use mathlib.Core.List.{List, [], _∷_, _++_}
+use Prim.Native.Nat.{ℕ, _-_, _<_}
+use Prim.Native.Nat as nat
+use native.Mathlib.Omega.{arith}
+use lib.Dec.{lit<}
+use Prim.Native.String.{String}
+use Prim.Native.String as string
+use native.Mathlib.Decide.{decLe}
+use lib.IntN.{ℤ, pos, negsuc}
+use lib.ListN.{length, replicate}
+use contract.Lifetimes.{Lfts}
+use denote.Ref.{RefT}
+use Rattle.maxplus.specs.Whole.{_+z_, neg, maxz}
+use Rattle.maxplus.specs.Entry.{absent, num, _⊗_, _⊕_, inv, val, Present}
+use Rattle.maxplus.specs.Finite.{each, mapL, sum}
+use Rattle.maxplus.specs.Tables.{sup, supL, mv, mm, idm, power, star, NoGain, normal}
+use Rattle.maxplus.specs.Line.{at, line}
+use Rattle.maxplus.specs.Sorted.{put, sift}
+use Rattle.maxplus.proofs.WholeLaws.{z-dec}
+use Rattle.maxplus.proofs.EntryLaws.{≼-dec, present-dec, same-entry?}
+use Rattle.maxplus.proofs.FiniteLaws.{all-or, all-dec, any-dec, dec-×, dec-¬, dec-→, decide-yes, decide-of}
+use Rattle.maxplus.proofs.LineLaws.{ltE-cmp, ltL-cmp, strict, same?}
+use Rattle.maxplus.proofs.CombinationLaws.{under-dec, met?, asked?, combination?}
+use Rattle.maxplus.proofs.StarLaws.{gain-or, no-gain?}
+use Rattle.generators.specs.Minimal.{others, needed?, minimal}
+use Rattle.cue.specs.Meaning.{Tables, Tightest, Keeps, overdue, shortfall, deviation, Readable}
+use Rattle.cue.specs.Method.{through, pullE, pull, leastE, least, floor-panels, serves-as-well, cut, walk, fixings, kept, kept-byte, kept-count}
+use Rattle.cue.specs.Method.{selections, steps, need, seed, ray, candidate, candidates, lines}
+use Rattle.cue.proofs.Order.{keeps?}
+use Rattle.cue.proofs.Deviation.{tightest?}
+use Rattle.sheet.specs.Text.{bytes}
+use Rattle.sheet.specs.Sheet.{literal, value, behind, signed, item, ended, items, any, checked, rows, row, table, tables, read}
+use Rattle.sheet.specs.Sheet as sheet
+use Rattle.cue.specs.Written.{line-words, list-words}
+use Rattle.timing.specs.Times.{component}
+use Rattle.timing.specs.declared.Timing.{Timing}
+use Rattle.writing.specs.Numerals.{digits}
+use Rattle.writing.specs.Texts.{joined, line-texts, plan-text, refusal-text, full-text}
+use Rattle.orderly.specs.Orderly.{orderly}
+use Rattle.planning.specs.Planning.{planning, space-after, plan-answer}
+use Rattle.keeping.specs.Keeping.{keeping, kept-answer}
+use Rattle.testing.specs.Testing.{Testing, test-answer}
+use Rattle.planning.specs.Planning as outcome
+use Rattle.planning.specs.Text.{text, program-text}
+use Rattle.keeping.specs.declared.KeptTable.{KeptTable}
+use Rattle.planning.specs.declared.CuePlan.{CuePlan}
+use Rattle.testing.specs.declared.Tested.{Tested}
+use Rattle.testing.specs.declared.Tested.the-variants.{Yes, No}
+use Rattle.testing.proofs.TestLaws.{tested-one}
+use Rattle.keeping.proofs.kept_table.Reads as kept_table
+use Rattle.planning.proofs.plan.Reads as plan
+use Rattle.testing.proofs.test_timing.Reads as test_timing
+
+-- ---- what a case says
+pub data Case : Type 0 where
+  plans : (sheet : String) (lent : List ℤ) (answer : CuePlan) (left : List ℤ) → Case
+  keeps : (sheet : String) (answer : KeptTable) → Case
+  tests : (sheet : String) (times : List ℤ) (answer : Tested) → Case
+
+-- whatever references a caller hands over to these bytes and words: what the contract allows is the case's answer, and what is left
+abbrev pub Holds : Case → Type 0
+Holds (plans s lent r left) = (κs : Lfts 2) (sheet : RefT (List ℕ)) (before after : RefT (List ℤ)) (q : CuePlan) →
+    sheet .now ≡ bytes s → before .now ≡ lent → plan.Learnt κs (sheet, (before, tt)) q (sheet, (after, tt)) → (q ≡ r) × (after .now ≡ left)
+Holds (keeps s r) = (κs : Lfts 1) (sheet : RefT (List ℕ)) (q : KeptTable) →
+    sheet .now ≡ bytes s → kept_table.Learnt κs (sheet, tt) q (sheet, tt) → q ≡ r
+Holds (tests s times r) = (κs : Lfts 1) (sheet : RefT (List ℕ)) (timing : Timing) (rest : List ℤ) (q : Tested) →
+    sheet .now ≡ bytes s → timing ≡ record { count = length times; at = times ++ rest } →
+    test_timing.Learnt κs (sheet, (timing, tt)) q (sheet, (timing, tt)) → q ≡ r
+
+infixr 4 _then_
+pub data Every (P : Case → Type 0) : List Case → Type 0 where
+  done : Every P []
+  _then_ : {c : Case} {l : List Case} → P c → Every P l → Every P (c ∷ l)
+
+-- ---- the table
+-- triggers, deviation, steps, selections, count
+abbrev planned : ℕ → ℤ → ℕ → ℕ → ℕ → CuePlan
+planned n D k l c = record { refusal = 0; triggers = n; deviation = D; steps = k; selections = l; count = c }
+
+abbrev full : ℕ → CuePlan
+full c = record { refusal = 9; triggers = 0; deviation = pos 0; steps = 0; selections = 0; count = c }
+
+abbrev no-plan : ℕ → CuePlan
+no-plan k = record { refusal = k; triggers = 0; deviation = pos 0; steps = 0; selections = 0; count = 0 }
+
+-- of each panel on the sheet; 0 past them
+abbrev six-of : List ℕ → List ℕ
+six-of l = l ++ replicate (6 - length l) 0
+
+-- deviation, steps, selections, each panel's byte, and its number of bits
+abbrev kept-triggers : ℤ → ℕ → ℕ → List ℕ → List ℕ → KeptTable
+kept-triggers D k l b c = record { refusal = 0; deviation = D; panels = length b; kept = six-of b; counts = six-of c; steps = k; selections = l }
+
+abbrev no-table : ℕ → KeptTable
+no-table k = record { refusal = k; deviation = pos 0; panels = 0; kept = six-of []; counts = six-of []; steps = 0; selections = 0 }
+
+abbrev absent-word : ℤ
+absent-word = negsuc 0x7fff_ffff
+
+-- k words that no plan writes
+abbrev old : ℕ → List ℤ
+old k = replicate k (pos 12345)
+
+-- the words of a line of one trigger, and of two
+abbrev one : ℤ → List ℤ
+one a = pos 1 ∷ a ∷ replicate 5 absent-word
+
+abbrev two : ℤ → ℤ → List ℤ
+two a b = pos 2 ∷ a ∷ b ∷ replicate 4 absent-word
+
+-- "sheets of one panel and one trigger, lag 5, floor 0, due 0"
+abbrev one-by-one : String → String
+one-by-one after = string._++_ "panels=1\ntriggers=1\nlag=5\nfloor=0\ndue=0\nafter=" (string._++_ after "\n")
+
+abbrev ordered : String
+ordered = "panels=1\ntriggers=2\nlag=0,0\nfloor=0\ndue=0,0\nafter=-,-\nafter=1,-\n"
+
+abbrev one-floor : String
+one-floor = "panels=2\ntriggers=2\nlag=0,-\nlag=-,0\nfloor=0,-\ndue=0,0\nafter=-,-\nafter=-,-\n"
+
+abbrev whole-case : String
+whole-case = "panels=2\ntriggers=2\nlag=2,0\nlag=4,1\nfloor=5,2\ndue=1,2\nafter=-,-\nafter=-,-\n"
+
+-- what document 01 gives of a case, and the definition's value where it gives none
+abbrev pub cases : List Case
+cases =
+    plans (one-by-one "-") (old 9) (planned 1 (negsuc 4) 1 1 1) (one (pos 0) ++ old 2) ∷
+    plans (one-by-one "0") (old 7) (planned 1 (negsuc 4) 1 1 1) (one (pos 0)) ∷
+    plans (one-by-one "1") (old 7) (no-plan 8) (old 7) ∷
+    plans (one-by-one "-1") (old 7) (planned 1 (negsuc 4) 1 1 1) (one (pos 0)) ∷
+    plans ordered (old 14) (planned 2 (pos 0) 2 2 2) (two absent-word (pos 0) ++ two (negsuc 0) (pos 0)) ∷
+    plans one-floor (old 15) (planned 2 (pos 0) 1 1 2) (two (pos 0) absent-word ++ two (pos 0) (pos 0) ++ old 1) ∷
+    plans whole-case (old 14) (planned 2 (pos 2) 2 1 2) (two (negsuc 0) (pos 0) ++ two (pos 0) absent-word) ∷
+    plans whole-case (old 7) (full 2) (old 7) ∷
+    plans whole-case (old 13) (full 2) (old 13) ∷
+    keeps (one-by-one "-") (kept-triggers (negsuc 4) 1 1 (1 ∷ []) (1 ∷ [])) ∷
+    keeps (one-by-one "0") (kept-triggers (negsuc 4) 1 1 (1 ∷ []) (1 ∷ [])) ∷
+    keeps (one-by-one "1") (no-table 8) ∷
+    keeps (one-by-one "-1") (kept-triggers (negsuc 4) 1 1 (1 ∷ []) (1 ∷ [])) ∷
+    keeps ordered (kept-triggers (pos 0) 2 2 (3 ∷ []) (2 ∷ [])) ∷
+    keeps one-floor (kept-triggers (pos 0) 1 1 (1 ∷ 0 ∷ []) (1 ∷ 0 ∷ [])) ∷
+    keeps whole-case (kept-triggers (pos 2) 2 1 (1 ∷ 3 ∷ []) (1 ∷ 2 ∷ [])) ∷
+    tests whole-case (pos 0 ∷ pos 0 ∷ []) Yes ∷
+    tests whole-case (pos 0 ∷ pos 1 ∷ []) Yes ∷
+    tests whole-case (pos 0 ∷ pos 2 ∷ []) No ∷
+    []
+
+-- ---- a case holds by the value of its definition
+abbrev Computed : Case → Type 0
+Computed (plans s lent r left) =
+    (plan-answer (planning (bytes s) lent) ≡ r) × (space-after (planning (bytes s) lent) lent ≡ left)
+Computed (keeps s r) = kept-answer (keeping (bytes s)) ≡ r
+Computed (tests s times r) = (rest : List ℤ) → Testing (bytes s) (length times) (component (times ++ rest)) (test-answer r)
+
+holds : (c : Case) → Computed c → Holds c
+holds (plans s lent r left) (e, w) = λ κs sheet before after q b l (f, v). (
+  f ∙ ap (λ s. plan-answer (planning s (before .now))) b ∙ ap (λ l. plan-answer (planning (bytes s) l)) l ∙ e,
+  v ∙ ap (λ s. space-after (planning s (before .now)) (before .now)) b ∙ ap (λ l. space-after (planning (bytes s) l) l) l ∙ w,
+)
+holds (keeps s r) e = λ κs sheet q b f. f ∙ ap (λ s. kept-answer (keeping s)) b ∙ e
+holds (tests s times r) e = λ κs sheet timing rest q b t h.
+    tested-one (bytes s) (length times) (component (times ++ rest)) q r
+    (subst (λ (t : Timing). Testing (bytes s) (t .count) (component (t .at)) (test-answer q)) t
+    (subst (λ s. Testing s (timing .count) (component (timing .at)) (test-answer q)) b h)) (e rest)
+
+all-hold : {l : List Case} → Every Computed l → Every Holds l
+all-hold done = done
+all-hold (_then_ {c} h k) = holds c h then all-hold k
+
+-- ---- "in the whole case, times 0,0 and 0,1 are tightest; 0,2 is not"
+abbrev whole : Tables
+whole =
+    record {
+      panels = 2;
+      lag = table ((num (pos 2) ∷ num (pos 0) ∷ []) ∷ (num (pos 4) ∷ num (pos 1) ∷ []) ∷ []);
+      floor = row (num (pos 5) ∷ num (pos 2) ∷ []);
+      due = λ j. val (row (num (pos 1) ∷ num (pos 2) ∷ []) j);
+      after = table ((absent ∷ absent ∷ []) ∷ (absent ∷ absent ∷ []) ∷ []);
+    }
+
+whole-readable : Readable 2 whole
+unfolding row table
+whole-readable =
+    record {
+      trigger = lit< tt;
+      floored = (0, lit< tt, (pos 5, refl));
+      lagged = lagged;
+    }
+  where
+    lagged : (i : ℕ) → i < 2 → (j : ℕ) × (j < 2) × Present (whole .lag i j)
+    lagged nat.zero h = (0, lit< tt, (pos 2, refl))
+    lagged (nat.suc nat.zero) h = (0, lit< tt, (pos 4, refl))
+    lagged (nat.suc (nat.suc i)) h = absurd (let e : ⊥ = omega arith in e)
+
+whole-ordered : NoGain 2 (whole .after)
+unfolding row table no-gain? gain-or mm mv power idm sup supL _⊗_ _⊕_ ≼-dec all-or all-dec decide
+whole-ordered = decide-yes (no-gain? 2 (whole .after)) tt
+
+-- ---- the whole table
+pub cases-hold : Every Holds cases
+unfolding planning space-after keeping kept-byte kept-count Testing tightest? keeps? Keeps same-entry? deviation shortfall orderly line-words list-words read sheet.lines sheet.line rows tables checked any ended items item signed value behind literal row table bytes least leastE steps selections lines minimal needed? others combination? asked? met? under-dec fixings walk kept cut serves-as-well floor-panels through pull pullE overdue need seed ray candidate candidates no-gain? gain-or mm mv star power idm normal sup supL at line put sift each mapL sum val inv _⊗_ _⊕_ maxz _+z_ neg decLe z-dec ≼-dec present-dec all-or all-dec any-dec dec-× dec-¬ dec-→ ltE-cmp ltL-cmp strict same? decide
+cases-hold =
+    all-hold
+    ((refl, refl) then (refl, refl) then (refl, refl) then (refl, refl) then (refl, refl) then (refl, refl) then (refl, refl) then (refl, refl) then (refl, refl) then
+    refl then refl then refl then refl then refl then refl then refl then
+    (λ rest. decide-yes (asked 0 rest) tt) then
+    (λ rest. decide-yes (asked 1 rest) tt) then
+    (λ rest t. decide-of (asked 2 rest) t) then
+    done)
+  where
+    asked : (b : ℕ) (rest : List ℤ) → Dec (Tightest 2 whole (component (pos 0 ∷ pos b ∷ rest)))
+    asked b rest = tightest? 2 whole whole-readable whole-ordered (component (pos 0 ∷ pos b ∷ rest))
+
+-- ---- "writes", for the whole case, for a refusal and for 9
+pub texts-hold : mapL program-text (bytes whole-case ∷ bytes (one-by-one "1") ∷ bytes "" ∷ []) ++ text (outcome.full 2) ∷ [] ≡
+    bytes "deviation=2\nsteps=2\nselections=1\ncount=2\nline=-1,0\nline=0,-\n" ∷ bytes "refused=8\n" ∷ bytes "refused=2\n" ∷
+    bytes "refused=9\ncount=2\n" ∷ []
+unfolding program-text text plan-text refusal-text full-text line-texts joined digits orderly line-words list-words read sheet.lines sheet.line rows tables checked any ended items item signed value behind literal row table bytes least leastE steps selections lines minimal needed? others combination? asked? met? under-dec fixings walk kept cut serves-as-well floor-panels through pull pullE overdue need seed ray candidate candidates no-gain? gain-or mm mv star power idm normal sup supL at line put sift each mapL sum val inv _⊗_ _⊕_ maxz _+z_ neg decLe z-dec ≼-dec present-dec all-or all-dec any-dec dec-× dec-¬ dec-→ ltE-cmp ltL-cmp strict same?
+texts-hold = refl

@@ -1,0 +1,2 @@
+-- Document 01's P cases.
+pub mod Cases

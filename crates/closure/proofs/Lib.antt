@@ -1,0 +1,2 @@
+-- Laws of the test for extreme.
+pub mod ExtremeLaws

@@ -1,0 +1,318 @@
+-- Comparing two sheets: words one by one, what planning refuses with no room, and the answer by demand 3.
+use mathlib.Core.Path.{_≡_, refl, ap, sym, subst, _∙_}
+use mathlib.Core.List.{List}
+use mathlib.Core.Bool.{Bool, true, false, cond, not}
+use Prim.Native.Nat.{ℕ, _+_, _*_, _/_, _≤_, _<_}
+use native.Mathlib.Numerals.{add-one}
+use native.Mathlib.Omega.{arith}
+use native.Mathlib.Decide.{decLt}
+use borrow.Author.Tests.{leb-true, leb-false}
+use mir.Syntax.{w32}
+use mir.Val.{toZ, ofZ, SFits}
+use mir.Facts.{toZ-ofZ}
+use lib.Dec.{leb, eqb}
+use lib.IntN.{ℤ, pos}
+use lib.ListN.{length, take, getD}
+use lib.Seq.{take-suc, getD-take}
+use Rattle.maxplus.specs.Line.{Line}
+use Rattle.maxplus.specs.Tables.{NoGain}
+use Rattle.maxplus.proofs.StarLaws.{no-gain?}
+use Rattle.cue.specs.Method.{lines}
+use Rattle.sheet.specs.Sheet.{Got, got, Sheet, read}
+use Rattle.sheet.specs.Sheet as sheet
+use Rattle.reading.proofs.Refusals.{refusal-numbered}
+use Rattle.known.specs.Cue.{tables-of}
+use Rattle.tables.specs.Held.{Says}
+use Rattle.planning.specs.Planning.{Outcome, planned, full, refused, plan-of, planning, space-after, plan-answer}
+use Rattle.orderly.specs.Orderly.{orderly}
+use Rattle.comparing.specs.Inner.{Refuses}
+use Rattle.planning.specs.Demands.{Planned, count-of}
+use Rattle.comparing.specs.Comparing.{Comparison, answer, unlike, first-refused, second-refused, Alike, Likens, Compares, Comparing, compared-space}
+use Rattle.planning.specs.declared.CuePlan.{CuePlan}
+use Rattle.comparing.specs.declared.Refusal.{Refusal}
+use Rattle.planning.proofs.Demands.{known, demand-3}
+use Rattle.orderly.proofs.OrderlyLaws.{ordered, orderly-refused}
+use Rattle.planning.proofs.PlanLaws.{planning-refused}
+use Rattle.maxplus.proofs.FiniteLaws.{equal, unequal}
+
+-- ---- the first words of two spaces
+pub same-at : (k i : ℕ) (a b : List ℤ) → i < k → take k a ≡ take k b → getD a i (pos 0) ≡ getD b i (pos 0)
+same-at k i a b h e = sym (getD-take k a i (pos 0) h) ∙ ap (λ l. getD l i (pos 0)) e ∙ getD-take k b i (pos 0) h
+
+pub same-more : (i : ℕ) (a b : List ℤ) → i < length a → i < length b → take i a ≡ take i b → getD a i (pos 0) ≡ getD b i (pos 0) →
+    take (i + 1) a ≡ take (i + 1) b
+same-more i a b p q e h = rw (add-one, take-suc a i (pos 0) p, take-suc b i (pos 0) q) (cc)
+
+pub said-yes : {P : Type 0} {b : Bool} → b ≡ true → Says P b → P
+said-yes {P} e h = subst (Says P) e h
+
+pub said-no : {P : Type 0} {b : Bool} → b ≡ false → Says P b → ¬ P
+said-no {P} e h = subst (Says P) e h
+
+-- two numbers with the same word
+pub same-word : {x y : ℤ} → SFits w32 x → SFits w32 y → ofZ w32 x ≡ ofZ w32 y → x ≡ y
+same-word p q e = sym (toZ-ofZ p) ∙ ap (toZ w32) e ∙ toZ-ofZ q
+
+-- ---- what planning refuses, from what it answers with no room: the count is the same, and 9 stands only where the count is more than the room
+module _ (n : ℕ) (D : ℤ) (k l : ℕ) (L : List (Line n)) where
+  abbrev with : ℕ → CuePlan
+  with room = plan-answer (cond (leb (length L) room) (planned n D k l L) (full (length L)))
+
+  counted : (room : ℕ) → with room .count ≡ length L
+  counted room = go (leb (length L) room)
+    where
+      go : (b : Bool) → plan-answer (cond b (planned n D k l L) (full (length L))) .count ≡ length L
+      go true = refl
+      go false = refl
+
+  room-for : (room : ℕ) → length L ≤ room → with room .refusal ≡ 0
+  room-for room h = go (leb (length L) room) (leb-false (length L) room)
+    where
+      go : (b : Bool) → (b ≡ false → room < length L) → plan-answer (cond b (planned n D k l L) (full (length L))) .refusal ≡ 0
+      go true f = refl
+      go false f = let q = f refl in let x : ⊥ = omega arith in absurd x
+
+  no-room-for : (room : ℕ) → room < length L → with room .refusal ≡ 9
+  no-room-for room h = go (leb (length L) room) (leb-true (length L) room)
+    where
+      go : (b : Bool) → (b ≡ true → length L ≤ room) → plan-answer (cond b (planned n D k l L) (full (length L))) .refusal ≡ 9
+      go true f = let q = f refl in let x : ⊥ = omega arith in absurd x
+      go false f = refl
+
+-- the answer p with no room, and the one with room for some lines
+module _ (g : Got Sheet) (p : CuePlan) (e : p ≡ plan-answer (plan-of 0 g)) (room : ℕ) where
+  abbrev Found : ℕ → Type 0
+  Found k = Refuses (record { number = k; count = p .count }) (plan-answer (plan-of room g))
+
+  found-enough : 0 < p .count → p .count ≤ room → Found 0
+  found-enough = go g e
+    where
+      go : (g : Got Sheet) → p ≡ plan-answer (plan-of 0 g) → 0 < p .count → p .count ≤ room →
+          Refuses (record { number = 0; count = p .count }) (plan-answer (plan-of room g))
+      go (sheet.refused k) e h f = let x : ⊥ = omega (arith, ap (λ (p : CuePlan). p .count) e) in absurd x
+      go (got t r) e h f =
+          let L = lines (t .triggers) (tables-of t) in
+          let c = ap (λ (p : CuePlan). p .count) e ∙ counted (t .triggers) _ _ _ L 0 in
+          record { number = sym (room-for (t .triggers) _ _ _ L room (omega arith)); count = c ∙ sym (counted (t .triggers) _ _ _ L room) }
+
+  found-short : (0 < p .count → room < p .count) → Found (p .refusal)
+  found-short = go g e
+    where
+      go : (g : Got Sheet) → p ≡ plan-answer (plan-of 0 g) → (0 < p .count → room < p .count) →
+          Refuses (record { number = p .refusal; count = p .count }) (plan-answer (plan-of room g))
+      go (sheet.refused k) e f = record { number = ap (λ (p : CuePlan). p .refusal) e; count = ap (λ (p : CuePlan). p .count) e }
+      go (got t r) e f =
+          let L = lines (t .triggers) (tables-of t) in
+          let c = ap (λ (p : CuePlan). p .count) e ∙ counted (t .triggers) _ _ _ L 0 in
+          record {
+            number = ap (λ (p : CuePlan). p .refusal) e ∙ elim (decLt 0 (length L)) [
+              | yes h ↦ no-room-for (t .triggers) _ _ _ L 0 h ∙ sym (no-room-for (t .triggers) _ _ _ L room (let q = f (omega arith) in omega arith))
+              | no h ↦ room-for (t .triggers) _ _ _ L 0 (omega arith) ∙ sym (room-for (t .triggers) _ _ _ L room (omega arith))
+            ];
+            count = c ∙ sym (counted (t .triggers) _ _ _ L room);
+          }
+
+module _ (s : List ℕ) (none : List ℤ) (few : length none / 7 ≡ 0) (p : CuePlan) (e : p ≡ plan-answer (planning s none)) (words : ℕ)
+    (space : List ℤ) (same : length space ≡ words) where
+  at-none : p ≡ plan-answer (plan-of 0 (orderly s))
+  unfolding planning
+  at-none = e ∙ ap (λ k. plan-answer (plan-of k (orderly s))) few
+
+  at-space : (k : ℕ) → Found (orderly s) p at-none (words / 7) k → Refuses (record { number = k; count = p .count }) (plan-answer (planning s space))
+  unfolding planning
+  at-space k = subst (λ w. Refuses (record { number = k; count = p .count }) (plan-answer (plan-of (w / 7) (orderly s)))) (sym same)
+
+  pub refused-enough : 0 < p .count → p .count ≤ words / 7 → Refuses (record { number = 0; count = p .count }) (plan-answer (planning s space))
+  refused-enough h f = at-space 0 (found-enough (orderly s) p at-none (words / 7) h f)
+
+  pub refused-short : (0 < p .count → words / 7 < p .count) → Refuses (record { number = p .refusal; count = p .count }) (plan-answer (planning s space))
+  refused-short f = at-space (p .refusal) (found-short (orderly s) p at-none (words / 7) f)
+
+-- ---- two sheets of which each is planned
+pub planned-read : (s : List ℕ) (space : List ℤ) → Planned (planning s space) → (t : Sheet) × (r : List ℕ) × (read s ≡ got t r)
+planned-read s space h = go (read s) refl
+  where
+    go : (g : Got Sheet) → read s ≡ g → (t : Sheet) × (r : List ℕ) × (read s ≡ got t r)
+    go (got t r) e = (t, r, e)
+    go (sheet.refused k) e = absurd (subst Planned (planning-refused s space k e) h)
+
+pub front-fits : (s : List ℕ) (space : List ℤ) → Planned (planning s space) → 7 * plan-answer (planning s space) .count ≤ length space
+unfolding planning
+front-fits s space = go (orderly s)
+  where
+    whole : (n : ℕ) (D : ℤ) (k l : ℕ) (L : List (Line n)) (b : Bool) → (b ≡ true → length L ≤ length space / 7) →
+        Planned (cond b (planned n D k l L) (full (length L))) → 7 * plan-answer (cond b (planned n D k l L) (full (length L))) .count ≤ length space
+    whole n D k l L true f h = let q = f refl in omega arith
+    whole n D k l L false f h = absurd h
+
+    go : (g : Got Sheet) → Planned (plan-of (length space / 7) g) → 7 * plan-answer (plan-of (length space / 7) g) .count ≤ length space
+    go (sheet.refused k) h = absurd h
+    go (got t r) h = whole _ _ _ _ (lines (t .triggers) (tables-of t)) (leb (length (lines (t .triggers) (tables-of t))) (length space / 7))
+        (leb-true (length (lines (t .triggers) (tables-of t))) (length space / 7)) h
+
+accepted : (o : Outcome) → Planned o → plan-answer o .refusal ≡ 0
+accepted (planned n D k l L) h = refl
+accepted (full k) h = absurd h
+accepted (refused k) h = absurd h
+
+count-is : (o : Outcome) → plan-answer o .count ≡ count-of o
+count-is (planned n D k l L) = refl
+count-is (full k) = refl
+count-is (refused k) = refl
+
+-- P and Q are what the two plannings answered, `front` and `back` what they left
+module _ (s₁ s₂ : List ℕ) (left right : List ℤ) (h₁ : Planned (planning s₁ left)) (h₂ : Planned (planning s₂ right)) (P Q : CuePlan)
+    (p : P ≡ plan-answer (planning s₁ left)) (q : Q ≡ plan-answer (planning s₂ right)) where
+  comparing : (r : Comparison) →
+      cond (not (eqb (P .triggers) (Q .triggers))) (r ≡ unlike (P .count) (Q .count)) (Likens (read s₁) (read s₂) (P .count) (Q .count) r) →
+      Comparing s₁ s₂ left right r
+  unfolding Comparing
+  comparing r h = subst (λ p. Compares p (plan-answer (planning s₂ right)) (read s₁) (read s₂) r) p (subst (λ q. Compares P q (read s₁) (read s₂) r) q
+      (rw (ap (λ (p : CuePlan). p .refusal) p ∙ accepted (planning s₁ left) h₁, ap (λ (p : CuePlan). p .refusal) q ∙ accepted (planning s₂ right) h₂) h))
+
+  pub unlike-answer : ¬ (P .triggers ≡ Q .triggers) → Comparing s₁ s₂ left right (unlike (P .count) (Q .count))
+  unlike-answer f = comparing _ (rw (unequal (P .triggers) (Q .triggers) f) refl)
+
+  module _ (front back : List ℤ) (w₁ : front ≡ space-after (planning s₁ left) left) (w₂ : back ≡ space-after (planning s₂ right) right)
+      (k : P .triggers ≡ Q .triggers) where
+    abbrev Equal : Type 0
+    Equal = (P .count ≡ Q .count) × (take (7 * P .count) front ≡ take (7 * P .count) back)
+
+    c₁ : P .count ≡ count-of (planning s₁ left)
+    c₁ = ap (λ (p : CuePlan). p .count) p ∙ count-is (planning s₁ left)
+
+    c₂ : Q .count ≡ count-of (planning s₂ right)
+    c₂ = ap (λ (p : CuePlan). p .count) q ∙ count-is (planning s₂ right)
+
+    -- the two lists are equal exactly when the same timings are tightest
+    judged : (b : Bool) → cond b Equal (¬ Equal) → Comparing s₁ s₂ left right (answer b (P .count) (Q .count))
+    judged b h = comparing _ (rw (equal (P .triggers) (Q .triggers) k) (go (planned-read s₁ left h₁) (planned-read s₂ right h₂)))
+      where
+        go : (t : Sheet) × (r : List ℕ) × (read s₁ ≡ got t r) → (t : Sheet) × (r : List ℕ) × (read s₂ ≡ got t r) →
+            Likens (read s₁) (read s₂) (P .count) (Q .count) (answer b (P .count) (Q .count))
+        go (t, m, e) (u, w, f) =
+            let x = ap (λ (p : CuePlan). p .triggers) p ∙ ap (λ o. plan-answer o .triggers) (known s₁ t m e left h₁ .plan-is) in
+            let y = ap (λ (p : CuePlan). p .triggers) q ∙ ap (λ o. plan-answer o .triggers) (known s₂ u w f right h₂ .plan-is) in
+            let d = demand-3 s₁ s₂ t u m w left right e f (sym x ∙ k ∙ y) h₁ h₂ in
+            rw (e, f) (b, decided (Alike t u) (λ q. d .0 (sym c₁ ∙ q .0 ∙ c₂, cc (c₁, c₂))) (λ a. let l = d .1 a in (c₁ ∙ l .0 ∙ sym c₂, cc (c₁))) b h, refl)
+          where
+            decided : (A : Type 0) → (Equal → A) → (A → Equal) → (b : Bool) → cond b Equal (¬ Equal) → cond b A (¬ A)
+            decided A f g true h = f h
+            decided A f g false h = λ a. h (g a)
+
+    pub same-answer : P .count ≡ Q .count → take (7 * P .count) front ≡ take (7 * P .count) back → Comparing s₁ s₂ left right (answer true (P .count) (P .count))
+    same-answer c e = subst (λ d. Comparing s₁ s₂ left right (answer true (P .count) d)) (sym c) (judged true (c, e))
+
+    pub different-answer : ¬ Equal → Comparing s₁ s₂ left right (answer false (P .count) (Q .count))
+    different-answer = judged false
+
+-- ---- a refusal, or none
+orderly-numbered : (s : List ℕ) (k : ℕ) → orderly s ≡ sheet.refused k → 1 ≤ k
+orderly-numbered s k e = go (read s) refl
+  where
+    go : (g : Got Sheet) → read s ≡ g → 1 ≤ k
+    go (sheet.refused j) r = refusal-numbered s k (r ∙ sym (orderly-refused s j r) ∙ e)
+    go (got t m) r = other (no-gain? (t .triggers) (t .after)) (sym (ordered s t m r) ∙ e)
+      where
+        other : (d : Dec (NoGain (t .triggers) (t .after))) → _≡_ {A = Got Sheet} (elim d [ yes h ↦ got t m | no h ↦ sheet.refused 8 ]) (sheet.refused k) → 1 ≤ k
+        other (yes h) q = let z : _≡_ {A = ℕ} 0 1 = cc in let x : ⊥ = omega arith in absurd x
+        other (no h) q = let z : k ≡ 8 = cc in omega arith
+
+pub none-refused : (s : List ℕ) (space : List ℤ) → plan-answer (planning s space) .refusal ≡ 0 → Planned (planning s space)
+unfolding planning
+none-refused s space = go (orderly s) refl
+  where
+    whole : (n : ℕ) (D : ℤ) (k l : ℕ) (L : List (Line n)) (b : Bool) → plan-answer (cond b (planned n D k l L) (full (length L))) .refusal ≡ 0 →
+        Planned (cond b (planned n D k l L) (full (length L)))
+    whole n D k l L true h = tt
+    whole n D k l L false h = let x : ⊥ = omega arith in absurd x
+
+    go : (g : Got Sheet) → orderly s ≡ g → plan-answer (plan-of (length space / 7) g) .refusal ≡ 0 → Planned (plan-of (length space / 7) g)
+    go (sheet.refused k) e h = let x : ⊥ = omega (arith, orderly-numbered s k e) in absurd x
+    go (got t r) e h = whole _ _ _ _ (lines (t .triggers) (tables-of t)) (leb (length (lines (t .triggers) (tables-of t))) (length space / 7)) h
+
+module _ (o p : Outcome) (space : List ℤ) where
+  -- the space of a refused sheet, and the one beside it
+  own-kept : ¬ (plan-answer o .refusal ≡ 0) → space ≡ compared-space o p space
+  unfolding compared-space space-after
+  own-kept f = go o p f
+    where
+      go : (o p : Outcome) → ¬ (plan-answer o .refusal ≡ 0) → space ≡ compared-space o p space
+      go (planned n D k l L) p f = absurd (f refl)
+      go (full c) (planned n D k l L) f = refl
+      go (full c) (full k) f = refl
+      go (full c) (refused k) f = refl
+      go (refused c) (planned n D k l L) f = refl
+      go (refused c) (full k) f = refl
+      go (refused c) (refused k) f = refl
+
+  other-kept : ¬ (plan-answer p .refusal ≡ 0) → space ≡ compared-space o p space
+  unfolding compared-space
+  other-kept f = go p f
+    where
+      go : (p : Outcome) → ¬ (plan-answer p .refusal ≡ 0) → space ≡ compared-space o p space
+      go (planned n D k l L) f = absurd (f refl)
+      go (full k) f = refl
+      go (refused k) f = refl
+
+  pub both-written : Planned p → space-after o space ≡ compared-space o p space
+  unfolding compared-space
+  both-written = go p
+    where
+      go : (p : Outcome) → Planned p → space-after o space ≡ compared-space o p space
+      go (planned n D k l L) h = refl
+      go (full k) h = absurd h
+      go (refused k) h = absurd h
+
+-- ---- a refusal's answer, and the two spaces as they were
+module _ (s₁ s₂ : List ℕ) (left right : List ℤ) where
+  abbrev Refused : Comparison → Type 0
+  Refused r = Comparing s₁ s₂ left right r × ((left ≡ compared-space (planning s₁ left) (planning s₂ right) left) ×
+      (right ≡ compared-space (planning s₂ right) (planning s₁ left) right))
+
+  module _ (a : Refusal) (A : Refuses a (plan-answer (planning s₁ left))) where
+    pub first-answer : ¬ (a .number ≡ 0) → Refused (first-refused (a .number) (a .count))
+    unfolding Comparing
+    first-answer f =
+        let g : ¬ (plan-answer (planning s₁ left) .refusal ≡ 0) = λ e. f (A .number ∙ e) in
+        (rw (unequal (plan-answer (planning s₁ left) .refusal) 0 g) (cc), (own-kept _ _ left g, other-kept _ _ right g))
+
+    module _ (b : Refusal) (B : Refuses b (plan-answer (planning s₂ right))) where
+      pub second-answer : a .number ≡ 0 → ¬ (b .number ≡ 0) → Refused (second-refused (b .number) (b .count))
+      unfolding Comparing
+      second-answer z f =
+          let g : ¬ (plan-answer (planning s₂ right) .refusal ≡ 0) = λ e. f (B .number ∙ e) in
+          (rw (equal (plan-answer (planning s₁ left) .refusal) 0 (sym (A .number) ∙ z), unequal (plan-answer (planning s₂ right) .refusal) 0 g) (cc), (other-kept _ _ left g, own-kept _ _ right g))
+
+-- ---- no two answers for two sheets and two spaces
+module _ (o p : Comparison) where
+  likens-one : (g h : Got Sheet) (c d : ℕ) → Likens g h c d o → Likens g h c d p → o ≡ p
+  likens-one (got t m) (got u w) c d (a, x, e) (b, y, f) = e ∙ ap (λ b. answer b c d) (agree a b x y) ∙ sym f
+    where
+      agree : (a b : Bool) → cond a (Alike t u) (¬ Alike t u) → cond b (Alike t u) (¬ Alike t u) → a ≡ b
+      agree true true x y = refl
+      agree true false x y = absurd (y x)
+      agree false true x y = absurd (x y)
+      agree false false x y = refl
+  likens-one (got t m) (sheet.refused k) c d x y = absurd x
+  likens-one (sheet.refused k) h c d x y = absurd x
+
+  pub comparing-one : (s₁ s₂ : List ℕ) (left right : List ℤ) → Comparing s₁ s₂ left right o → Comparing s₁ s₂ left right p → o ≡ p
+  unfolding Comparing
+  comparing-one s₁ s₂ left right = go (not (eqb (P .refusal) 0)) (not (eqb (Q .refusal) 0)) (not (eqb (P .triggers) (Q .triggers)))
+    where
+      P : CuePlan
+      P = plan-answer (planning s₁ left)
+
+      Q : CuePlan
+      Q = plan-answer (planning s₂ right)
+
+      Answered : Bool → Bool → Bool → Comparison → Type 0
+      Answered x y z r = cond x (r ≡ first-refused (P .refusal) (P .count)) (cond y (r ≡ second-refused (Q .refusal) (Q .count))
+          (cond z (r ≡ unlike (P .count) (Q .count)) (Likens (read s₁) (read s₂) (P .count) (Q .count) r)))
+
+      go : (x y z : Bool) → Answered x y z o → Answered x y z p → o ≡ p
+      go true y z a b = a ∙ sym b
+      go false true z a b = a ∙ sym b
+      go false false true a b = a ∙ sym b
+      go false false false a b = likens-one (read s₁) (read s₂) (P .count) (Q .count) a b

@@ -1,0 +1,9 @@
+-- What the inner functions of comparing promise. Nothing public is stated here.
+use mathlib.Core.Path.{_≡_}
+use Rattle.planning.specs.declared.CuePlan.{CuePlan}
+use Rattle.comparing.specs.declared.Refusal.{Refusal}
+
+-- the refusal's number and the count of a planning's answer
+pub record Refuses (r : Refusal) (p : CuePlan) : Type 0 where
+  pub number : r .number ≡ p .refusal
+  pub count : r .count ≡ p .count

@@ -1,0 +1,3 @@
+-- What comparing two sheets answers.
+pub mod Comparing
+pub mod Inner

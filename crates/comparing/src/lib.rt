@@ -1,0 +1,100 @@
+// Comparing two sheets: whether the same timings are tightest on both.
+ghost use mathlib.Core.Path.{_≡_};
+ghost use mathlib.Core.List.{List};
+ghost use Prim.Native.Nat.{_≤_};
+ghost use lib.IntN.{ℤ};
+ghost use lib.ListN.{length, take};
+ghost use Rattle.tables.specs.Held.{Says};
+ghost use Rattle.planning.specs.Planning.{planning, space-after, plan-answer};
+ghost use Rattle.planning.specs.Demands.{Planned};
+ghost use Rattle.comparing.specs.Comparing.{Comparing, compared-space, compare-answer};
+ghost use Rattle.comparing.specs.Inner.{Refuses};
+use planning::plan;
+
+// Whether the same timings are tightest on two sheets, or that their numbers of triggers differ; with either go the numbers of lines written.
+// Or planning's refusal of the first sheet or of the second, with the count needed where it is 9.
+pub enum Compared {
+    Same(usize),
+    Different(usize, usize),
+    Unlike(usize, usize),
+    FirstRefused(u8, usize),
+    SecondRefused(u8, usize),
+}
+
+// The number of a refusal, 0 for none, and the number of lines.
+struct Refusal {
+    number: u8,
+    count: usize,
+}
+
+// Whether the same timings are tightest on two sheets; their lists are written at the front of the two spaces. Each sheet is first planned
+// with no room, so that a refusal leaves both spaces as they were.
+pub fn same_timings(first: &[u8], second: &[u8], left: &mut [i32], right: &mut [i32]) -> Compared
+    ensures answer { λ r. ⌜ Comparing (now (first .entry)) (now (second .entry)) (now (left .entry)) (now (right .entry)) (compare-answer r) ⌝ }
+    ensures left { λ r. ⌜ now (left .exit) ≡ compared-space (planning (now (first .entry)) (now (left .entry)))
+        (planning (now (second .entry)) (now (right .entry))) (now (left .entry)) ⌝ }
+    ensures right { λ r. ⌜ now (right .exit) ≡ compared-space (planning (now (second .entry)) (now (right .entry)))
+        (planning (now (first .entry)) (now (left .entry))) (now (right .entry)) ⌝ }
+{
+    let a = refused(first, left.len());
+    if a.number != 0 {
+        return Compared::FirstRefused(a.number, a.count);
+    }
+    let b = refused(second, right.len());
+    if b.number != 0 {
+        return Compared::SecondRefused(b.number, b.count);
+    }
+    likened(first, second, left, right)
+}
+
+// What planning refuses with a space of so many words, found with no word of it: a list with no room is counted.
+fn refused(bytes: &[u8], words: usize) -> Refusal
+    ensures { λ r. ⌜ ((space : List ℤ) → length space ≡ words → Refuses r (plan-answer (planning (now (bytes .entry)) space))) ⌝ }
+{
+    let mut none = [0i32; 1];
+    let r = plan(bytes, &mut none);
+    let count = r.count;
+    if 0 < count && count <= words / 7 {
+        return Refusal {
+            number: 0,
+            count: count,
+        };
+    }
+    Refusal {
+        number: r.refusal,
+        count: count,
+    }
+}
+
+// The answer for two sheets of which none is refused.
+fn likened(first: &[u8], second: &[u8], left: &mut [i32], right: &mut [i32]) -> Compared
+    requires { ⌜ Planned (planning (now first) (now left)) × Planned (planning (now second) (now right)) ⌝ }
+    ensures answer { λ r. ⌜ Comparing (now (first .entry)) (now (second .entry)) (now (left .entry)) (now (right .entry)) (compare-answer r) ⌝ }
+    ensures left { λ r. ⌜ now (left .exit) ≡ space-after (planning (now (first .entry)) (now (left .entry))) (now (left .entry)) ⌝ }
+    ensures right { λ r. ⌜ now (right .exit) ≡ space-after (planning (now (second .entry)) (now (right .entry))) (now (right .entry)) ⌝ }
+{
+    let p = plan(first, left);
+    let q = plan(second, right);
+    if p.triggers != q.triggers {
+        return Compared::Unlike(p.count, q.count);
+    }
+    if p.count == q.count && same_words(left, right, 7 * p.count) {
+        return Compared::Same(p.count);
+    }
+    Compared::Different(p.count, q.count)
+}
+
+// Whether the first `k` words of two spaces are the same.
+fn same_words(left: &[i32], right: &[i32], k: usize) -> bool
+    requires { ⌜ (k ≤ length (now left)) × (k ≤ length (now right)) ⌝ }
+    ensures { λ r. ⌜ Says (take k (now (left .entry)) ≡ take k (now (right .entry))) r ⌝ }
+{
+    let mut i: usize = 0;
+    while i < k {
+        if left[i] != right[i] {
+            return false;
+        }
+        i += 1;
+    }
+    true
+}

@@ -1,0 +1,116 @@
+-- `lines::gather::spread`, which calls itself, meets its contract: one level more, or the same level with fewer bounds left.
+use mathlib.Core.Path.{refl}
+use Prim.Native.Nat.{ℕ, _+_, _*_, _-_, _≤_, _<_}
+use native.Mathlib.Omega.{arith}
+use borrow.Fn.Kinds.{In}
+use borrow.Fn.PlainCycle.{Measures, is, falls, and}
+use Rattle.candidates.proofs.PreparedLaws.{levels-few}
+use Rattle.gather.proofs.SpreadLaws.{spread-end, spread-none, spread-more, spread-bounds}
+use Rattle.gather.proofs.spread.Reads as spread
+use Rattle.gather.proofs.spread.Kinds as spread-kinds
+use Rattle.gather.proofs.+spread.Lts-spread as spread-lts
+use Rattle.bounds.proofs.expand.Reads as expand-reads
+use Rattle.gather.proofs.consider_bounds.Reads as consider-bounds-reads
+use Rattle.gather.proofs.part_end.Reads as part-end-reads
+use Rattle.gather.proofs.+spread.{statement}
+use Rattle.gather.proofs.+spread.Tie.{close}
+
+-- the arguments are buf, len, last, set, then (b) from, many, level, marks
+abbrev μ-spread : Measures 5 spread-kinds.ps ℕ
+μ-spread κs a = let b = a .1 .1 .1 .1 in 65 * (b .1 .1 .1 .0 .levels - b .1 .1 .0) + (b .1 .0 - b .0)
+
+abbrev spread-at : ℕ → In 5 spread-kinds.ps
+spread-at t = and 5 spread-kinds.ps (is 5 spread-kinds.ps μ-spread t) spread.Pre
+
+abbrev spread-below : ℕ → In 5 spread-kinds.ps
+spread-below t = and 5 spread-kinds.ps (falls 5 spread-kinds.ps _<_ μ-spread t) spread.Pre
+
+-- what it may take its calls to meet
+abbrev claims : ℕ → spread-lts.Claims
+claims t = (
+  consider-bounds-reads.Asked,
+  consider-bounds-reads.Learnt,
+  part-end-reads.Asked,
+  part-end-reads.Learnt,
+  expand-reads.Asked,
+  expand-reads.Learnt,
+  spread-below t,
+  spread.Post,
+)
+
+-- where the level is not the last, it is below the number of levels and so a place of the tables
+lower : {t : ℕ} (c : spread-lts.After-part-end (claims t) (spread-at t) spread.Post) →
+    let a = c .before .before .before .before .args in a .level < a .marks .levels
+lower c = omega (arith, c .before .before .if1 .left, c .before .before .before .before .pre .1 .4)
+
+inside : {t : ℕ} (c : spread-lts.After-part-end (claims t) (spread-at t) spread.Post) → c .before .before .before .before .args .level < 6
+inside c = omega (arith, lower c, levels-few (c .before .before .before .before .pre .1 .0 .2 .prepared))
+
+consider-bounds-requires : (t : ℕ) → spread-lts.Need-consider-bounds-requires (claims t) (spread-at t) spread.Post
+consider-bounds-requires t c κs = let s = c .before .before .before in let (q, z, f, l, h, b) = s .pre .1 in let (P, C, g, i) = q in
+    ((P, s .args .needs .now, C, g .prepared, i), z, f, l, λ k hk. b k hk .close)
+
+returns : (t : ℕ) → spread-lts.Need-returns (claims t) (spread-at t) spread.Post
+returns t c = let (q, z, f, l, h, b) = c .before .before .before .before .pre .1 in
+    spread-end (omega (arith, f, l)) (c .before .before .if1 .taken) b (c .consider-bounds .ensures)
+
+returns-2 : (t : ℕ) → spread-lts.Need-returns-2 (claims t) (spread-at t) spread.Post
+returns-2 t c = spread-none (c .if2 .taken)
+
+part-end-requires : (t : ℕ) → spread-lts.Need-part-end-requires (claims t) (spread-at t) spread.Post
+part-end-requires t c κs = (omega (arith, c .if2 .left), c .before .before .before .pre .1 .2)
+
+array-read-expand : (t : ℕ) → spread-lts.Need-array-read-expand (claims t) (spread-at t) spread.Post
+array-read-expand t c = inside (c .before .before)
+
+mul-expand : (t : ℕ) → spread-lts.Need-mul-expand (claims t) (spread-at t) spread.Post
+mul-expand t c = omega (arith, inside (c .before .before))
+
+element-copy-out-expand : (t : ℕ) → spread-lts.Need-element-copy-out-expand (claims t) (spread-at t) spread.Post
+element-copy-out-expand t c = inside (c .before .before)
+
+expand-requires : (t : ℕ) → spread-lts.Need-expand-requires (claims t) (spread-at t) spread.Post
+expand-requires t c κs = let e = c .before .before .before in let (q, z, f, l, h, b) = e .before .before .before .before .pre .1 in
+    let (x, y, w) = e .part-end .ensures in (q .2 .prepared .few, omega (arith, x), w, omega (arith, y, f), refl)
+
+add-spread : (t : ℕ) → spread-lts.Need-add-spread (claims t) (spread-at t) spread.Post
+add-spread t c = omega (arith, inside (c .before .before .before .before .before .before))
+
+spread-requires : (t : ℕ) → spread-lts.Need-spread-requires (claims t) (spread-at t) spread.Post
+spread-requires t c κs =
+    let x = c .before .before .expand .ensures in let e = c .before .before .before .before .before .before in
+    let s = e .before .before .before .before in let (m, (q, z, f, l, h, b)) = s .pre in let (P, C, g, i) = q in
+    let v = lower e in let (a, d, w) = e .part-end .ensures in
+    let few : c .before .before .expand .result ≤ 60 = omega (arith, x .few, w) in
+    (omega (arith, m, v, few, a, d), ((P, C, g, i), z, omega (arith, few), x .size, omega (arith, v), spread-bounds g v d b x))
+
+spread-requires-2 : (t : ℕ) → spread-lts.Need-spread-requires-2 (claims t) (spread-at t) spread.Post
+spread-requires-2 t c κs =
+    let e = c .before .before .before .before .before .before .before .before in
+    let s = e .before .before .before .before in let (m, (q, z, f, l, h, b)) = s .pre in let (P, C, g, i) = q in
+    let (a, d, w) = e .part-end .ensures in
+    (omega (arith, m, a, d), ((P, _, g, c .before .spread .ensures .gathered P C (g .prepared) i), z, f, l, h, b))
+
+returns-3 : (t : ℕ) → spread-lts.Need-returns-3 (claims t) (spread-at t) spread.Post
+returns-3 t c =
+    let e = c .before .before .before .before .before .before .before .before .before in
+    let s = e .before .before .before .before in let (q, z, f, l, h, b) = s .pre .1 in let (P, C, g, i) = q in
+    spread-more g (lower e) f (e .part-end .ensures .1) b (c .before .before .before .before .before .expand .ensures)
+    (c .before .before .spread .ensures) (c .spread2 .ensures)
+
+pub +spread-spec : {M : Type 1} → statement M
++spread-spec = close μ-spread λ t. spread-lts.spec (claims t)
+    (spread-at t)
+    spread.Post
+    (consider-bounds-requires t)
+    (returns t)
+    (returns-2 t)
+    (part-end-requires t)
+    (array-read-expand t)
+    (mul-expand t)
+    (element-copy-out-expand t)
+    (expand-requires t)
+    (add-spread t)
+    (spread-requires t)
+    (spread-requires-2 t)
+    (returns-3 t)

@@ -1,0 +1,59 @@
+-- `lines::gather::consider_bound` meets its contract: the candidates of the first `t` triggers have been considered.
+use Prim.Native.Nat.{_-_}
+use native.Mathlib.Omega.{arith}
+use Rattle.candidates.proofs.PreparedLaws.{stars-close, pulls-close}
+use Rattle.gather.proofs.GatherLaws.{Drawing, drawing-start, drawing-more, drawing-end}
+use Rattle.gather.proofs.consider_bound.Statement.{statement}
+use Rattle.gather.proofs.consider_bound.Tie as tie
+
+abbrev Inv-loop : tie.InvT-loop
+Inv-loop buf₀ len last marks star lag n pulls w-starred held₀ t₀ buf held t = Drawing marks star lag last w-starred held₀ buf₀ t held buf
+
+abbrev μ-loop : tie.MeasureT-loop
+μ-loop buf₀ len last marks star lag n pulls w-starred held₀ t₀ buf held t = n - t
+
+starred-requires : tie.Need-starred-requires Inv-loop μ-loop
+starred-requires c κs = let q = c .before .pre in (q .0 .3 .few, stars-close (q .0 .3), q .2)
+
+loop-holds : tie.Need-loop-holds Inv-loop μ-loop
+loop-holds c = drawing-start
+
+candidate-requires : tie.Need-candidate-requires Inv-loop μ-loop
+candidate-requires c κs = let p = c .before .before .before .before .pre .0 .3 in
+    (p .few, omega (arith, p .some), stars-close p, pulls-close p, c .before .before .starred .ensures .1)
+
+consider-requires : tie.Need-consider-requires Inv-loop μ-loop
+consider-requires c κs =
+    let y = c .before .before .before .before in let s = y .before .before in let (P, needs, C, p, g) = s .pre .0 in
+    let d = c .before .candidate .ensures in
+    let i = c .before .before .before .loop .inv .gathered P needs C (s .args .bound) p (y .starred .ensures .0) g in
+    ((P, needs, _, p, i), s .pre .1, d .written .sized, d .close)
+
+add-t : tie.Need-add-t Inv-loop μ-loop
+add-t c = omega arith
+
+loop-less : tie.Need-loop-less Inv-loop μ-loop
+loop-less c = omega arith
+
+loop-again : tie.Need-loop-again Inv-loop μ-loop
+loop-again c = let l = c .before .before .before in let p = l .before .before .before .before .pre .0 .3 in
+    drawing-more (l .before .loop .inv) (omega (arith, p .some)) (c .before .before .candidate .ensures) (c .consider .ensures)
+
+returns : tie.Need-returns Inv-loop μ-loop
+returns c P needs C p g = let y = c .before .before in
+    drawing-end (c .before .loop .inv) (c .loop-test .left) .gathered P needs C _ p (y .starred .ensures .0) g
+
+pub consider-bound-spec : {M : Type 1} → statement M
+consider-bound-spec =
+    tie.close
+    (tie.spec
+    Inv-loop
+    μ-loop
+    starred-requires
+    loop-holds
+    candidate-requires
+    consider-requires
+    add-t
+    loop-less
+    loop-again
+    returns)

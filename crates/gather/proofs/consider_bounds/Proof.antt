@@ -1,0 +1,55 @@
+-- `lines::gather::consider_bounds` meets its contract: the candidates of the first `k` bounds have been considered.
+use mathlib.Core.Path.{_≡_}
+use Prim.Native.Nat.{_-_, _≤_}
+use native.Mathlib.Omega.{arith}
+use Rattle.gather.proofs.SpreadLaws.{Drawn-to, drawn-to-none, drawn-to-more, drawn-to-end}
+use Rattle.gather.proofs.consider_bounds.Statement.{statement}
+use Rattle.gather.proofs.consider_bounds.Tie as tie
+
+abbrev Inv-loop : tie.InvT-loop
+Inv-loop buf₀ len last set many marks star lag held₀ k₀ buf held k = Drawn-to marks star lag last set many held₀ buf₀ k held buf
+
+abbrev μ-loop : tie.MeasureT-loop
+μ-loop buf₀ len last set many marks star lag held₀ k₀ buf held k = many - k
+
+loop-holds : tie.Need-loop-holds Inv-loop μ-loop
+loop-holds c = drawn-to-none
+
+mul-consider-bound : tie.Need-mul-consider-bound Inv-loop μ-loop
+mul-consider-bound c = omega arith
+
+element-copy-out-consider-bound : tie.Need-element-copy-out-consider-bound Inv-loop μ-loop
+element-copy-out-consider-bound c = omega arith
+
+consider-bound-requires : tie.Need-consider-bound-requires Inv-loop μ-loop
+consider-bound-requires c κs =
+    let l = c .before .before .before in let s = l .before in let (P, needs, C, p, g) = s .pre .0 in
+    ((P, needs, _, p, l .loop .inv .gathered P needs C p g), s .pre .1, s .pre .4 (l .loop .k) (c .before .before .loop-test .taken))
+
+add-k : tie.Need-add-k Inv-loop μ-loop
+add-k c = omega arith
+
+loop-less : tie.Need-loop-less Inv-loop μ-loop
+loop-less c = omega arith
+
+loop-again : tie.Need-loop-again Inv-loop μ-loop
+loop-again c = let l = c .before .before .before .before in
+    drawn-to-more (l .loop .inv) (c .before .before .before .loop-test .taken) (omega (arith, l .before .pre .2, l .before .pre .3)) (c .consider-bound .ensures)
+
+returns : tie.Need-returns Inv-loop μ-loop
+returns c P needs C p g = drawn-to-end (c .before .loop .inv) (c .loop-test .left) .gathered P needs C p g
+
+pub consider-bounds-spec : {M : Type 1} → statement M
+consider-bounds-spec =
+    tie.close
+    (tie.spec
+    Inv-loop
+    μ-loop
+    loop-holds
+    mul-consider-bound
+    element-copy-out-consider-bound
+    consider-bound-requires
+    add-k
+    loop-less
+    loop-again
+    returns)

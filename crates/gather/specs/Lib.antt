@@ -1,0 +1,3 @@
+-- What is given, and what is gathered.
+pub mod Given
+pub mod Gathering

@@ -1,0 +1,2 @@
+-- Laws of items.
+pub mod ItemLaws

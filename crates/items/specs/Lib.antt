@@ -1,0 +1,2 @@
+-- What reading an item promises.
+pub mod Inner

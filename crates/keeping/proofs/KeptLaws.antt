@@ -1,0 +1,131 @@
+-- What the kept table's answer says: its bytes and counts are those of document 01's panels, 0 past the last.
+use mathlib.Core.Path.{_≡_, ap, sym, subst, _∙_}
+use mathlib.Core.List.{List, [], _∷_}
+use Prim.Native.Nat.{ℕ, _≤_, _<_}
+use native.Mathlib.Omega.{arith}
+use native.Mathlib.Decide.{decLt}
+use lib.Count.{ones}
+use lib.ListN.{length, getD, List·getD-eq-default}
+use lib.Seq.{ext-getD}
+use Rattle.maxplus.specs.Finite.{each}
+use Rattle.maxplus.proofs.EachLaws.{length-each, each-at, each-same}
+use lib.IntN.{ℤ}
+use Rattle.cue.specs.Meaning.{Tables}
+use Rattle.cue.specs.Method.{least, floor-panels, kept-byte, kept-count, steps, selections}
+use Rattle.maxplus.specs.Tables.{NoGain}
+use Rattle.sheet.specs.Sheet.{got, read}
+use Rattle.sheet.specs.Sheet as spec
+use Rattle.reading.specs.declared.Sheet.{Sheet}
+use Rattle.known.specs.Cue.{tables-of}
+use Rattle.known.proofs.Results.{kept-ones}
+use Rattle.tables.proofs.Loops.{Filled}
+use Rattle.walk.specs.State.{countsOf}
+use Rattle.walk.specs.Follows.{Follows}
+use Rattle.walk.specs.declared.Counts.{Counts}
+use Rattle.walk.proofs.Follows.{counts-follow}
+use Rattle.marks.specs.Marked.{Fit, MarkedAs}
+use Rattle.marks.specs.declared.Marked.{Marked}
+use Rattle.keeping.specs.Keeping.{KeptOutcome, kept, refused, kept-of, keeping, six, six-counts, kept-answer}
+use Rattle.orderly.specs.Inner.{Orderly}
+use Rattle.keeping.specs.declared.KeptTable.{KeptTable}
+use Rattle.orderly.proofs.OrderlyLaws.{orderly-refused, orderly-8, orderly-got}
+use Rattle.orderly.proofs.Preparing.{panels-of, triggers-of}
+
+-- the byte and the number of panel i
+abbrev pub Pair : Type 0
+Pair = ℕ × ℕ
+
+abbrev pair : (ℕ → ℕ) → (ℕ → ℕ) → ℕ → Pair
+pair b c i = (b i, c i)
+
+none : Pair
+none = (0, 0)
+
+module _ (m : ℕ) (b c : ℕ → ℕ) (bytes : List ℕ) (few : m ≤ 6) (long : length bytes ≡ 6)
+    (here : (i : ℕ) → i < m → getD bytes i 0 ≡ b i) (past : (i : ℕ) → m ≤ i → getD bytes i 0 ≡ 0) (counted : (i : ℕ) → ones (b i) ≡ c i) where
+  abbrev pub pairs : List Pair
+  pairs = each m (λ i. pair b c i ∷ [])
+
+  pair-at : (i : ℕ) → i < m → getD pairs i (0, 0) ≡ pair b c i
+  pair-at i h = each-at m i (pair b c) (0, 0) h
+
+  pair-past : (i : ℕ) → m ≤ i → getD pairs i (0, 0) ≡ none
+  unfolding none
+  pair-past i h = List·getD-eq-default pairs (0, 0) {n = i} (let e = length-each m (pair b c) in omega arith)
+
+  byte-there : (i : ℕ) → getD bytes i 0 ≡ getD pairs i (0, 0) .0
+  unfolding none
+  byte-there i = elim (decLt i m) [
+    | yes h ↦ here i h ∙ sym (ap (λ (p : Pair). p .0) (pair-at i h))
+    | no h ↦ past i (omega arith) ∙ sym (ap (λ (p : Pair). p .0) (pair-past i (omega arith)))
+  ]
+
+  count-there : (i : ℕ) → ones (getD bytes i 0) ≡ getD pairs i (0, 0) .1
+  unfolding none ones
+  count-there i = elim (decLt i m) [
+    | yes h ↦ ap ones (here i h) ∙ counted i ∙ sym (ap (λ (p : Pair). p .1) (pair-at i h))
+    | no h ↦ ap ones (past i (omega arith)) ∙ sym (ap (λ (p : Pair). p .1) (pair-past i (omega arith)))
+  ]
+
+  pub bytes-answer : bytes ≡ six (λ i. getD pairs i (0, 0) .0)
+  bytes-answer = ext-getD 0 bytes (six (λ i. getD pairs i (0, 0) .0)) (long ∙ sym (length-each 6 (λ i. getD pairs i (0, 0) .0)))
+      (λ i h. byte-there i ∙ sym (each-at 6 i (λ i. getD pairs i (0, 0) .0) 0 (omega arith)))
+
+  pub counts-answer : six-counts bytes ≡ six (λ i. getD pairs i (0, 0) .1)
+  counts-answer = each-same 6 _ _ (λ i h. ap (λ v. v ∷ []) (count-there i))
+
+-- six counts, written one after the other
+pub six-filled : (bytes r : List ℕ) → Filled (λ i v. v ≡ ones (getD bytes i 0)) 0 r 6 → r ≡ six-counts bytes
+six-filled bytes r F = ext-getD 0 r (six-counts bytes) (F .size ∙ sym (length-each 6 (λ i. ones (getD bytes i 0))))
+    (λ i h. F .done i (let q = F .size in omega arith) ∙ sym (each-at 6 i (λ i. ones (getD bytes i 0)) 0 (let q = F .size in omega arith)))
+
+-- ---- the whole answer
+same-table : {D E : ℤ} {p q : ℕ} {b c x y : List ℕ} {k l i j : ℕ} → D ≡ E → p ≡ q → b ≡ c → x ≡ y → k ≡ l → i ≡ j →
+    _≡_ {A = KeptTable} (record { refusal = 0; deviation = D; panels = p; kept = b; counts = x; steps = k; selections = i })
+    (record { refusal = 0; deviation = E; panels = q; kept = c; counts = y; steps = l; selections = j })
+same-table d p b x k i = cc
+
+pub walked-answer : (s : spec.Sheet) (t : Sheet) (after : List (List ℕ)) → Orderly s t after → (stars throughs : List (List ℕ)) →
+    Fit (tables-of s) t stars throughs → (r : Marked) → MarkedAs (tables-of s) t r → (gains : List (List ℕ)) →
+    Follows (t .triggers) (tables-of s) (least (t .triggers) (tables-of s)) (r .marks .levels) (r .marks .kept) gains
+    (floor-panels (t .triggers) (tables-of s)) → (D : ℤ) → D ≡ least (t .triggers) (tables-of s) → (ns : List ℕ) → ns ≡ six-counts (r .kept) →
+    (k : Counts) → k ≡ countsOf (r .marks .kept) gains (r .marks .levels) →
+    _≡_ {A = KeptTable}
+    (record { refusal = 0; deviation = D; panels = t .panels; kept = r .kept; counts = ns; steps = k .steps; selections = k .selections })
+    (kept-answer (kept-of (got s [])))
+walked-answer s t after O stars throughs F r M gains W D d ns e k f =
+    subst (λ n. _≡_ {A = KeptTable}
+    (record { refusal = 0; deviation = D; panels = t .panels; kept = r .kept; counts = ns; steps = k .steps; selections = k .selections })
+    (kept-answer (outcome n))) (triggers-of s t after (O .worded))
+    (same-table d (panels-of s t after (O .worded) ∙ sym (length-each (s .panels) (pair (kept-byte n P (least n P)) (kept-count n P (least n P)))))
+    (bytes-answer (s .panels) _ _ (r .kept) (O .worded .good .panels-few) (M .size) (M .bytes) (M .past) (kept-ones n P (least n P)))
+    (e ∙ counts-answer (s .panels) _ _ (r .kept) (O .worded .good .panels-few) (M .size) (M .bytes) (M .past) (kept-ones n P (least n P)))
+    (ap (λ c. c .steps) counted) (ap (λ c. c .selections) counted))
+  where
+    n : ℕ
+    n = t .triggers
+
+    P : Tables
+    P = tables-of s
+
+    outcome : ℕ → KeptOutcome
+    outcome n = kept (least n P) (each (s .panels) (λ i. pair (kept-byte n P (least n P)) (kept-count n P (least n P)) i ∷ [])) (steps n P (least n P))
+        (length (selections n P (least n P)))
+
+    counted : _≡_ {A = Counts} k (record { steps = steps n P (least n P); selections = length (selections n P (least n P)) })
+    counted = f ∙ counts-follow W
+
+-- ---- the outcomes
+module _ (s : List ℕ) where
+  pub keeping-refused : (k : ℕ) → read s ≡ spec.refused k → keeping s ≡ refused k
+  unfolding keeping
+  keeping-refused k e = ap kept-of (orderly-refused s k e)
+
+  module _ (t : spec.Sheet) (r : List ℕ) (e : read s ≡ got t r) where
+    pub keeping-8 : ¬ (NoGain (t .triggers) (t .after)) → keeping s ≡ refused 8
+    unfolding keeping
+    keeping-8 f = ap kept-of (orderly-8 s t r e f)
+
+    pub keeping-kept : NoGain (t .triggers) (t .after) → kept-of (got t []) ≡ keeping s
+    unfolding keeping
+    keeping-kept np = sym (ap kept-of (orderly-got s t r e np))

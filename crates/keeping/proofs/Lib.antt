@@ -1,0 +1,2 @@
+-- Laws of the kept table.
+pub mod KeptLaws

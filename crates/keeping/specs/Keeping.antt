@@ -1,0 +1,51 @@
+-- What kept table and walk return (document 01, "What each operation may refuse").
+use mathlib.Core.List.{List, [], _∷_}
+use Prim.Native.Nat.{ℕ}
+use lib.Count.{ones}
+use lib.IntN.{ℤ, pos}
+use lib.ListN.{length, getD, replicate}
+use Rattle.maxplus.specs.Finite.{each}
+use Rattle.cue.specs.Method.{least, kept-byte, kept-count, steps, selections}
+use Rattle.sheet.specs.Sheet.{Got, got, Sheet}
+use Rattle.known.specs.Cue.{tables-of}
+use Rattle.orderly.specs.Orderly.{orderly}
+use Rattle.keeping.specs.declared.KeptTable.{KeptTable}
+use Rattle.sheet.specs.Sheet as sheet
+
+-- "It gives Δ, each panel's byte and bit count (0 and 0 without a floor), steps and selections."
+pub data KeptOutcome : Type 0 where
+  kept : (deviation : ℤ) (bytes-and-counts : List (ℕ × ℕ)) (steps selections : ℕ) → KeptOutcome
+  refused : ℕ → KeptOutcome
+
+abbrev pub kept-of : Got Sheet → KeptOutcome
+kept-of (sheet.refused k) = refused k
+kept-of (got t r) =
+    let n = t .triggers in
+    let P = tables-of t in
+    let D = least n P in
+    kept D (each (t .panels) (λ i. (kept-byte n P D i, kept-count n P D i) ∷ [])) (steps n P D) (length (selections n P D))
+
+unfoldable pub keeping : List ℕ → KeptOutcome
+keeping s = kept-of (orderly s)
+
+-- the first six of a list of pairs, part by part, and 0 past its end
+abbrev pub six : (ℕ → ℕ) → List ℕ
+six f = each 6 (λ i. f i ∷ [])
+
+abbrev pub six-counts : List ℕ → List ℕ
+six-counts bytes = six (λ i. ones (getD bytes i 0))
+
+-- the answer in a program: the outcome's numbers and values, and 0 wherever a refusal leaves nothing
+abbrev pub kept-answer : KeptOutcome → KeptTable
+kept-answer (kept D panels k l) =
+    record {
+      refusal = 0;
+      deviation = D;
+      panels = length panels;
+      kept = six (λ i. getD panels i (0, 0) .0);
+      counts = six (λ i. getD panels i (0, 0) .1);
+      steps = k;
+      selections = l;
+    }
+kept-answer (refused k) =
+    record { refusal = k; deviation = pos 0; panels = 0; kept = replicate 6 0; counts = replicate 6 0; steps = 0; selections = 0 }

@@ -1,0 +1,2 @@
+-- What kept table and walk return.
+pub mod Keeping

@@ -1,0 +1,96 @@
+// Kept table and walk: the least deviation, each panel's kept triggers, steps and selections.
+ghost use mathlib.Core.Path.{_≡_};
+ghost use mathlib.Core.List.{[]};
+ghost use Rattle.sheet.specs.Sheet as spec;
+ghost use Rattle.keeping.specs.Keeping as outcome;
+ghost use Rattle.keeping.specs.Keeping.{kept-of, keeping, kept-answer, six-counts};
+ghost use Rattle.orderly.specs.Inner.{Orderly};
+use reading::Sheet;
+
+// Document 01's refusal, 1 to 8, and nothing else; or 0, Δ, for each panel the byte of its kept triggers and their number (0 and 0 without a
+// floor and past the last panel), the walk's fixings and its selections.
+pub struct KeptTable {
+    pub refusal: u8,
+    pub deviation: i64,
+    pub panels: usize,
+    pub kept: [u8; 6],
+    pub counts: [u8; 6],
+    pub steps: u32,
+    pub selections: u32,
+}
+
+// The kept table and the walk's numbers for a sheet.
+pub fn kept_table(bytes: &[u8]) -> KeptTable
+    ensures { λ r. ⌜ r ≡ kept-answer (keeping (now (bytes .entry))) ⌝ }
+{
+    let reading = reading::read_sheet(bytes);
+    if reading.refusal != 0 {
+        return no_table(reading.refusal);
+    }
+    let t = reading.sheet;
+    let rows = t.after;
+    let after = tables::table(rows);
+    if !order::order_kept(&after, t.triggers) {
+        return no_table(8);
+    }
+    walked(t, &after)
+}
+
+// The answer for a sheet whose order can be kept.
+fn walked(t: Sheet, after: &[[u64; 6]; 6]) -> KeptTable
+    requires { ⌜ ((s : spec.Sheet) × Orderly s t (now after)) ⌝ }
+    ensures { λ r. ⌜ ((s : spec.Sheet) → Orderly s t (now (after .entry)) → r ≡ kept-answer (kept-of (spec.got s []))) ⌝ }
+{
+    let n = t.triggers;
+    let m = t.panels;
+    let rows = t.lag;
+    let lag = tables::table(rows);
+    let star = order::star(after, n);
+    let through = tables::product(&lag, &star, m, n);
+    let marked = marks::marks_of(t, &star, &through);
+    let floor = t.floor;
+    let at = marked.at;
+    let marks = marked.marks;
+    let masks = marks.kept;
+    let f = marks.levels;
+    let gains = levels::gains(&through, floor, at, f, n);
+    let counts = walk::count(f, &masks, &gains);
+    let kept = marked.kept;
+    KeptTable {
+        refusal: 0,
+        deviation: words::number(marked.least),
+        panels: m,
+        kept: kept,
+        counts: ones_of(kept),
+        steps: counts.steps,
+        selections: counts.selections,
+    }
+}
+
+// The answer of a refusal: its number and nothing else.
+fn no_table(refusal: u8) -> KeptTable
+    ensures { λ r. ⌜ r ≡ kept-answer (outcome.refused refusal) ⌝ }
+{
+    KeptTable {
+        refusal: refusal,
+        deviation: 0,
+        panels: 0,
+        kept: [0u8; 6],
+        counts: [0u8; 6],
+        steps: 0,
+        selections: 0,
+    }
+}
+
+// "the number of bits set is reported with it"
+fn ones_of(kept: [u8; 6]) -> [u8; 6]
+    ensures { λ r. ⌜ r ≡ six-counts kept ⌝ }
+{
+    let mut r = [0u8; 6];
+    let mut i: usize = 0;
+    while i < 6 {
+        r[i] = steps::ones(kept[i]);
+        i += 1;
+    }
+    r
+}

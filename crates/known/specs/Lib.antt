@@ -1,0 +1,2 @@
+-- A sheet that was read, as a cue.
+pub mod Cue

@@ -1,0 +1,2 @@
+-- Laws of packing and of gains.
+pub mod LevelLaws

@@ -1,0 +1,2 @@
+-- What is asked and promised of the levels.
+pub mod Levels

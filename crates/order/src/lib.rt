@@ -1,0 +1,60 @@
+// Step 1: the star of the after table, and whether timings that keep the order exist.
+ghost use Prim.Native.Nat.{ℕ, _≤_, _<_};
+ghost use Rattle.maxplus.specs.Entry.{_≼_, unit};
+ghost use Rattle.maxplus.specs.Tables as maxplus;
+ghost use Rattle.maxplus.specs.Tables.{NoGain};
+ghost use Rattle.sheet.specs.Sheet.{limit};
+ghost use Rattle.tables.specs.Held.{meant, Holds, Closely, Says};
+use tables::identity;
+use tables::joined;
+use tables::product;
+
+// "M* is the sum of the powers 0 to n − 1 of the after table"
+pub fn star(after: &[[u64; 6]; 6], n: usize) -> [[u64; 6]; 6]
+    requires { ⌜ (n ≤ 6) × Closely n n limit (now after) ⌝ }
+    ensures { λ r. ⌜ Holds n n (maxplus.star n (meant (now (after .entry)))) r ⌝ }
+{
+    let blank = [0u64; 6];
+    let mut sum = [blank; 6];
+    let mut power = identity();
+    let mut k: usize = 0;
+    while k < n {
+        sum = joined(&power, &sum, n);
+        power = product(after, &power, n, n);
+        k += 1;
+    }
+    sum
+}
+
+// "Timings that keep the order exist exactly when no diagonal entry of powers 1 to n is above 0."
+pub fn order_kept(after: &[[u64; 6]; 6], n: usize) -> bool
+    requires { ⌜ (n ≤ 6) × Closely n n limit (now after) ⌝ }
+    ensures { λ r. ⌜ Says (NoGain n (meant (now (after .entry)))) r ⌝ }
+{
+    let mut power = identity();
+    let mut done: usize = 0;
+    while done < n {
+        power = product(after, &power, n, n);
+        if !diagonal_low(&power, n) {
+            return false;
+        }
+        done += 1;
+    }
+    true
+}
+
+// No diagonal entry is above 0.
+fn diagonal_low(power: &[[u64; 6]; 6], n: usize) -> bool
+    requires { ⌜ n ≤ 6 ⌝ }
+    ensures { λ r. ⌜ Says ((i : ℕ) → i < n → meant (now (power .entry)) i i ≼ unit) r ⌝ }
+{
+    let zero = words::positive(0);
+    let mut i: usize = 0;
+    while i < n {
+        if zero < power[i][i] {
+            return false;
+        }
+        i += 1;
+    }
+    true
+}

@@ -1,0 +1,46 @@
+-- What planning returns and leaves in the lent space (document 01, "What each operation may refuse").
+use mathlib.Core.List.{List, _++_}
+use mathlib.Core.Bool.{cond}
+use Prim.Native.Nat.{ℕ, _*_, _/_}
+use lib.Dec.{leb}
+use lib.IntN.{ℤ, pos}
+use lib.ListN.{length, drop}
+use Rattle.maxplus.specs.Line.{Line}
+use Rattle.cue.specs.Method.{least, steps, selections, lines}
+use Rattle.cue.specs.Written.{list-words}
+use Rattle.sheet.specs.Sheet.{Got, got, Sheet}
+use Rattle.known.specs.Cue.{tables-of}
+use Rattle.orderly.specs.Orderly.{orderly}
+use Rattle.planning.specs.declared.CuePlan.{CuePlan}
+use Rattle.sheet.specs.Sheet as sheet
+
+-- "A success returns Δ, steps, selections and count"
+pub data Outcome : Type 0 where
+  planned : (triggers : ℕ) (deviation : ℤ) (steps selections : ℕ) → List (Line triggers) → Outcome
+  full : (count : ℕ) → Outcome
+  refused : ℕ → Outcome
+
+-- "Reading's, 8, then 9: the list has more lines than the lent space holds; it also returns the count needed"
+abbrev pub plan-of : ℕ → Got Sheet → Outcome
+plan-of room (sheet.refused k) = refused k
+plan-of room (got t r) =
+    let n = t .triggers in
+    let P = tables-of t in
+    let D = least n P in
+    let L = lines n P in
+    cond (leb (length L) room) (planned n D (steps n P D) (length (selections n P D)) L) (full (length L))
+
+unfoldable pub planning : List ℕ → List ℤ → Outcome
+planning s space = plan-of (length space / 7) (orderly s)
+
+-- "writes exactly the list at the front of the space and leaves the rest"; "A refusal … changes no lent byte or word."
+unfoldable pub space-after : Outcome → List ℤ → List ℤ
+space-after (planned n D k l L) space = list-words n L ++ drop (7 * length L) space
+space-after (full k) space = space
+space-after (refused k) space = space
+
+-- the answer in a program: the outcome's numbers and the sheet's number of triggers, and 0 wherever a refusal leaves nothing
+abbrev pub plan-answer : Outcome → CuePlan
+plan-answer (planned n D k l L) = record { refusal = 0; triggers = n; deviation = D; steps = k; selections = l; count = length L }
+plan-answer (full k) = record { refusal = 9; triggers = 0; deviation = pos 0; steps = 0; selections = 0; count = k }
+plan-answer (refused k) = record { refusal = k; triggers = 0; deviation = pos 0; steps = 0; selections = 0; count = 0 }

@@ -1,0 +1,3 @@
+-- Laws of reading a sheet.
+pub mod SheetLaws
+pub mod Refusals

@@ -1,0 +1,102 @@
+-- Every refusal of reading has a number of document 01, so that 0 can stand for none.
+use mathlib.Core.Path.{_≡_, subst}
+use mathlib.Core.List.{List, [], _∷_}
+use mathlib.Core.Bool.{Bool, true, false, cond}
+use Prim.Native.Nat.{ℕ, zero, suc, _-_, _≤_}
+use native.Mathlib.Omega.{arith}
+use lib.Dec.{ltb, eqb}
+use lib.IntN.{pos}
+use lib.ListN.{length}
+use Rattle.maxplus.specs.Whole.{neg}
+use Rattle.maxplus.specs.Entry.{E, absent, num}
+use Rattle.sheet.specs.Sheet.{Got, got, refused, _>>=_, literal, leading, value, behind, signed, item}
+use Rattle.sheet.specs.Sheet.{ending, ended, items, Rule, size, entry, mark, out-of-range, no-size, absent?, any, all, checked}
+use Rattle.sheet.specs.Sheet.{line, rows, Sheet, count, finished, tables, lines, read}
+use Rattle.sheet.specs.Text.{bytes}
+
+abbrev Numbered : {A : Type 0} → Got A → Type 0
+Numbered (got a s) = Unit {0}
+Numbered (refused k) = 1 ≤ k
+
+module _ {A : Type 0} where
+  if-numbered : (b : Bool) (g h : Got A) → Numbered g → Numbered h → Numbered (cond b g h)
+  if-numbered true g h p q = p
+  if-numbered false g h p q = q
+
+  then-numbered : {B : Type 0} (g : Got A) (f : A → List ℕ → Got B) → Numbered g → ((a : A) (s : List ℕ) → Numbered (f a s)) → Numbered (g >>= f)
+  then-numbered (got a s) f p q = q a s
+  then-numbered (refused k) f p q = p
+
+literal-numbered : (k s : List ℕ) → Numbered (literal k s)
+unfolding literal
+literal-numbered [] s = tt
+literal-numbered (b ∷ k) [] = omega arith
+literal-numbered (b ∷ k) (c ∷ s) = if-numbered (eqb c b) (literal k s) (refused 2) (literal-numbered k s) (omega arith)
+
+signed-numbered : (s : List ℕ) → Numbered (signed s)
+unfolding signed
+signed-numbered [] = tt
+signed-numbered (b ∷ s) = go (leading b)
+  where
+    go : (t : Bool) → Numbered (cond t (got (num (neg (pos (value (b - 48) s)))) (behind s)) (got absent (b ∷ s)))
+    go true = tt
+    go false = tt
+
+item-numbered : (s : List ℕ) → Numbered (item s)
+unfolding item
+item-numbered [] = omega arith
+item-numbered (b ∷ s) = if-numbered (eqb b 0x30) (got (num (pos 0)) s) _ tt (if-numbered (eqb b 0x2D) (signed s) _ (signed-numbered s)
+    (if-numbered (leading b) (got (num (pos (value (b - 48) s))) (behind s)) (refused 2) tt (omega arith)))
+
+ended-numbered : (k : ℕ) (s : List ℕ) → Numbered (ended k s)
+unfolding ended
+ended-numbered k s = then-numbered (item s) _ (item-numbered s) (λ e s. then-numbered (literal (ending k) s) _ (literal-numbered (ending k) s) (λ u s. tt))
+
+items-numbered : (k : ℕ) (s : List ℕ) → Numbered (items k s)
+unfolding items
+items-numbered zero s = tt
+items-numbered (suc k) s =
+    then-numbered (ended k s) _ (ended-numbered k s) (λ e s. then-numbered (items k s) _ (items-numbered k s) (λ es s. tt))
+
+checked-numbered : (r : Rule) (es : List E) (s : List ℕ) → Numbered (checked r es s)
+unfolding checked
+checked-numbered size es s =
+    if-numbered (any absent? es) (refused 2) _ (omega arith) (if-numbered (any no-size es) (refused 3) (got es s) (omega arith) tt)
+checked-numbered entry es s = if-numbered (any out-of-range es) (refused 4) (got es s) (omega arith) tt
+checked-numbered mark es s =
+    if-numbered (any out-of-range es) (refused 4) _ (omega arith) (if-numbered (any absent? es) (refused 5) (got es s) (omega arith) tt)
+
+line-numbered : (key : List ℕ) (r : Rule) (k : ℕ) (s : List ℕ) → Numbered (line key r k s)
+unfolding line
+line-numbered key r k s = then-numbered (literal key s) _ (literal-numbered key s) (λ u s. then-numbered (items k s) _ (items-numbered k s)
+    (λ es s. checked-numbered r es s))
+
+rows-numbered : (key : List ℕ) (r : Rule) (i k : ℕ) (s : List ℕ) → Numbered (rows key r i k s)
+unfolding rows
+rows-numbered key r zero k s = tt
+rows-numbered key r (suc i) k s = then-numbered (line key r k s) _ (line-numbered key r k s)
+    (λ es s. then-numbered (rows key r i k s) _ (rows-numbered key r i k s) (λ t s. tt))
+
+finished-numbered : (lag : List (List E)) (floor : List E) (t : Sheet) (s : List ℕ) → Numbered (finished lag floor t s)
+finished-numbered lag floor t (b ∷ s) = omega arith
+finished-numbered lag floor t [] = if-numbered (any (all absent?) lag) (refused 6) _ (omega arith)
+    (if-numbered (all absent? floor) (refused 7) (got t []) (omega arith) tt)
+
+tables-numbered : (m n : ℕ) (s : List ℕ) → Numbered (tables m n s)
+unfolding tables
+tables-numbered m n s =
+    then-numbered (rows (bytes "lag=") entry m n s) _ (rows-numbered (bytes "lag=") entry m n s) (λ lag s.
+    then-numbered (line (bytes "floor=") entry m s) _ (line-numbered (bytes "floor=") entry m s) (λ floor s.
+    then-numbered (line (bytes "due=") mark n s) _ (line-numbered (bytes "due=") mark n s) (λ due s.
+    then-numbered (rows (bytes "after=") entry n n s) _ (rows-numbered (bytes "after=") entry n n s) (λ after s.
+    finished-numbered lag floor _ s))))
+
+lines-numbered : (s : List ℕ) → Numbered (lines s)
+unfolding lines
+lines-numbered s =
+    then-numbered (line (bytes "panels=") size 1 s) _ (line-numbered (bytes "panels=") size 1 s) (λ p s.
+    then-numbered (line (bytes "triggers=") size 1 s) _ (line-numbered (bytes "triggers=") size 1 s) (λ q s. tables-numbered (count p) (count q) s))
+
+pub refusal-numbered : (s : List ℕ) (k : ℕ) → read s ≡ refused k → 1 ≤ k
+unfolding read
+refusal-numbered s k e = subst Numbered e (if-numbered (ltb 2048 (length s)) (refused 1) (lines s) (omega arith) (lines-numbered s))

@@ -1,0 +1,3 @@
+-- What reading a sheet answers.
+pub mod Reading
+pub mod Inner

@@ -1,0 +1,14 @@
+-- A vector or a table of entries as words.
+use mathlib.Core.List.{List, [], _∷_}
+use Prim.Native.Nat.{ℕ}
+use Rattle.maxplus.specs.Finite.{each}
+use Rattle.maxplus.specs.Tables.{Vec, Mat}
+use Rattle.words.specs.Words.{word}
+use Rattle.rows.specs.declared.Row.{Row}
+
+-- "Tables fit a square table of six by six": six words of a vector, six rows of a table
+unfoldable pub strip : Vec → List ℕ
+strip x = each 6 (λ j. word (x j) ∷ [])
+
+unfoldable pub grid : Mat → List Row
+grid A = each 6 (λ i. (record { at = strip (A i) }) ∷ [])

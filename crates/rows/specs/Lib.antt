@@ -1,0 +1,3 @@
+-- What reading lines of items promises, and their words.
+pub mod Grid
+pub mod Inner

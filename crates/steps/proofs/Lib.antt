@@ -1,0 +1,3 @@
+-- Laws of bytes of kept triggers.
+pub mod StepLaws
+pub mod ByteLaws

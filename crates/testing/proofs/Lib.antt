@@ -1,0 +1,2 @@
+-- Laws of testing a timing.
+pub mod TestLaws

@@ -1,0 +1,2 @@
+-- What testing a timing returns.
+pub mod Testing

@@ -1,0 +1,93 @@
+// Lines of items put at a place of the lent bytes: the plan's lines from their words, a kept table's panels.
+ghost use mathlib.Core.List.{[], _∷_};
+ghost use Prim.Native.Nat.{_+_, _*_, _≤_};
+ghost use lib.ListN.{length, getD};
+ghost use Rattle.maxplus.specs.Finite.{each};
+ghost use Rattle.writing.specs.Numerals.{item};
+ghost use Rattle.writing.specs.Texts.{line-texts, panel-texts};
+ghost use Rattle.writing.specs.Writing.{Puts, entry, next-item, items, line-at, lines-of};
+use writing::put_byte;
+use writing::put_bytes;
+use writing::put_item;
+use writing::put_natural;
+
+// An item of a line, with a comma before it unless it is the first.
+fn put_next_item(out: &mut [u8], at: usize, j: usize, w: i32) -> usize
+    requires { ⌜ at + 25 ≤ length (now out) ⌝ }
+    ensures { λ r. ⌜ Puts (now (out .entry)) (now (out .exit)) at r (next-item j (item (entry w))) ⌝ }
+    ensures short { λ r. ⌜ r ≤ at + 12 ⌝ }
+{
+    if j == 0 {
+        return put_item(out, at, w);
+    }
+    let behind = put_byte(out, at, b',');
+    put_item(out, behind, w)
+}
+
+// The items of the line whose seven words begin at `from`: at most 12 bytes each with the comma, and put_next_item asks 25 for the sixth.
+fn put_items(out: &mut [u8], at: usize, words: &[i32], from: usize, n: usize) -> usize
+    requires { ⌜ (at + 90 ≤ length (now out)) × (n ≤ 6) × (from + 7 ≤ length (now words)) ⌝ }
+    ensures { λ r. ⌜ Puts (now (out .entry)) (now (out .exit)) at r (items n (line-at n (now (words .entry)) from)) ⌝ }
+    ensures short { λ r. ⌜ r ≤ at + 72 ⌝ }
+{
+    let mut end = at;
+    let mut j: usize = 0;
+    while j < n {
+        end = put_next_item(out, end, j, words[from + 1 + j]);
+        j += 1;
+    }
+    end
+}
+
+// A line: 5 bytes of key, at most 72 of items and commas, LF.
+pub fn put_line(out: &mut [u8], at: usize, words: &[i32], from: usize, n: usize) -> usize
+    requires { ⌜ (at + 100 ≤ length (now out)) × (n ≤ 6) × (from + 7 ≤ length (now words)) ⌝ }
+    ensures { λ r. ⌜ Puts (now (out .entry)) (now (out .exit)) at r (line-texts n (line-at n (now (words .entry)) from ∷ [])) ⌝ }
+    ensures short { λ r. ⌜ r ≤ at + 78 ⌝ }
+{
+    let key = put_bytes(out, at, b"line=");
+    let end = put_items(out, key, words, from, n);
+    put_byte(out, end, b'\n')
+}
+
+// The first `count` lines of the words, 100 bytes for each.
+pub fn put_lines(out: &mut [u8], at: usize, words: &[i32], n: usize, count: usize) -> usize
+    requires { ⌜ (at + 100 * count ≤ length (now out)) × (n ≤ 6) × (7 * count ≤ length (now words)) ⌝ }
+    ensures { λ r. ⌜ Puts (now (out .entry)) (now (out .exit)) at r (line-texts n (lines-of n count (now (words .entry)))) ⌝ }
+{
+    let mut end = at;
+    let mut k: usize = 0;
+    while k < count {
+        end = put_line(out, end, words, 7 * k, n);
+        k += 1;
+    }
+    end
+}
+
+// A panel's line: its byte and its bit count, at most 3 digits each, where put_natural asks 20 for the second.
+fn put_panel(out: &mut [u8], at: usize, kept: u8, count: u8) -> usize
+    requires { ⌜ at + 30 ≤ length (now out) ⌝ }
+    ensures { λ r. ⌜ Puts (now (out .entry)) (now (out .exit)) at r (panel-texts ((kept, count) ∷ [])) ⌝ }
+    ensures short { λ r. ⌜ r ≤ at + 13 ⌝ }
+{
+    let key = put_bytes(out, at, b"kept=");
+    let byte = put_natural(out, key, kept as u64);
+    let comma = put_byte(out, byte, b',');
+    let end = put_natural(out, comma, count as u64);
+    put_byte(out, end, b'\n')
+}
+
+// The lines of the first `panels` panels, at most 13 bytes each.
+pub fn put_panels(out: &mut [u8], at: usize, panels: usize, kept: [u8; 6], counts: [u8; 6]) -> usize
+    requires { ⌜ (at + 100 ≤ length (now out)) × (panels ≤ 6) ⌝ }
+    ensures { λ r. ⌜ Puts (now (out .entry)) (now (out .exit)) at r (panel-texts (each panels (λ i. (getD kept i 0, getD counts i 0) ∷ []))) ⌝ }
+    ensures short { λ r. ⌜ r ≤ at + 78 ⌝ }
+{
+    let mut end = at;
+    let mut i: usize = 0;
+    while i < panels {
+        end = put_panel(out, end, kept[i], counts[i]);
+        i += 1;
+    }
+    end
+}

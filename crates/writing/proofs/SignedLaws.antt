@@ -1,0 +1,98 @@
+-- Laws of signed words as the machine tests, turns and passes them on: a component's word, and the sign of a number.
+use mathlib.Core.Path.{_≡_, refl, sym, ap, _∙_}
+use mathlib.Core.List.{_++_}
+use mathlib.Core.Bool.{true, false}
+use mathlib.Core.Logic.{_⊎_, inl, inr, ⊎-elim}
+use Prim.Native.Nat.{ℕ, suc, _+_, _^_, _≤_, _<_}
+use native.Mathlib.Numerals.{add-one}
+use native.Mathlib.Decide.{ℕ-discrete}
+use native.Mathlib.Omega.{arith}
+use borrow.Author.Tests.{ltb-true, le-ltb, eq-eqb, ne-eqb}
+use lib.IntN.{ℤ, pos, negsuc, natAbs, _-ℤ_}
+use lib.ListN.{length}
+use lib.Signed.{ltZ}
+use mir.Syntax.{w32, w64}
+use mir.Val.{SFits, toZ, ofZ}
+use mir.Facts.{toZ-ofZ, toZ-pos}
+use Rattle.maxplus.specs.Entry.{absent, num}
+use Rattle.sheet.specs.Text.{bytes}
+use Rattle.writing.specs.Numerals.{natural, numeral, item}
+use Rattle.writing.specs.Writing.{entry}
+use Rattle.writing.proofs.NumeralLaws.{signed-length}
+
+-- ---- a component's word: absent where it is the least number, and nowhere else
+pub entry-absent : (w : ℤ) → SFits w32 w → ofZ w32 w ≡ 0x8000_0000 → entry w ≡ absent
+unfolding entry
+entry-absent (pos v) f e = let x : ⊥ = omega arith in absurd x
+entry-absent (negsuc v) f e = rw (eq-eqb v 0x7fff_ffff (omega arith))
+
+pub entry-number : (w : ℤ) → SFits w32 w → (ofZ w32 w ≡ 0x8000_0000 → ⊥) → entry w ≡ num w
+unfolding entry
+entry-number (pos v) f n = refl
+entry-number (negsuc v) f n = rw (ne-eqb v 0x7fff_ffff (λ e. n (omega arith)))
+
+entry-or : (w : ℤ) → SFits w32 w → (entry w ≡ absent) ⊎ (entry w ≡ num w)
+entry-or w f = go (ℕ-discrete (ofZ w32 w) 0x8000_0000)
+  where
+    go : Dec (ofZ w32 w ≡ 0x8000_0000) → (entry w ≡ absent) ⊎ (entry w ≡ num w)
+    go (yes e) = inl (entry-absent w f e)
+    go (no n) = inr (entry-number w f n)
+
+pub item-32 : (w : ℤ) → SFits w32 w → length (item (entry w)) ≤ 11
+unfolding bytes
+item-32 w f = ⊎-elim (λ e. rw e (omega arith)) (λ e. rw e (signed-length 9 w (omega (arith, f .sfits)))) (entry-or w f)
+
+-- a word that is passed on is read back from its bits
+pub item-back : {w : ℤ} → SFits w32 w → item (entry (toZ w32 (ofZ w32 w))) ≡ item (entry w)
+item-back f = ap (λ z. item (entry z)) (toZ-ofZ f)
+
+-- ---- a number's sign, as the machine tests and turns it: v is −1 − size, or size
+abbrev back : ℤ → ℤ
+back z = toZ w64 (ofZ w64 z)
+
+pub record Negative (v : ℤ) : Type 0 where
+  pub size : ℕ
+  pub is : v ≡ negsuc size
+  pub small : size < 2 ^ 63
+  pub turned : negsuc 0 -ℤ back v ≡ pos size
+  pub read : toZ w64 size ≡ pos size
+
+pub record NotNegative (v : ℤ) : Type 0 where
+  pub size : ℕ
+  pub is : v ≡ pos size
+  pub small : size < 2 ^ 63
+  pub read : back v ≡ pos size
+
+turn : (k : ℕ) → negsuc 0 -ℤ negsuc k ≡ pos k
+turn k = rw (le-ltb (suc k) 1 (omega arith)) (ap pos (omega arith))
+
+pub negative : (v : ℤ) → SFits w64 v → ltZ (back v) (pos 0) ≡ true → Negative v
+negative v f t = go v f (ap (λ z. ltZ z (pos 0)) (sym (toZ-ofZ f)) ∙ t)
+  where
+    go : (v : ℤ) → SFits w64 v → ltZ v (pos 0) ≡ true → Negative v
+    go (pos n) f t = let h = ltb-true n 0 t in let e : ⊥ = omega arith in absurd e
+    go (negsuc n) f t =
+        record {
+          size = n;
+          is = refl;
+          small = f .sfits;
+          turned = ap (λ z. negsuc 0 -ℤ z) (toZ-ofZ f) ∙ turn n;
+          read = toZ-pos w64 (f .sfits);
+        }
+
+pub not-negative : (v : ℤ) → SFits w64 v → ltZ (back v) (pos 0) ≡ false → NotNegative v
+not-negative v f t = go v f (ap (λ z. ltZ z (pos 0)) (sym (toZ-ofZ f)) ∙ t)
+  where
+    go : (v : ℤ) → SFits w64 v → ltZ v (pos 0) ≡ false → NotNegative v
+    go (pos n) f t =
+        record {
+          size = n;
+          is = refl;
+          small = f .sfits;
+          read = toZ-ofZ f;
+        }
+    go (negsuc n) f t = let e : _≡_ {A = ℕ} 0 1 = cc in let e : ⊥ = omega arith in absurd e
+
+-- a minus, then the magnitude as the machine has it
+pub minus-text : (v : ℤ) → Negative v → bytes "-" ++ natural (natAbs (back (negsuc 0 -ℤ back v)) + 1) ≡ numeral v
+minus-text v b = rw (b .turned, b .read, add-one (b .size)) (sym (ap numeral (b .is)))

@@ -1,0 +1,120 @@
+-- Laws of lines: how a loop over items, lines or panels makes its text grow, part by part.
+use mathlib.Core.Path.{_≡_, refl, sym, ap, _∙_}
+use mathlib.Core.List.{List, [], _∷_, _++_, append-nil, append-assoc}
+use Prim.Native.Nat.{ℕ, zero, suc, _+_, _*_, _≤_, _<_}
+use native.Mathlib.Numerals.{add-one}
+use native.Mathlib.Omega.{arith}
+use lib.ListN.{length, getD, take, length-append, length-take}
+use lib.IntN.{ℤ, pos}
+use Rattle.maxplus.specs.Finite.{each}
+use Rattle.maxplus.specs.Line.{Line, at}
+use Rattle.maxplus.proofs.EachLaws.{length-each}
+use Rattle.maxplus.proofs.LineLaws.{at-line}
+use Rattle.sheet.specs.Text.{bytes}
+use Rattle.writing.specs.Numerals.{natural, item}
+use Rattle.writing.specs.Texts.{field, joined, line-texts, panel-texts}
+use Rattle.writing.specs.Writing.{Puts, next-item, items, entry, line-at, lines-of}
+use Rattle.writing.proofs.PutLaws.{put-nothing, then, put-as}
+
+-- ---- k parts are put, of at most `size` bytes each: a loop's invariant
+pub record Grown (T : ℕ → List ℕ) (size : ℕ) (before after : List ℕ) (from end k : ℕ) : Type 0 where
+  pub short : end ≤ from + size * k
+  pub puts : Puts before after from end (T k)
+
+module _ (T : ℕ → List ℕ) (size : ℕ) where
+  pub grown-none : (b : List ℕ) (from : ℕ) → T 0 ≡ [] → from ≤ length b → Grown T size b b from from 0
+  grown-none b from e h = record { short = omega arith; puts = put-as (sym e) (put-nothing b from h) }
+
+  pub grown-more : {a b c : List ℕ} {from end r k : ℕ} {t : List ℕ} → T (suc k) ≡ T k ++ t → Grown T size a b from end k → Puts b c end r t →
+      r ≤ end + size → Grown T size a c from r (k + 1)
+  grown-more {k = k} e g p h =
+      record {
+        short = omega (arith, g .short);
+        puts = put-as (sym (ap T (add-one k) ∙ e)) (then (g .puts) p);
+      }
+
+-- ---- items
+abbrev pub first-items : (n : ℕ) → Line n → ℕ → List ℕ
+first-items n c k = joined (each k (λ i. item (at n c i) ∷ []))
+
+joined-last : (v w : List ℕ) (l : List (List ℕ)) → joined (v ∷ l ++ w ∷ []) ≡ joined (v ∷ l) ++ (bytes "," ++ w)
+unfolding joined
+joined-last v w [] = append-assoc v (bytes ",") w
+joined-last v w (x ∷ l) = ap (λ t. v ++ bytes "," ++ t) (joined-last x w l) ∙ sym (append-assoc (v ++ bytes ",") (joined (x ∷ l)) (bytes "," ++ w))
+
+joined-more : (w : List ℕ) (l : List (List ℕ)) → 0 < length l → joined (l ++ w ∷ []) ≡ joined l ++ (bytes "," ++ w)
+joined-more w [] h = let e : ⊥ = omega arith in absurd e
+joined-more w (v ∷ l) h = joined-last v w l
+
+module _ (f : ℕ → List ℕ) where
+  pub items-none : joined (each 0 (λ i. f i ∷ [])) ≡ []
+  unfolding joined each
+  items-none = refl
+
+  pub items-more : (j : ℕ) → joined (each (suc j) (λ i. f i ∷ [])) ≡ joined (each j (λ i. f i ∷ [])) ++ next-item j (f j)
+  unfolding joined each
+  items-more zero = refl
+  items-more (suc j) = joined-more (f (suc j)) (each (suc j) (λ i. f i ∷ [])) (let e = length-each (suc j) f in omega arith)
+
+pub item-behind : (j : ℕ) (v : List ℕ) → ¬ (j ≡ 0) → bytes "," ++ v ≡ next-item j v
+item-behind zero v n = absurd (n refl)
+item-behind (suc j) v n = refl
+
+pub item-first : (j : ℕ) (v : List ℕ) → j ≡ 0 → v ≡ next-item j v
+item-first zero v e = refl
+item-first (suc j) v e = let x : ⊥ = omega arith in absurd x
+
+-- the i-th item of a line is its word's
+pub item-of : (n : ℕ) (ws : List ℤ) (from i : ℕ) → i < n → item (entry (getD ws (from + 1 + i) (pos 0))) ≡ item (at n (line-at n ws from) i)
+unfolding line-at
+item-of n ws from i h = ap item (sym (at-line n (λ j. entry (getD ws (from + 1 + j) (pos 0))) i h))
+
+-- ---- lines
+pub line-text : (n : ℕ) (c : Line n) → bytes "line=" ++ items n c ++ bytes "\n" ≡ line-texts n (c ∷ [])
+unfolding line-texts
+line-text n c = sym (append-nil (bytes "line=" ++ items n c ++ bytes "\n"))
+
+lines-append : (n : ℕ) (L M : List (Line n)) → line-texts n (L ++ M) ≡ line-texts n L ++ line-texts n M
+unfolding line-texts
+lines-append n [] M = refl
+lines-append n (c ∷ L) M =
+    let first : List ℕ = field (bytes "line=") (items n c) in
+    ap (λ t. first ++ t) (lines-append n L M) ∙ sym (append-assoc first (line-texts n L) (line-texts n M))
+
+pub lines-none : (n : ℕ) (ws : List ℤ) → line-texts n (lines-of n 0 ws) ≡ []
+unfolding line-texts lines-of each
+lines-none n ws = refl
+
+pub lines-more : (n : ℕ) (ws : List ℤ) (k : ℕ) →
+    line-texts n (lines-of n (suc k) ws) ≡ line-texts n (lines-of n k ws) ++ line-texts n (line-at n ws (7 * k) ∷ [])
+unfolding lines-of each
+lines-more n ws k = lines-append n (lines-of n k ws) (line-at n ws (7 * k) ∷ [])
+
+-- ---- panels
+pub panel-text : (b c : ℕ) → bytes "kept=" ++ natural b ++ bytes "," ++ natural c ++ bytes "\n" ≡ panel-texts ((b, c) ∷ [])
+unfolding panel-texts joined
+panel-text b c = simp (append-assoc, append-nil)
+
+pub panel-length : (b c : ℕ) → length (natural b) ≤ 3 → length (natural c) ≤ 3 → length (panel-texts ((b, c) ∷ [])) ≤ 13
+unfolding panel-texts joined bytes
+panel-length b c h i = simp length-append (omega arith)
+
+panels-append : (P Q : List (ℕ × ℕ)) → panel-texts (P ++ Q) ≡ panel-texts P ++ panel-texts Q
+unfolding panel-texts
+panels-append [] Q = refl
+panels-append (p ∷ P) Q =
+    let first : List ℕ = field (bytes "kept=") (joined (natural (p .0) ∷ natural (p .1) ∷ [])) in
+    ap (λ t. first ++ t) (panels-append P Q) ∙ sym (append-assoc first (panel-texts P) (panel-texts Q))
+
+pub panels-none : (f : ℕ → ℕ × ℕ) → panel-texts (each 0 (λ i. f i ∷ [])) ≡ []
+unfolding panel-texts each
+panels-none f = refl
+
+pub panels-more : (f : ℕ → ℕ × ℕ) (k : ℕ) →
+    panel-texts (each (suc k) (λ i. f i ∷ [])) ≡ panel-texts (each k (λ i. f i ∷ [])) ++ panel-texts (f k ∷ [])
+unfolding each
+panels-more f k = panels-append (each k (λ i. f i ∷ [])) (f k ∷ [])
+
+-- ---- the part up to r has r bytes, where there are as many
+pub counted : (r : ℕ) (xs : List ℕ) → r ≤ length xs → (r ≤ length xs) × (r ≡ length (take r xs))
+counted r xs h = (h, simp length-take (omega arith))

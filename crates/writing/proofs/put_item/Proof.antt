@@ -1,0 +1,46 @@
+-- `text::put::put_item` meets its contract. Assumes nothing.
+use mathlib.Core.Path.{sym, ap, _∙_}
+use borrow.Author.Needs.{needs}
+use mir.Syntax.{w64}
+use mir.Val.{toZ, ofZ}
+use mir.Facts.{sfits-widen, toZ-ofZ}
+use Rattle.sheet.specs.Text.{bytes}
+use Rattle.writing.specs.Numerals.{numeral, item}
+use Rattle.writing.proofs.PutLaws.{put-as, put-short}
+use Rattle.writing.proofs.SignedLaws.{entry-absent, entry-number, item-32}
+use Rattle.writing.proofs.put_item.Statement.{statement}
+use Rattle.writing.proofs.put_item.Tie as tie
+
+put-byte-requires : tie.Need-put-byte-requires
+put-byte-requires c κs = search needs
+
+same-length : tie.Need-same-length
+same-length c = search needs
+
+returns : tie.Need-returns
+unfolding bytes
+returns c =
+    let k = c .before .before .before .before in
+    let f = k .before .before .fits .w in
+    put-short (item-32 _ f) (put-as (ap item (sym (entry-absent _ f (k .if1 .taken)))) (c .before .before .put-byte .ensures))
+
+cast-put-number : tie.Need-cast-put-number
+cast-put-number c = let f = c .before .before .before .fits .w in rw (toZ-ofZ f) (sfits-widen tt f)
+
+put-number-requires : tie.Need-put-number-requires
+put-number-requires c κs = search needs
+
+same-length-2 : tie.Need-same-length-2
+same-length-2 c = search needs
+
+returns-2 : tie.Need-returns-2
+returns-2 c =
+    let k = c .before .before .before .before in
+    let f = k .before .before .fits .w in
+    let e = entry-number _ f (k .if1 .left) in
+    let back = ap (λ z. toZ w64 (ofZ w64 z)) (toZ-ofZ f) ∙ toZ-ofZ (sfits-widen {w′ = w64} tt f) in
+    put-short (item-32 _ f) (put-as (ap numeral back ∙ sym (ap item e)) (c .before .before .put-number .ensures .0))
+
+pub put-item-spec : {M : Type 1} → statement M
+put-item-spec =
+    tie.close (tie.spec put-byte-requires same-length returns cast-put-number put-number-requires same-length-2 returns-2)

@@ -1,0 +1,47 @@
+-- The texts that the programs write (document 01, "Whole case"): of a plan, of a kept table, of a refusal.
+use mathlib.Core.List.{List, [], _∷_, _++_}
+use Prim.Native.Nat.{ℕ}
+use lib.IntN.{ℤ}
+use lib.ListN.{length}
+use Rattle.maxplus.specs.Finite.{each}
+use Rattle.maxplus.specs.Line.{Line, at}
+use Rattle.sheet.specs.Text.{bytes}
+use Rattle.writing.specs.Numerals.{natural, numeral, item}
+
+-- a key, what stands behind it, LF
+abbrev pub field : List ℕ → List ℕ → List ℕ
+field key v = key ++ v ++ bytes "\n"
+
+-- "items split by one comma"
+unfoldable pub joined : List (List ℕ) → List ℕ
+joined [] = []
+joined (v ∷ []) = v
+joined (v ∷ w ∷ l) = v ++ bytes "," ++ joined (w ∷ l)
+
+unfoldable pub line-texts : (n : ℕ) → List (Line n) → List ℕ
+line-texts n [] = []
+line-texts n (c ∷ L) = field (bytes "line=") (joined (each n (λ j. item (at n c j) ∷ []))) ++ line-texts n L
+
+-- "The fields are Δ, the walk's fixings, its selections, the number of lines, then each line, trigger 1 first."
+unfoldable pub plan-text : (n : ℕ) → ℤ → ℕ → ℕ → List (Line n) → List ℕ
+plan-text n D k l L =
+    field (bytes "deviation=") (numeral D) ++ field (bytes "steps=") (natural k) ++ field (bytes "selections=") (natural l) ++
+    field (bytes "count=") (natural (length L)) ++ line-texts n L
+
+-- a line for each panel: its byte and its bit count
+unfoldable pub panel-texts : List (ℕ × ℕ) → List ℕ
+panel-texts [] = []
+panel-texts (p ∷ P) = field (bytes "kept=") (joined (natural (p .0) ∷ natural (p .1) ∷ [])) ++ panel-texts P
+
+-- "It gives Δ, each panel's byte and bit count …, steps and selections."
+unfoldable pub kept-text : ℤ → List (ℕ × ℕ) → ℕ → ℕ → List ℕ
+kept-text D P k l =
+    field (bytes "deviation=") (numeral D) ++ panel-texts P ++ field (bytes "steps=") (natural k) ++ field (bytes "selections=") (natural l)
+
+-- "A refusal is written `refused=` and its number, LF"
+unfoldable pub refusal-text : ℕ → List ℕ
+refusal-text k = field (bytes "refused=") (natural k)
+
+-- 9's count needed is "written `count=` on the next line"
+unfoldable pub full-text : ℕ → List ℕ
+full-text k = refusal-text 9 ++ field (bytes "count=") (natural k)
