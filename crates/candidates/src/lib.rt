@@ -1,4 +1,4 @@
-// Step 6's candidates of a selection, the test for extreme that needs no other candidate, and the order of lines.
+// Step 6's candidates of a selection, and the order of lines.
 // A loop over n triggers, n at most 6, often names the constant end too, as in `j < n && j < 6`: the compiler then unrolls it.
 pub mod drawing;
 pub mod entries;

@@ -13,9 +13,9 @@ use lib.Seq.{drop-cons}
 use Rattle.maxplus.specs.Whole.{neg}
 use Rattle.maxplus.specs.Entry.{absent, num}
 use Rattle.words.specs.Words.{word}
-use Rattle.sheet.specs.Sheet.{got, refused, limit, digit, leading, value, behind, signed, item, ending, ended, literal}
+use Rattle.sheet.specs.Sheet.{got, refused, digit, leading, value, behind, signed, item, ending, ended, literal}
 use Rattle.sheet.specs.Text.{bytes}
-use Rattle.items.specs.Inner.{beyond, clip, NumeralAt, ItemIs}
+use Rattle.items.specs.Inner.{clip, NumeralAt, ItemIs}
 use Rattle.items.specs.declared.Numeral.{Numeral}
 use Rattle.items.specs.declared.Item.{Item}
 use Rattle.items.specs.declared.Item.the-variants.{Entry, Faulty}
@@ -42,22 +42,23 @@ leading-digit b e = omega (arith, range-bounds 49 b e)
 pub leading-worth : (w b : ℕ) → leading b ≡ true → w ≡ b - 48 → w ≤ 9
 leading-worth w b e q = omega (arith, range-bounds 49 b e)
 
-cond-capped : (t : Bool) (a b x y : ℕ) → min a beyond ≡ min b beyond → min x beyond ≡ min y beyond
-    → min (cond t a x) beyond ≡ min (cond t b y) beyond
-cond-capped true a b x y p q = p
-cond-capped false a b x y p q = q
+module _ (most : ℕ) where
+  cond-capped : (t : Bool) (a b x y : ℕ) → min a (suc most) ≡ min b (suc most) → min x (suc most) ≡ min y (suc most)
+      → min (cond t a x) (suc most) ≡ min (cond t b y) (suc most)
+  cond-capped true a b x y p q = p
+  cond-capped false a b x y p q = q
 
--- values that are the same capped stay so however many digits follow
-value-capped : (x y : ℕ) (s : List ℕ) → min x beyond ≡ min y beyond → min (value x s) beyond ≡ min (value y s) beyond
-unfolding value
-value-capped x y [] h = h
-value-capped x y (b ∷ s) h = cond-capped (digit b) _ _ _ _ (value-capped (x * 10 + (b - 48)) (y * 10 + (b - 48)) s (omega arith)) h
+  -- values that are the same capped stay so however many digits follow
+  value-capped : (x y : ℕ) (s : List ℕ) → min x (suc most) ≡ min y (suc most) → min (value x s) (suc most) ≡ min (value y s) (suc most)
+  unfolding value
+  value-capped x y [] h = h
+  value-capped x y (b ∷ s) h = cond-capped (digit b) _ _ _ _ (value-capped (x * 10 + (b - 48)) (y * 10 + (b - 48)) s (omega arith)) h
 
 -- part of a numeral is read: what is left from `at` on, read on from v, gives what the whole gives
-pub record ReadTo (s : List ℕ) (from first at v : ℕ) : Type 0 where
+pub record ReadTo (most : ℕ) (s : List ℕ) (from first at v : ℕ) : Type 0 where
   pub within : at ≤ length s
-  pub small : v ≤ beyond
-  pub value-on : min (value v (drop at s)) beyond ≡ min (value first (drop from s)) beyond
+  pub small : v ≤ suc most
+  pub value-on : min (value v (drop at s)) (suc most) ≡ min (value first (drop from s)) (suc most)
   pub behind-on : behind (drop at s) ≡ behind (drop from s)
 
 -- no digit stands at the front
@@ -89,44 +90,44 @@ module _ (s : List ℕ) (at : ℕ) where
     unfolding behind
     behind-digit e = rw (add-one, drop-cons s at 0 h, e)
 
-module _ {s : List ℕ} {from first : ℕ} where
-  pub read-first : from ≤ length s → first ≤ 9 → ReadTo s from first from first
-  read-first h k = record { within = h; small = omega arith; value-on = refl; behind-on = refl }
+module _ {most : ℕ} {s : List ℕ} {from first : ℕ} where
+  pub read-first : from ≤ length s → first ≤ 9 → 9 ≤ most → ReadTo most s from first from first
+  read-first h k m = record { within = h; small = omega arith; value-on = refl; behind-on = refl }
 
-  module _ {at v : ℕ} (r : ReadTo s from first at v) where
-    pub read-digit : (w : ℕ) → at < length s → digit (getD s at 0) ≡ true → w ≡ min (v * 10 + (getD s at 0 - 48)) beyond
-        → ReadTo s from first (at + 1) w
+  module _ {at v : ℕ} (r : ReadTo most s from first at v) where
+    pub read-digit : (w : ℕ) → at < length s → digit (getD s at 0) ≡ true → w ≡ min (v * 10 + (getD s at 0 - 48)) (suc most)
+        → ReadTo most s from first (at + 1) w
     read-digit w h d e =
         record {
           within = omega arith;
           small = omega arith;
           value-on =
-              value-capped w (v * 10 + (getD s at 0 - 48)) (drop (at + 1) s) (omega arith)
-              ∙ ap (λ n. min n beyond) (sym (value-digit s at h v d))
+              value-capped most w (v * 10 + (getD s at 0 - 48)) (drop (at + 1) s) (omega arith)
+              ∙ ap (λ n. min n (suc most)) (sym (value-digit s at h v d))
               ∙ r .value-on;
           behind-on = sym (behind-digit s at h d) ∙ r .behind-on;
         }
 
-    pub read-whole : Stop (drop at s) → NumeralAt s from first (record { value = v; next = at })
+    pub read-whole : Stop (drop at s) → NumeralAt most s from first (record { value = v; next = at })
     read-whole t =
         let small = r .small in
-        let e : v ≡ min v beyond = omega arith in
+        let e : v ≡ min v (suc most) = omega arith in
         record {
-          value-is = e ∙ ap (λ n. min n beyond) (sym (t .value-stays v)) ∙ r .value-on;
+          value-is = e ∙ ap (λ n. min n (suc most)) (sym (t .value-stays v)) ∙ r .value-on;
           within = r .within;
           rest = sym (t .none-passed) ∙ r .behind-on;
         }
 
 -- items
-clip-neg : (n : ℕ) → clip (num (neg (pos n))) ≡ num (neg (pos (min n beyond)))
+clip-neg : (most n : ℕ) → clip most (num (neg (pos n))) ≡ num (neg (pos (min n (suc most))))
 unfolding neg
-clip-neg zero = refl
-clip-neg (suc n) =
-    let e : min (suc n) beyond ≡ suc (min n limit) = omega arith in
+clip-neg most zero = let e : min 0 (suc most) ≡ 0 = omega arith in rw e
+clip-neg most (suc n) =
+    let e : min (suc n) (suc most) ≡ suc (min n most) = omega arith in
     rw e
 
 module _ (s : List ℕ) (at : ℕ) where
-  pub item-end : length s ≤ at → ItemIs item s at Faulty
+  pub item-end : length s ≤ at → item (drop at s) ≡ refused 2
   unfolding item
   item-end h = rw (drop-of-length-le s h)
 
@@ -134,12 +135,12 @@ module _ (s : List ℕ) (at : ℕ) where
   unfolding signed
   signed-nil h = rw (drop-of-length-le s h)
 
-  lone-minus : at ≤ length s → signed (drop at s) ≡ got absent (drop at s) → ItemIs signed s at (Entry 0 at)
+  lone-minus : (most : ℕ) → at ≤ length s → signed (drop at s) ≡ got absent (drop at s) → ItemIs most signed s at (Entry 0 at)
   unfolding word
-  lone-minus h e = (absent, e, refl, h)
+  lone-minus most h e = (absent, e, refl, h)
 
-  pub signed-end : at ≤ length s → length s ≤ at → ItemIs signed s at (Entry 0 at)
-  signed-end k h = lone-minus k (signed-nil h)
+  pub signed-end : (most : ℕ) → at ≤ length s → length s ≤ at → ItemIs most signed s at (Entry 0 at)
+  signed-end most k h = lone-minus most k (signed-nil h)
 
   module _ (h : at < length s) where
     signed-leading : leading (getD s at 0) ≡ true
@@ -151,30 +152,32 @@ module _ (s : List ℕ) (at : ℕ) where
     unfolding signed
     signed-none e = rw (drop-cons s at 0 h, e)
 
-    pub signed-other : leading (getD s at 0) ≡ false → ItemIs signed s at (Entry 0 at)
-    signed-other e = lone-minus (omega arith) (signed-none e)
+    pub signed-other : (most : ℕ) → leading (getD s at 0) ≡ false → ItemIs most signed s at (Entry 0 at)
+    signed-other most e = lone-minus most (omega arith) (signed-none e)
 
-    pub signed-numeral : {m : Numeral} (w : ℕ) → leading (getD s at 0) ≡ true → NumeralAt s (at + 1) (getD s at 0 - 48) m
-        → w ≡ word (num (neg (pos (m .value)))) → ItemIs signed s at (Entry w (m .next))
-    signed-numeral w e r q =
+    pub signed-numeral : {most : ℕ} {m : Numeral} (w : ℕ) → leading (getD s at 0) ≡ true → NumeralAt most s (at + 1) (getD s at 0 - 48) m
+        → w ≡ word (num (neg (pos (m .value)))) → ItemIs most signed s at (Entry w (m .next))
+    signed-numeral {most} w e r q =
         let v = value (getD s at 0 - 48) (drop (at + 1) s) in
-        let clipped = ap (λ n. num (neg (pos n))) (r .value-is) ∙ sym (clip-neg v) in
+        let clipped = ap (λ n. num (neg (pos n))) (r .value-is) ∙ sym (clip-neg most v) in
         (num (neg (pos v)), signed-leading e ∙ rw (r .rest), q ∙ ap word clipped, r .within)
 
     item-minus : getD s at 0 ≡ 45 → item (drop at s) ≡ signed (drop (at + 1) s)
     unfolding item
     item-minus e = rw (add-one, drop-cons s at 0 h, e)
 
-    pub item-signed : getD s at 0 ≡ 45 → (r : Item) → ItemIs signed s (at + 1) r → ItemIs item s at r
-    item-signed e (Entry w next) (x, q, v, k) = (x, item-minus e ∙ q, v, k)
-    item-signed e Faulty q = item-minus e ∙ q
+    pub item-signed : (most : ℕ) → getD s at 0 ≡ 45 → (r : Item) → ItemIs most signed s (at + 1) r → ItemIs most item s at r
+    item-signed most e (Entry w next) (x, q, v, k) = (x, item-minus e ∙ q, v, k)
+    item-signed most e Faulty q = item-minus e ∙ q
 
     item-nought : getD s at 0 ≡ 48 → item (drop at s) ≡ got (num (pos 0)) (drop (at + 1) s)
     unfolding item
     item-nought e = rw (add-one, drop-cons s at 0 h, eq-eqb _ _ e)
 
-    pub item-zero : getD s at 0 ≡ 48 → (w : ℕ) → w ≡ word (num (pos 0)) → ItemIs item s at (Entry w (at + 1))
-    item-zero e w q = (_, item-nought e, q, omega arith)
+    pub item-zero : (most : ℕ) → getD s at 0 ≡ 48 → (w : ℕ) → w ≡ word (num (pos 0)) → ItemIs most item s at (Entry w (at + 1))
+    item-zero most e w q =
+        let none : min 0 (suc most) ≡ 0 = omega arith in
+        (num (pos 0), item-nought e, rw none q, omega arith)
 
     module _ (n : getD s at 0 ≡ 48 → ⊥) (k : getD s at 0 ≡ 45 → ⊥) where
       item-leading : leading (getD s at 0) ≡ true
@@ -182,13 +185,13 @@ module _ (s : List ℕ) (at : ℕ) where
       unfolding item
       item-leading e = rw (add-one, drop-cons s at 0 h, ne-eqb _ _ n, ne-eqb _ _ k, e)
 
-      pub item-numeral : {m : Numeral} (w : ℕ) → leading (getD s at 0) ≡ true → NumeralAt s (at + 1) (getD s at 0 - 48) m
-          → w ≡ word (num (pos (m .value))) → ItemIs item s at (Entry w (m .next))
+      pub item-numeral : {most : ℕ} {m : Numeral} (w : ℕ) → leading (getD s at 0) ≡ true → NumeralAt most s (at + 1) (getD s at 0 - 48) m
+          → w ≡ word (num (pos (m .value))) → ItemIs most item s at (Entry w (m .next))
       item-numeral w e r q =
           let v = value (getD s at 0 - 48) (drop (at + 1) s) in
           (num (pos v), item-leading e ∙ rw (r .rest), q ∙ ap (λ n. word (num (pos n))) (r .value-is), r .within)
 
-      pub item-none : leading (getD s at 0) ≡ false → ItemIs item s at Faulty
+      pub item-none : leading (getD s at 0) ≡ false → item (drop at s) ≡ refused 2
       unfolding item
       item-none e = rw (drop-cons s at 0 h, ne-eqb _ _ n, ne-eqb _ _ k, e)
 
@@ -206,16 +209,16 @@ pub ended-none : (left : ℕ) (s : List ℕ) → item s ≡ refused 2 → ended 
 unfolding ended
 ended-none left s e = rw e
 
-module _ (left : ℕ) (s : List ℕ) (at next : ℕ) {w : ℕ} (i : ItemIs item s at (Entry w next)) {b : ℕ} (end : ending left ≡ b ∷ []) where
-  pub ended-short : length s ≤ next → ItemIs (ended left) s at Faulty
+module _ (most left : ℕ) (s : List ℕ) (at next : ℕ) {w : ℕ} (i : ItemIs most item s at (Entry w next)) {b : ℕ} (end : ending left ≡ b ∷ []) where
+  pub ended-short : length s ≤ next → ended left (drop at s) ≡ refused 2
   unfolding ended literal
   ended-short h = rw (i .1, end, drop-of-length-le s h)
 
   module _ (h : next < length s) where
-    pub ended-differs : (getD s next 0 ≡ b → ⊥) → ItemIs (ended left) s at Faulty
+    pub ended-differs : (getD s next 0 ≡ b → ⊥) → ended left (drop at s) ≡ refused 2
     unfolding ended literal
     ended-differs n = rw (i .1, end, drop-cons s next 0 h, ne-eqb _ _ n)
 
-    pub ended-whole : getD s next 0 ≡ b → ItemIs (ended left) s at (Entry w (next + 1))
+    pub ended-whole : getD s next 0 ≡ b → ItemIs most (ended left) s at (Entry w (next + 1))
     unfolding ended literal
     ended-whole e = (i .0, rw (i .1, end, add-one, drop-cons s next 0 h, eq-eqb _ _ e), i .2, omega arith)

@@ -1,12 +1,10 @@
 // One item of a line: a numeral, or a lone minus for absent.
 ghost use mathlib.Core.Path.{_≡_};
-ghost use Prim.Native.Nat.{_≤_, min};
+ghost use Prim.Native.Nat.{suc, _≤_, _<_, min};
 ghost use lib.ListN.{length};
 ghost use Rattle.sheet.specs.Sheet.{digit, leading, item, signed};
-ghost use Rattle.items.specs.Inner.{beyond, NumeralAt, ItemIs};
-
-// Entries lie from -LIMIT to LIMIT; any number beyond is read as one past the end, so numerals of any length are read without wrapping.
-pub const LIMIT: u64 = 100000;
+ghost use Rattle.words.specs.Words.{far};
+ghost use Rattle.items.specs.Inner.{NumeralAt, ItemIs};
 
 // An entry's word and the place behind it; or no item.
 pub enum Item {
@@ -19,10 +17,10 @@ struct Numeral {
     next: usize,
 }
 
-// The item at `at`.
-pub fn item_at(s: &[u8], at: usize) -> Item
-    requires { ⌜ at ≤ length (now s) ⌝ }
-    ensures { λ r. ⌜ ItemIs item (now (s .entry)) at r ⌝ }
+// The item at `at`. A number beyond -most or most is read as one past it, so that numerals of any length are read without wrapping.
+pub fn item_at(s: &[u8], at: usize, most: u64) -> Item
+    requires { ⌜ (at ≤ length (now s)) × (9 ≤ most) × (most < far) ⌝ }
+    ensures { λ r. ⌜ ItemIs most item (now (s .entry)) at r ⌝ }
 {
     if s.len() <= at {
         return Item::Faulty;
@@ -32,35 +30,35 @@ pub fn item_at(s: &[u8], at: usize) -> Item
         return Item::Entry(words::positive(0), at + 1);
     }
     if b == b'-' {
-        return signed_at(s, at + 1);
+        return signed_at(s, at + 1, most);
     }
     if is_leading(b) {
-        let m = numeral_from(s, at + 1, wide(b - b'0'));
+        let m = numeral_from(s, at + 1, wide(b - b'0'), most);
         return Item::Entry(words::positive(m.value), m.next);
     }
     Item::Faulty
 }
 
 // What stands behind a minus: a numeral, or nothing of this item.
-fn signed_at(s: &[u8], at: usize) -> Item
-    requires { ⌜ at ≤ length (now s) ⌝ }
-    ensures { λ r. ⌜ ItemIs signed (now (s .entry)) at r ⌝ }
+fn signed_at(s: &[u8], at: usize, most: u64) -> Item
+    requires { ⌜ (at ≤ length (now s)) × (9 ≤ most) × (most < far) ⌝ }
+    ensures { λ r. ⌜ ItemIs most signed (now (s .entry)) at r ⌝ }
 {
     if s.len() <= at {
         return Item::Entry(0, at);
     }
     let b = s[at];
     if is_leading(b) {
-        let m = numeral_from(s, at + 1, wide(b - b'0'));
+        let m = numeral_from(s, at + 1, wide(b - b'0'), most);
         return Item::Entry(words::negative(m.value), m.next);
     }
     Item::Entry(0, at)
 }
 
 // Reads on behind a numeral's first digit.
-fn numeral_from(s: &[u8], from: usize, first: u64) -> Numeral
-    requires { ⌜ (from ≤ length (now s)) × (first ≤ 9) ⌝ }
-    ensures { λ r. ⌜ NumeralAt (now (s .entry)) from first r ⌝ }
+fn numeral_from(s: &[u8], from: usize, first: u64, most: u64) -> Numeral
+    requires { ⌜ (from ≤ length (now s)) × (first ≤ 9) × (9 ≤ most) × (most < far) ⌝ }
+    ensures { λ r. ⌜ NumeralAt most (now (s .entry)) from first r ⌝ }
 {
     let mut at = from;
     let mut value = first;
@@ -69,7 +67,7 @@ fn numeral_from(s: &[u8], from: usize, first: u64) -> Numeral
         if !is_digit(b) {
             break;
         }
-        value = capped(value * 10 + wide(b - b'0'));
+        value = capped(value * 10 + wide(b - b'0'), most);
         at += 1;
     }
     Numeral {
@@ -90,10 +88,11 @@ fn is_leading(b: u8) -> bool
     if b < b'1' { false } else { b <= b'9' }
 }
 
-fn capped(value: u64) -> u64
-    ensures { λ r. ⌜ r ≡ min value beyond ⌝ }
+fn capped(value: u64, most: u64) -> u64
+    requires { ⌜ most < far ⌝ }
+    ensures { λ r. ⌜ r ≡ min value (suc most) ⌝ }
 {
-    if LIMIT < value { LIMIT + 1 } else { value }
+    if most < value { most + 1 } else { value }
 }
 
 fn wide(b: u8) -> u64

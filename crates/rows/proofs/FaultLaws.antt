@@ -17,12 +17,11 @@ use Rattle.words.specs.Words.{bias, word}
 use Rattle.sheet.specs.Sheet as sheet
 use Rattle.sheet.specs.Sheet.{got, refused, limit, absent?, no-size, out-of-range, any, checked, row}
 use Rattle.rows.specs.Grid.{strip}
-use Rattle.items.specs.Inner.{beyond, clip}
-use Rattle.rows.specs.Inner.{verdict, earlier-of, words-of, fault-of, FaultIs}
+use Rattle.rows.specs.Inner.{clip, verdict, earlier-of, words-of, fault-of, FaultIs}
 use Rattle.rows.proofs.PlaceLaws.{strip-at}
 
 -- a clipped number's word by the number's two parts, of which one is 0
-parts : (w : ℕ) (z : ℤ) → w ≡ word (clip (num z)) → (w + min (dn z) beyond ≡ bias + min (up z) beyond) × (min (up z) (dn z) ≡ 0)
+parts : (w : ℕ) (z : ℤ) → w ≡ word (clip (num z)) → (w + min (dn z) (suc limit) ≡ bias + min (up z) (suc limit)) × (min (up z) (dn z) ≡ 0)
 unfolding word
 parts w (pos n) q = omega arith
 parts w (negsuc n) q = omega arith
@@ -223,7 +222,7 @@ in-range-clip : (e : E) → out-of-range e ≡ false → clip e ≡ e
 in-range-clip absent h = refl
 in-range-clip (num (pos n)) h =
     let small = ltb-false limit n (none-or (ltb limit n) false h .0) in
-    let m : min n beyond ≡ n = omega arith in
+    let m : min n (suc limit) ≡ n = omega arith in
     rw m
 in-range-clip (num (negsuc n)) h =
     let small = ltb-false limit (suc n) h in

@@ -12,8 +12,7 @@ use Rattle.maxplus.proofs.EachLaws.{each-set, map-append, map-length}
 use Rattle.words.specs.Words.{word}
 use Rattle.sheet.specs.Sheet.{Got, got, refused, _>>=_, literal, ended, items, Rule, checked, line, rows, row, table}
 use Rattle.rows.specs.Grid.{strip, grid}
-use Rattle.items.specs.Inner.{clip}
-use Rattle.rows.specs.Inner.{LiteralAt, verdict, words-of, Read, RowsAre}
+use Rattle.rows.specs.Inner.{clip, LiteralAt, verdict, words-of, Read, RowsAre}
 use Rattle.rows.specs.declared.Row.{Row}
 use Rattle.rows.specs.declared.Rows.{Rows}
 

@@ -8,12 +8,16 @@ use Rattle.maxplus.specs.Entry.{E}
 use Rattle.maxplus.specs.Finite.{In, mapL}
 use Rattle.words.specs.Words.{word}
 use Rattle.sheet.specs.Sheet as sheet
-use Rattle.sheet.specs.Sheet.{Got, got, refused, literal, absent?, no-size, out-of-range, checked, row, table}
+use Rattle.sheet.specs.Sheet.{Got, got, refused, limit, literal, absent?, no-size, out-of-range, checked, row, table}
 use Rattle.rows.specs.Grid.{strip, grid}
 use Rattle.rows.specs.declared.Rule.{Rule}
 use Rattle.rows.specs.declared.Rule.the-variants as rule
 use Rattle.rows.specs.declared.Rows.{Rows}
-use Rattle.items.specs.Inner.{clip}
+use Rattle.items.specs.Inner as items
+
+-- a number out of range counts as the first one past the limit
+abbrev pub clip : E → E
+clip = items.clip limit
 
 abbrev pub LiteralAt : List ℕ → ℕ → List ℕ → Bool → Type 0
 LiteralAt s at key true = (literal key (drop at s) ≡ got tt (drop (at + length key) s)) × (at + length key ≤ length s)

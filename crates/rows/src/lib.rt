@@ -2,13 +2,15 @@
 ghost use mathlib.Core.Path.{_≡_};
 ghost use Prim.Native.Nat.{_≤_};
 ghost use lib.ListN.{length, drop};
-ghost use Rattle.sheet.specs.Sheet.{ended};
+ghost use Rattle.sheet.specs.Sheet.{limit, ended};
 ghost use Rattle.sheet.specs.Sheet as sheet;
 ghost use Rattle.items.specs.Inner.{ItemIs};
 ghost use Rattle.rows.specs.Inner.{LiteralAt, FaultIs, FaultsAre, RowsAre, earlier-of, rule-of};
 use items::Item;
-use items::LIMIT;
 use items::item_at;
+
+// Entries lie from -LIMIT to LIMIT.
+const LIMIT: u64 = 100000;
 
 // Six words of entries, absent past the last: a row of a table, the floors or the due marks.
 pub struct Row {
@@ -78,9 +80,9 @@ pub fn read_rows(s: &[u8], from: usize, key: &[u8], rule: Rule, lines: usize, co
 // The item at `at`, which `left` more of its line follow, with the byte behind it: a comma, or LF behind the last.
 fn ended_item(s: &[u8], at: usize, left: usize) -> Item
     requires { ⌜ at ≤ length (now s) ⌝ }
-    ensures { λ r. ⌜ ItemIs (ended left) (now (s .entry)) at r ⌝ }
+    ensures { λ r. ⌜ ItemIs limit (ended left) (now (s .entry)) at r ⌝ }
 {
-    match item_at(s, at) {
+    match item_at(s, at, LIMIT) {
         Item::Entry(word, next) => {
             let end = if left == 0 { b'\n' } else { b',' };
             if s.len() <= next {

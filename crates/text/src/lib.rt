@@ -1,6 +1,5 @@
 // The texts that the programs write, put into lent bytes: of a plan, of a kept table, of a refusal. Each function returns the place
 // behind what it wrote. A number has at most 20 bytes, and the room asked for is a round number above the longest text.
-
 ghost use mathlib.Core.Path.{_≡_};
 ghost use mathlib.Core.List.{List, [], _∷_};
 ghost use Prim.Native.Nat.{_+_, _*_, _≤_};

@@ -1,4 +1,3 @@
 -- Laws of the argument's numbers, and of the text that is written.
-pub mod NumeralLaws
 pub mod TimesLaws
 pub mod OutputLaws

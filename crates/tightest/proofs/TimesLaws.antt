@@ -1,5 +1,5 @@
 -- Laws of reading the argument: what its first numbers are, and what is left.
-use mathlib.Core.Path.{_≡_, refl, ap, sym, _∙_}
+use mathlib.Core.Path.{_≡_, refl, ap, sym, subst, _∙_}
 use mathlib.Core.List.{List, [], _∷_, _++_, append-assoc}
 use mathlib.Core.Bool.{Bool, true, false, cond, _||_}
 use Prim.Native.Nat.{ℕ, suc, _+_, _-_, _≤_, _<_, min}
@@ -9,23 +9,25 @@ use native.Mathlib.Decide.{decLt}
 use borrow.Author.Tests.{eq-eqb, ne-eqb, lt-ltb, le-ltb, ltb-false}
 use lib.Dec.{ltb, eqb}
 use lib.IntN.{ℤ, pos, negsuc}
-use lib.ListN.{length, drop, getD, set, drop-of-length-le, length-append, List·getD-append, List·getD-eq-default}
+use lib.ListN.{length, length-drop, drop, getD, set, drop-of-length-le, length-append, List·getD-append, List·getD-eq-default}
 use mir.Facts.{toZ-ofZ}
 use mir.Syntax.{w64}
 use mir.Val.{SFits, toZ, ofZ}
 use lib.Seq.{drop-cons, getD-at}
-use Rattle.maxplus.specs.Entry.{num}
+use Rattle.maxplus.specs.Entry.{E, absent, num}
 use Rattle.maxplus.specs.Finite.{each}
 use Rattle.maxplus.specs.Whole.{up, dn}
 use Rattle.maxplus.proofs.EachLaws.{each-same, each-set}
 use Rattle.maxplus.proofs.EntryLaws.{num-inj}
 use Rattle.words.specs.Words.{word, entry, Near}
 use Rattle.words.proofs.Laws.{entry-word}
-use Rattle.sheet.specs.Sheet.{Got, got, refused, _>>=_}
+use Rattle.sheet.specs.Sheet.{Got, got, refused, _>>=_, digit, leading, behind, signed, item}
+use Rattle.items.specs.Inner as items
+use Rattle.items.specs.Inner.{ItemIs}
+use Rattle.items.specs.declared.Item.the-variants.{Entry}
 use Rattle.timing.specs.Times.{far-limit, beyond}
 use Rattle.tightest.specs.Times.{number, numbers, followed, far-beyond, clip}
-use Rattle.tightest.specs.Inner.{NumberIs, six-of, put-at, times-of}
-use Rattle.tightest.specs.declared.numeral.Number.the-variants.{Faulty}
+use Rattle.tightest.specs.Inner.{six-of, put-at, times-of}
 use Rattle.tightest.specs.declared.times.Components.{Components}
 
 -- no number is read yet
@@ -112,6 +114,80 @@ module _ (z : ℤ) (w : ℕ) (e : w ≡ word (num (clip z))) where
   pub word-read : (x : ℤ) → entry w ≡ num x → toZ w64 (ofZ w64 x) ≡ clip z
   word-read x f = let q = word-is x f in rw q (toZ-ofZ (clip-fits z))
 
+-- ---- a number of the argument is an item that is not absent
+behind-shorter : (s : List ℕ) → length (behind s) ≤ length s
+unfolding behind
+behind-shorter [] = omega arith
+behind-shorter (b ∷ s) = go (digit b) (behind-shorter s)
+  where
+    go : (d : Bool) → length (behind s) ≤ length s → length (cond d (behind s) (b ∷ s)) ≤ suc (length s)
+    go true h = omega arith
+    go false h = omega arith
+
+-- what stands behind what was read has at most n bytes
+abbrev Shorter : ℕ → Got E → Type 0
+Shorter n (got e r) = length r ≤ n
+Shorter n (refused k) = Unit {0}
+
+shorter-of : (t : Bool) (n : ℕ) (g h : Got E) → Shorter n g → Shorter n h → Shorter n (cond t g h)
+shorter-of true n g h p q = p
+shorter-of false n g h p q = q
+
+signed-shorter : (s : List ℕ) → Shorter (length s) (signed s)
+unfolding signed
+signed-shorter [] = omega arith
+signed-shorter (b ∷ s) = shorter-of (leading b) _ _ _ (let h = behind-shorter s in omega arith) (omega arith)
+
+item-shorter : (b : ℕ) (s : List ℕ) → Shorter (length s) (item (b ∷ s))
+unfolding item
+item-shorter b s =
+    shorter-of (eqb b 0x30) _ _ _ (omega arith)
+    (shorter-of (eqb b 0x2D) _ _ _ (signed-shorter s) (shorter-of (leading b) _ _ _ (behind-shorter s) tt))
+
+item-on : (s : List ℕ) (place next : ℕ) {e : E} → item (drop place s) ≡ got e (drop next s) → place ≤ length s → next ≤ length s → place < next
+unfolding item
+item-on s place next {e} q p k = go (decLt place (length s))
+  where
+    go : Dec (place < length s) → place < next
+    go (yes h) =
+        let at : item (getD s place 0 ∷ drop (suc place) s) ≡ got e (drop next s) = ap item (sym (drop-cons s place 0 h)) ∙ q in
+        let l = subst (Shorter (length (drop (suc place) s))) at (item-shorter (getD s place 0) (drop (suc place) s)) in
+        let a = length-drop (suc place) s in
+        let b = length-drop next s in
+        omega arith
+    go (no h) = absurd (none-got (ap item (sym (drop-of-length-le s {i = place} (omega arith))) ∙ q))
+      where
+        none-got : {r : List ℕ} → _≡_ {A = Got E} (refused 2) (got e r) → ⊥
+        none-got f = let z : _≡_ {A = ℕ} 0 1 = cc in omega arith
+
+pub record Found (s : List ℕ) (place w next : ℕ) : Type 0 where
+  pub number-is : ℤ
+  pub reads : number (drop place s) ≡ got number-is (drop next s)
+  pub word-is : w ≡ word (num (clip number-is))
+  pub within : next ≤ length s
+  pub on : place < next
+
+clip-num : (z : ℤ) → items.clip far-limit (num z) ≡ num (clip z)
+clip-num (pos n) = refl
+clip-num (negsuc n) = refl
+
+module _ (s : List ℕ) (place : ℕ) {w next : ℕ} where
+  pub found : place ≤ length s → ItemIs far-limit item s place (Entry w next) → ¬ (w ≡ 0) → Found s place w next
+  unfolding number word
+  found p (absent, q, e, k) n = absurd (n e)
+  found p (num z, q, e, k) n =
+      record { number-is = z; reads = rw q; word-is = e ∙ ap word (clip-num z); within = k; on = item-on s place next q p k }
+
+  -- a lone minus is no number
+  pub lone-minus : ItemIs far-limit item s place (Entry w next) → w ≡ 0 → number (drop place s) ≡ refused 2
+  unfolding number
+  lone-minus (absent, q, e, k) h = rw q
+  lone-minus (num z, q, e, k) h = absurd (let l = word-near z w (e ∙ ap word (clip-num z)) .0 in omega arith)
+
+pub no-item : (s : List ℕ) (place : ℕ) → item (drop place s) ≡ refused 2 → number (drop place s) ≡ refused 2
+unfolding number
+no-item s place e = rw e
+
 -- ---- reading on
 same-components : {i j : ℕ} {a b : List ℤ} → i ≡ j → a ≡ b →
     _≡_ {A = Components} (record { numerals = true; count = i; at = a }) (record { numerals = true; count = j; at = b })
@@ -140,14 +216,17 @@ read-none s at e =
     record { zs = []; many = refl; on = omega arith; within = omega arith; others = rw k (bind-got (numbers (suc (length s)) s)); held = e }
 
 module _ {s : List ℕ} {at : List ℤ} {count place : ℕ} (r : ReadTo s at count place) where
-  pub read-faulty : NumberIs number s place Faulty → numbers (suc (length s)) s ≡ refused 2
+  pub read-faulty : number (drop place s) ≡ refused 2 → numbers (suc (length s)) s ≡ refused 2
   unfolding numbers
   read-faulty q = r .others ∙ rw q
 
-  module _ (z : ℤ) (next : ℕ) (q : number (drop place s) ≡ got z (drop next s)) (k : next ≤ length s) (o : place < next) where
+  module _ {w next : ℕ} (g : Found s place w next) where
+    abbrev pub z : ℤ
+    z = g .number-is
+
     reads-on : numbers (suc (length s)) s ≡ (followed (numbers (length s - count)) z (drop next s) >>= λ more x. got (r .zs ++ more) x)
     unfolding numbers
-    reads-on = r .others ∙ rw q
+    reads-on = r .others ∙ rw (g .reads)
 
     pub read-last : next ≡ length s → numbers (suc (length s)) s ≡ got (r .zs ++ (z ∷ [])) []
     read-last e = reads-on ∙ rw (drop-of-length-le s {i = next} (omega arith))
@@ -166,6 +245,7 @@ module _ {s : List ℕ} {at : List ℤ} {count place : ℕ} (r : ReadTo s at cou
       pub read-more : getD s next 0 ≡ 44 → {x : ℤ} → x ≡ clip z → {new : List ℤ} → new ≡ put-at at count x → ReadTo s new (count + 1) (next + 1)
       read-more e p f =
           let l = r .on in
+          let o = g .on in
           let left : length s - count ≡ suc (length s - (count + 1)) = omega arith in
           record {
             zs = r .zs ++ (z ∷ []);

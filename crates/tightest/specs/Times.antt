@@ -6,7 +6,7 @@ use lib.Dec.{eqb}
 use lib.IntN.{ℤ, pos, negsuc}
 use Rattle.maxplus.specs.Whole.{neg}
 use Rattle.maxplus.specs.Entry.{E, absent, num}
-use Rattle.sheet.specs.Sheet.{Got, got, refused, _>>=_, item, signed}
+use Rattle.sheet.specs.Sheet.{Got, got, refused, _>>=_, item}
 use Rattle.timing.specs.Times.{far-limit}
 
 -- an item of a sheet that is a number
@@ -16,10 +16,6 @@ whole (num z) s = got z s
 
 unfoldable pub number : List ℕ → Got ℤ
 number s = item s >>= whole
-
--- what may stand behind its minus
-unfoldable pub negated : List ℕ → Got ℤ
-negated s = signed s >>= whole
 
 -- a number, and behind it the end, or a comma and what f reads
 abbrev pub followed : (List ℕ → Got (List ℤ)) → ℤ → List ℕ → Got (List ℤ)

@@ -1,6 +1,5 @@
 // Whether the times of the argument are tightest for the sheet on standard input, on standard output; for a refusal also a sentence on standard
 // error.
-mod numeral;
 mod times;
 
 ghost use mathlib.Core.Path.{_≡_};

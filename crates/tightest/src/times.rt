@@ -5,8 +5,11 @@ ghost use Rattle.sheet.specs.Sheet.{refused};
 ghost use lib.ListN.{length};
 ghost use Rattle.tightest.specs.Times.{numbers};
 ghost use Rattle.tightest.specs.Inner.{times-of, put-at};
-use crate::numeral::Number;
-use crate::numeral::number_at;
+use items::Item;
+use items::item_at;
+
+// Components lie from -FAR_LIMIT to FAR_LIMIT; any number beyond is read as one past the end, which testing refuses too.
+const FAR_LIMIT: u64 = 1_000_000_000;
 
 // How many numbers the argument has, and the first six; or that it is no list of numerals.
 pub struct Components {
@@ -23,8 +26,11 @@ pub fn times(s: &[u8]) -> Components
     let mut count: usize = 0;
     let mut place: usize = 0;
     loop {
-        match number_at(s, place) {
-            Number::Is(word, next) => {
+        match item_at(s, place, FAR_LIMIT) {
+            Item::Entry(word, next) => {
+                if word == 0 {
+                    return no_times();
+                }
                 put(&mut at, count, words::number(word));
                 count += 1;
                 if next == s.len() {
@@ -39,7 +45,7 @@ pub fn times(s: &[u8]) -> Components
                 }
                 place = next + 1;
             }
-            Number::Faulty => {
+            Item::Faulty => {
                 return no_times();
             }
         }

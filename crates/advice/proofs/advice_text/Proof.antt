@@ -1,4 +1,4 @@
--- `text::advice::advice_text` meets its contract: each arm puts its number's sentence. Assumes nothing.
+-- `advice::advice_text` meets its contract: each arm puts its number's sentence. Assumes nothing.
 use borrow.Author.Needs.{needs}
 use Rattle.sheet.specs.Text.{bytes}
 use Rattle.advice.specs.Advice.{sentences, advice}

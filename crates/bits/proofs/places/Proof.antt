@@ -1,4 +1,4 @@
--- `candidates::bits::places` meets its contract. The places passed that have the word are marked, and bit is theirs to come.
+-- `bits::places` meets its contract. The places passed that have the word are marked, and bit is theirs to come.
 -- Assumes nothing.
 use mathlib.Core.Path.{_≡_, refl}
 use mathlib.Core.Logic.{⊎-elim}

@@ -1,4 +1,4 @@
--- `candidates::bits::reached` meets its contract. The places passed that have the word are marked, bit is theirs to come, and none is
+-- `bits::reached` meets its contract. The places passed that have the word are marked, bit is theirs to come, and none is
 -- beyond the word. Assumes nothing.
 use mathlib.Core.Path.{_≡_, refl}
 use mathlib.Core.Logic.{⊎-elim}

@@ -1,4 +1,4 @@
--- `lines::bounds::branch` meets its contract: the first `j` triggers have been looked at.
+-- `bounds::branch` meets its contract: the first `j` triggers have been looked at.
 use mathlib.Core.Path.{_≡_}
 use mathlib.Core.Logic.{⊎-elim}
 use Prim.Native.Nat.{_-_, _≤_}

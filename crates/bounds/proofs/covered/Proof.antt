@@ -1,4 +1,4 @@
--- `lines::bounds::covered` meets its contract: none of the first `k` bounds lies below `w`.
+-- `bounds::covered` meets its contract: none of the first `k` bounds lies below `w`.
 use Prim.Native.Nat.{_-_}
 use native.Mathlib.Omega.{arith}
 use Rattle.bounds.proofs.BoundLaws.{NoneTo, none-start, none-more, none-end}

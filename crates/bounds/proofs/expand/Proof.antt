@@ -1,4 +1,4 @@
--- `lines::bounds::expand` meets its contract: the bounds up to place `k` have been raised.
+-- `bounds::expand` meets its contract: the bounds up to place `k` have been raised.
 use mathlib.Core.Path.{_≡_}
 use Prim.Native.Nat.{_-_, _≤_}
 use native.Mathlib.Omega.{arith}

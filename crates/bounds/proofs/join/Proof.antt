@@ -1,4 +1,4 @@
--- `lines::bounds::join` meets its contract.
+-- `bounds::join` meets its contract.
 use borrow.Author.Needs.{needs}
 use Rattle.bounds.proofs.BoundLaws.{joined-covered, joined-new}
 use Rattle.bounds.proofs.join.Statement.{statement}

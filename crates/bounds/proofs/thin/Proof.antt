@@ -1,4 +1,4 @@
--- `lines::bounds::thin` meets its contract: the first `k` bounds have been looked at, and `left` of them stay.
+-- `bounds::thin` meets its contract: the first `k` bounds have been looked at, and `left` of them stay.
 use mathlib.Core.Logic.{⊎-elim}
 use Prim.Native.Nat.{_-_, _≤_}
 use native.Mathlib.Omega.{arith}

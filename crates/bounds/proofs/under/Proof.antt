@@ -1,4 +1,4 @@
--- `lines::bounds::under` meets its contract: the first `j` components are below.
+-- `bounds::under` meets its contract: the first `j` components are below.
 use Prim.Native.Nat.{_-_}
 use native.Mathlib.Omega.{arith}
 use Rattle.bounds.proofs.BoundLaws.{UnderTo, under-start, under-more, under-end, not-under}

@@ -1,4 +1,4 @@
--- `lines::buffer::fresh` meets its contract, by where the place is.
+-- `buffer::fresh` meets its contract, by where the place is.
 use mathlib.Core.Bool.{Bool, true, false}
 use mathlib.Core.List.{List}
 use Prim.Native.Nat.{ℕ, _<_}

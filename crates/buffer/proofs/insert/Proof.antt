@@ -1,4 +1,4 @@
--- `lines::buffer::insert` meets its contract: the lines above `k` have moved.
+-- `buffer::insert` meets its contract: the lines above `k` have moved.
 use mathlib.Core.Path.{_≡_, _∙_}
 use mathlib.Core.List.{[]}
 use Prim.Native.Nat.{_-_, _≤_}

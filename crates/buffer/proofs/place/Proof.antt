@@ -1,4 +1,4 @@
--- `lines::buffer::place` meets its contract: the place is from `low` to `high`, and the middle line tells which half it is in.
+-- `buffer::place` meets its contract: the place is from `low` to `high`, and the middle line tells which half it is in.
 use Prim.Native.Nat.{_+_, _-_, _/_}
 use native.Mathlib.Omega.{arith}
 use Rattle.buffer.proofs.BufferLaws.{Between, between-start, between-up, between-down, between-end}

@@ -1,4 +1,4 @@
--- `candidates::closure::closed` meets its contract. Assumes nothing.
+-- `closure::closed` meets its contract. Assumes nothing.
 use native.Mathlib.Omega.{arith}
 use Rattle.bits.proofs.SetLaws.{closed-fires, closed-rests}
 use Rattle.closure.proofs.closed.Statement.{statement}

@@ -1,4 +1,4 @@
--- `candidates::closure::common` meets its contract. The closures of the triggers passed are met. Assumes nothing.
+-- `closure::common` meets its contract. The closures of the triggers passed are met. Assumes nothing.
 use mathlib.Core.Path.{_≡_}
 use mathlib.Core.Logic.{⊎-elim}
 use Prim.Native.Nat.{ℕ, _≤_, _<_, _-_}

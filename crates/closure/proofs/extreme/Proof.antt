@@ -1,4 +1,4 @@
--- `candidates::closure::extreme` meets its contract. Assumes nothing.
+-- `closure::extreme` meets its contract. Assumes nothing.
 use mathlib.Core.Bool.{not}
 use native.Mathlib.Omega.{arith}
 use lib.Dec.{eqb}

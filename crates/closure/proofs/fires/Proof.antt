@@ -1,4 +1,4 @@
--- `candidates::closure::fires` meets its contract. No set passed lies inside. Assumes nothing.
+-- `closure::fires` meets its contract. No set passed lies inside. Assumes nothing.
 use mathlib.Core.Path.{_≡_}
 use Prim.Native.Nat.{ℕ, _≤_, _<_, _-_}
 use native.Mathlib.Omega.{arith}

@@ -1,4 +1,4 @@
--- `candidates::closure::held_by` meets its contract. Assumes nothing.
+-- `closure::held_by` meets its contract. Assumes nothing.
 use native.Mathlib.Omega.{arith}
 use borrow.Author.Tests.{not-true, not-false}
 use Rattle.tables.specs.Held.{meantV}

@@ -1,4 +1,4 @@
--- `candidates::closure::held_sets` meets its contract. The sets of the triggers passed are written. Assumes nothing.
+-- `closure::held_sets` meets its contract. The sets of the triggers passed are written. Assumes nothing.
 use Prim.Native.Nat.{_≤_, _-_}
 use native.Mathlib.Omega.{arith}
 use borrow.Author.Tests.{ltb-false}

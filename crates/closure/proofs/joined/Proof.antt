@@ -1,4 +1,4 @@
--- `candidates::closure::joined` meets its contract. The sets passed are joined. Assumes nothing.
+-- `closure::joined` meets its contract. The sets passed are joined. Assumes nothing.
 use mathlib.Core.Path.{_≡_}
 use mathlib.Core.Logic.{⊎-elim}
 use Prim.Native.Nat.{ℕ, _≤_, _<_, _-_}

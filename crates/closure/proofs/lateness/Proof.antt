@@ -1,4 +1,4 @@
--- `candidates::closure::lateness` meets its contract. The places passed are written. Assumes nothing.
+-- `closure::lateness` meets its contract. The places passed are written. Assumes nothing.
 use mathlib.Core.Path.{_≡_}
 use Prim.Native.Nat.{_*_, _≤_, _-_}
 use native.Mathlib.Omega.{arith}

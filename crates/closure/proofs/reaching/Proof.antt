@@ -1,4 +1,4 @@
--- `candidates::closure::reaching` meets its contract. Assumes nothing.
+-- `closure::reaching` meets its contract. Assumes nothing.
 use native.Mathlib.Omega.{arith}
 use borrow.Author.Tests.{not-true, not-false}
 use Rattle.words.proofs.Laws.{close-more}

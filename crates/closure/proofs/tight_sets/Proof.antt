@@ -1,4 +1,4 @@
--- `candidates::closure::tight_sets` meets its contract. The sets of the panels passed are written. Assumes nothing.
+-- `closure::tight_sets` meets its contract. The sets of the panels passed are written. Assumes nothing.
 use Prim.Native.Nat.{_≤_, _-_}
 use native.Mathlib.Omega.{arith}
 use Rattle.maxplus.specs.Entry.{_⊗_}

@@ -1,4 +1,4 @@
--- `planner::same::likened` meets its contract: by demand 3 the words of two lists are the same exactly when the same timings are tightest.
+-- `comparing::likened` meets its contract: by demand 3 the words of two lists are the same exactly when the same timings are tightest.
 -- Assumes nothing.
 use mathlib.Core.Path.{subst, sym}
 use mathlib.Core.Logic.{⊎-elim}

@@ -1,4 +1,4 @@
--- `planner::same::refused` meets its contract. Assumes nothing.
+-- `comparing::refused` meets its contract. Assumes nothing.
 use mathlib.Core.Path.{refl}
 use mathlib.Core.Logic.{⊎-elim}
 use native.Mathlib.Omega.{arith}

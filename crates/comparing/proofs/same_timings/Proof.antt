@@ -1,4 +1,4 @@
--- `planner::same::same_timings` meets its contract. Assumes nothing.
+-- `comparing::same_timings` meets its contract. Assumes nothing.
 use mathlib.Core.Path.{refl, sym, _∙_}
 use borrow.Author.Needs.{needs}
 use Rattle.comparing.proofs.SameLaws.{none-refused, both-written, first-answer, second-answer}

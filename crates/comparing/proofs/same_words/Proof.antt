@@ -1,4 +1,4 @@
--- `planner::same::same_words` meets its contract: the words passed are the same. Assumes nothing.
+-- `comparing::same_words` meets its contract: the words passed are the same. Assumes nothing.
 use mathlib.Core.Path.{_≡_, refl, ap}
 use Prim.Native.Nat.{_≤_, _-_}
 use native.Mathlib.Omega.{arith}

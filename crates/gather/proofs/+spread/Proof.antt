@@ -1,4 +1,4 @@
--- `lines::gather::spread`, which calls itself, meets its contract: one level more, or the same level with fewer bounds left.
+-- `gather::spread`, which calls itself, meets its contract: one level more, or the same level with fewer bounds left.
 use mathlib.Core.Path.{refl}
 use Prim.Native.Nat.{ℕ, _+_, _*_, _-_, _≤_, _<_}
 use native.Mathlib.Omega.{arith}

@@ -1,4 +1,4 @@
--- `lines::gather::consider` meets its contract, by the test at which the line is left, if it is.
+-- `gather::consider` meets its contract, by the test at which the line is left, if it is.
 use Rattle.tables.proofs.Loops.{says-yes, says-no}
 use Rattle.candidates.proofs.PreparedLaws.{ready}
 use Rattle.buffer.specs.Buffer.{Before, Fresh}

@@ -1,4 +1,4 @@
--- `lines::gather::consider_bound` meets its contract: the candidates of the first `t` triggers have been considered.
+-- `gather::consider_bound` meets its contract: the candidates of the first `t` triggers have been considered.
 use Prim.Native.Nat.{_-_}
 use native.Mathlib.Omega.{arith}
 use Rattle.candidates.proofs.PreparedLaws.{stars-close, pulls-close}

@@ -1,4 +1,4 @@
--- `lines::gather::consider_bounds` meets its contract: the candidates of the first `k` bounds have been considered.
+-- `gather::consider_bounds` meets its contract: the candidates of the first `k` bounds have been considered.
 use mathlib.Core.Path.{_≡_}
 use Prim.Native.Nat.{_-_, _≤_}
 use native.Mathlib.Omega.{arith}

@@ -1,4 +1,4 @@
--- `lines::gather::gather` meets its contract: spreading from the bound of no panel covers the cone.
+-- `gather::gather` meets its contract: spreading from the bound of no panel covers the cone.
 use mathlib.Core.Path.{refl}
 use mathlib.Core.List.{[]}
 use native.Mathlib.Omega.{arith}

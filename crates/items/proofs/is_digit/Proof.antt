@@ -1,4 +1,4 @@
--- `sheet::item::is_digit` meets its contract. Assumes nothing.
+-- `items::is_digit` meets its contract. Assumes nothing.
 use Rattle.items.proofs.ItemLaws.{range-low, range-from}
 use Rattle.items.proofs.is_digit.Statement.{statement}
 use Rattle.items.proofs.is_digit.Tie as tie

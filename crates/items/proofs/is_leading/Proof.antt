@@ -1,4 +1,4 @@
--- `sheet::item::is_leading` meets its contract. Assumes nothing.
+-- `items::is_leading` meets its contract. Assumes nothing.
 use Rattle.items.proofs.ItemLaws.{range-low, range-from}
 use Rattle.items.proofs.is_leading.Statement.{statement}
 use Rattle.items.proofs.is_leading.Tie as tie

@@ -1,4 +1,4 @@
--- `sheet::item::item_at` meets its contract. Assumes nothing.
+-- `items::item_at` meets its contract. Assumes nothing.
 use mathlib.Core.Path.{sym, _∙_}
 use native.Mathlib.Omega.{arith}
 use Rattle.items.proofs.ItemLaws.{leading-digit, leading-worth, item-end, item-zero, item-signed, item-numeral, item-none}
@@ -15,11 +15,11 @@ shared-slice-read-b c = search needs
 positive-requires : tie.Need-positive-requires
 positive-requires c κs = search needs
 
-add-t10 : tie.Need-add-t10
-add-t10 c = search needs
+add-t11 : tie.Need-add-t11
+add-t11 c = search needs
 
 returns-2 : tie.Need-returns-2
-returns-2 c = item-zero _ _ (c .before .before .before .if1 .left) (c .before .if2 .taken) _ (c .positive .ensures)
+returns-2 c = item-zero _ _ (c .before .before .before .if1 .left) (c .before .before .before .before .before .args .most) (c .before .if2 .taken) _ (c .positive .ensures)
 
 add-signed-at : tie.Need-add-signed-at
 add-signed-at c = search needs
@@ -30,7 +30,7 @@ signed-at-requires c κs = search needs
 returns-3 : tie.Need-returns-3
 returns-3 c =
     let d = c .before in
-    item-signed _ _ (d .before .before .before .if1 .left) (d .if3 .taken) (c .signed-at .result) (c .signed-at .ensures)
+    item-signed _ _ (d .before .before .before .if1 .left) (d .before .before .before .before .before .args .most) (d .if3 .taken) (c .signed-at .result) (c .signed-at .ensures)
 
 is-leading-requires : tie.Need-is-leading-requires
 is-leading-requires c κs = search needs
@@ -47,7 +47,7 @@ wide-requires c κs = search needs
 numeral-from-requires : tie.Need-numeral-from-requires
 numeral-from-requires c κs =
     let d = c .before in
-    (omega arith, leading-worth _ _ (sym (d .before .is-leading .ensures) ∙ d .if4 .taken) (c .wide .ensures))
+    (omega arith, leading-worth _ _ (sym (d .before .is-leading .ensures) ∙ d .if4 .taken) (c .wide .ensures), search needs, search needs)
 
 positive-requires-2 : tie.Need-positive-requires-2
 positive-requires-2 c κs = search needs
@@ -72,7 +72,7 @@ item-at-spec =
     returns
     shared-slice-read-b
     positive-requires
-    add-t10
+    add-t11
     returns-2
     add-signed-at
     signed-at-requires

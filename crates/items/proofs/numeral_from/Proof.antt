@@ -1,4 +1,4 @@
--- `sheet::item::numeral_from` meets its contract. The loop's invariant: the digits before `at` are read, and count for `value`.
+-- `items::numeral_from` meets its contract. The loop's invariant: the digits before `at` are read, and count for `value`.
 -- Assumes nothing.
 use mathlib.Core.Path.{sym, _∙_}
 use Prim.Native.Nat.{_-_}
@@ -11,13 +11,13 @@ use Rattle.items.proofs.numeral_from.Statement.{statement}
 use Rattle.items.proofs.numeral_from.Tie as tie
 
 abbrev Inv-loop : tie.InvT-loop
-Inv-loop s from first at₀ value₀ at value = ReadTo s from first at value
+Inv-loop s from first most at₀ value₀ at value = ReadTo most s from first at value
 
 abbrev μ-loop : tie.MeasureT-loop
-μ-loop s from first at₀ value₀ at value = length s - at
+μ-loop s from first most at₀ value₀ at value = length s - at
 
 loop-holds : tie.Need-loop-holds Inv-loop μ-loop
-loop-holds c = read-first (c .before .pre .0) (c .before .pre .1)
+loop-holds c = read-first (c .before .pre .0) (c .before .pre .1) (c .before .pre .2)
 
 shared-slice-read-b : tie.Need-shared-slice-read-b Inv-loop μ-loop
 shared-slice-read-b c = search needs

@@ -1,4 +1,4 @@
--- `sheet::item::signed_at` meets its contract. Assumes nothing.
+-- `items::signed_at` meets its contract. Assumes nothing.
 use mathlib.Core.Path.{sym, _∙_}
 use native.Mathlib.Omega.{arith}
 use Rattle.items.proofs.ItemLaws.{leading-digit, leading-worth, signed-end, signed-numeral, signed-other}
@@ -7,7 +7,7 @@ use Rattle.items.proofs.signed_at.Statement.{statement}
 use Rattle.items.proofs.signed_at.Tie as tie
 
 returns : tie.Need-returns
-returns c = signed-end _ _ (c .before .before .pre) (c .if1 .taken)
+returns c = signed-end _ _ (c .before .before .args .most) (c .before .before .pre .0) (c .if1 .taken)
 
 shared-slice-read-b : tie.Need-shared-slice-read-b
 shared-slice-read-b c = search needs
@@ -27,7 +27,7 @@ wide-requires c κs = search needs
 numeral-from-requires : tie.Need-numeral-from-requires
 numeral-from-requires c κs =
     let d = c .before in
-    (omega arith, leading-worth _ _ (sym (d .before .is-leading .ensures) ∙ d .if2 .taken) (c .wide .ensures))
+    (omega arith, leading-worth _ _ (sym (d .before .is-leading .ensures) ∙ d .if2 .taken) (c .wide .ensures), search needs, search needs)
 
 negative-requires : tie.Need-negative-requires
 negative-requires c κs = search needs
@@ -40,7 +40,7 @@ returns-2 c =
 
 returns-3 : tie.Need-returns-3
 returns-3 c =
-    signed-other _ _ (c .before .before .before .if1 .left) (sym (c .before .is-leading .ensures) ∙ c .if2 .left)
+    signed-other _ _ (c .before .before .before .if1 .left) (c .before .before .before .before .before .args .most) (sym (c .before .is-leading .ensures) ∙ c .if2 .left)
 
 pub signed-at-spec : {M : Type 1} → statement M
 signed-at-spec =

@@ -1,4 +1,4 @@
--- `planner::kept::kept_table` meets its contract. Assumes nothing.
+-- `keeping::kept_table` meets its contract. Assumes nothing.
 use mathlib.Core.Path.{_≡_, ap, sym, _∙_}
 use mathlib.Core.List.{List}
 use Prim.Native.Nat.{ℕ}

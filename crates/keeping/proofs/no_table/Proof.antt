@@ -1,4 +1,4 @@
--- `planner::kept::no_table` meets its contract, field by field. Assumes nothing.
+-- `keeping::no_table` meets its contract, field by field. Assumes nothing.
 use mathlib.Core.Path.{refl}
 use Rattle.keeping.proofs.no_table.Statement.{statement}
 use Rattle.keeping.proofs.no_table.Tie as tie

@@ -1,4 +1,4 @@
--- `planner::kept::ones_of` meets its contract. The counts passed are written. Assumes nothing.
+-- `keeping::ones_of` meets its contract. The counts passed are written. Assumes nothing.
 use mathlib.Core.Path.{_≡_}
 use Prim.Native.Nat.{_≤_, _-_}
 use native.Mathlib.Omega.{arith}

@@ -1,4 +1,4 @@
--- `planner::kept::walked` meets its contract: the walk over the levels is document 01's. Assumes nothing.
+-- `keeping::walked` meets its contract: the walk over the levels is document 01's. Assumes nothing.
 use mathlib.Core.Path.{_≡_, sym, _∙_}
 use borrow.Author.Needs.{needs}
 use mir.Syntax.{w64}

@@ -1,4 +1,4 @@
--- `tables::levels::gains` meets its contract. The places passed are written. Assumes nothing.
+-- `levels::gains` meets its contract. The places passed are written. Assumes nothing.
 use mathlib.Core.Path.{_≡_}
 use Prim.Native.Nat.{_≤_, _<_, _-_}
 use lib.ListN.{getD}

@@ -1,4 +1,4 @@
--- `tables::levels::pack` meets its contract. The panels passed are packed. Assumes nothing.
+-- `levels::pack` meets its contract. The panels passed are packed. Assumes nothing.
 use mathlib.Core.Path.{refl, sym, _∙_}
 use mathlib.Core.Logic.{⊎-elim}
 use Prim.Native.Nat.{_≤_, _-_}

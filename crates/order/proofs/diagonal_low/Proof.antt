@@ -1,4 +1,4 @@
--- `tables::order::diagonal_low` meets its contract. The diagonal entries passed are at most 0. Assumes nothing.
+-- `order::diagonal_low` meets its contract. The diagonal entries passed are at most 0. Assumes nothing.
 use Prim.Native.Nat.{ℕ, _≤_, _<_, _-_}
 use borrow.Author.Count.{below-none, below-more}
 use native.Mathlib.Omega.{arith}

@@ -1,4 +1,4 @@
--- `tables::order::order_kept` meets its contract. The diagonals of the powers passed are at most 0. Assumes nothing.
+-- `order::order_kept` meets its contract. The diagonals of the powers passed are at most 0. Assumes nothing.
 use Prim.Native.Nat.{_≤_, _-_}
 use native.Mathlib.Omega.{arith}
 use Rattle.maxplus.specs.Tables as maxplus

@@ -1,4 +1,4 @@
--- `tables::order::star` meets its contract. The powers passed are added up, and the next one is at hand. Assumes nothing.
+-- `order::star` meets its contract. The powers passed are added up, and the next one is at hand. Assumes nothing.
 use Prim.Native.Nat.{_≤_, _-_}
 use native.Mathlib.Omega.{arith}
 use Rattle.maxplus.specs.Tables as maxplus

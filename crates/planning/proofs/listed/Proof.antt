@@ -1,4 +1,4 @@
--- `planner::plan::listed` meets its contract: the list is drawn from the sheet's tables. Assumes nothing.
+-- `planning::listed` meets its contract: the list is drawn from the sheet's tables. Assumes nothing.
 use mathlib.Core.Path.{_≡_, sym, subst, _∙_}
 use borrow.Author.Needs.{needs}
 use mir.Syntax.{w64}

@@ -1,4 +1,4 @@
--- `planner::plan::no_room` meets its contract, field by field. Assumes nothing.
+-- `planning::no_room` meets its contract, field by field. Assumes nothing.
 use mathlib.Core.Path.{refl}
 use Rattle.planning.proofs.no_room.Statement.{statement}
 use Rattle.planning.proofs.no_room.Tie as tie

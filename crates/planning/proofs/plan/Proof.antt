@@ -1,4 +1,4 @@
--- `planner::plan::plan` meets its contract. Assumes nothing.
+-- `planning::plan` meets its contract. Assumes nothing.
 use mathlib.Core.Path.{_≡_, ap, sym, _∙_}
 use mathlib.Core.List.{List}
 use Prim.Native.Nat.{ℕ}

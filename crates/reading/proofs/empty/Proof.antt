@@ -1,4 +1,4 @@
--- `sheet::empty` meets its contract. The loop's invariant: the words passed are 0. Assumes nothing.
+-- `reading::empty` meets its contract. The loop's invariant: the words passed are 0. Assumes nothing.
 use Prim.Native.Nat.{ℕ, _≤_, _<_, _-_}
 use mathlib.Core.Path.{_≡_}
 use native.Mathlib.Omega.{arith}

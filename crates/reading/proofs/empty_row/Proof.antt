@@ -1,4 +1,4 @@
--- `sheet::empty_row` meets its contract. The loop's invariant: the rows passed have an entry. Assumes nothing.
+-- `reading::empty_row` meets its contract. The loop's invariant: the rows passed have an entry. Assumes nothing.
 use Prim.Native.Nat.{ℕ, _≤_, _<_, _-_}
 use mathlib.Core.Path.{sym, subst}
 use mathlib.Core.Bool.{Bool, false}

@@ -1,4 +1,4 @@
--- `sheet::read_sheet` meets its contract. Assumes nothing.
+-- `reading::read_sheet` meets its contract. Assumes nothing.
 use Prim.Native.Nat.{_≤_}
 use mathlib.Core.Path.{_≡_, ap, ap₂, sym, _∙_}
 use mathlib.Core.List.{List}

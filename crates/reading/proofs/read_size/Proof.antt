@@ -1,4 +1,4 @@
--- `sheet::read_size` meets its contract. Assumes nothing.
+-- `reading::read_size` meets its contract. Assumes nothing.
 use mathlib.Core.Path.{refl}
 use mathlib.Core.List.{[]}
 use native.Mathlib.Omega.{arith}

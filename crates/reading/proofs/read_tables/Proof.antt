@@ -1,4 +1,4 @@
--- `sheet::read_tables` meets its contract: each part of the reading gives what its definition gives. Assumes nothing.
+-- `reading::read_tables` meets its contract: each part of the reading gives what its definition gives. Assumes nothing.
 use mathlib.Core.Path.{_≡_, ap, sym, _∙_}
 use mathlib.Core.List.{[], _∷_}
 use native.Mathlib.Omega.{arith}

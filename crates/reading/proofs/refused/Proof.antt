@@ -1,4 +1,4 @@
--- `sheet::refused` meets its contract. Assumes nothing.
+-- `reading::refused` meets its contract. Assumes nothing.
 use mathlib.Core.Path.{refl}
 use Rattle.maxplus.specs.Finite.{each}
 use Rattle.words.specs.Words.{word}

@@ -1,4 +1,4 @@
--- `sheet::rows::earlier` meets its contract. Assumes nothing.
+-- `rows::earlier` meets its contract. Assumes nothing.
 use native.Mathlib.Omega.{arith}
 use Rattle.rows.proofs.FaultLaws.{earlier-second, earlier-first, earlier-least}
 use Rattle.rows.proofs.earlier.Statement.{statement}

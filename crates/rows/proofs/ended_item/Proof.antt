@@ -1,8 +1,8 @@
--- `sheet::rows::ended_item` meets its contract. Assumes nothing.
+-- `rows::ended_item` meets its contract. Assumes nothing.
 use mathlib.Core.Path.{_≡_}
 use mathlib.Core.List.{[], _∷_}
 use mathlib.Core.Logic.{⊎-elim}
-use Rattle.sheet.specs.Sheet.{ending}
+use Rattle.sheet.specs.Sheet.{limit, ending}
 use Rattle.items.proofs.ItemLaws.{line-ends, item-ends, ended-short, ended-differs, ended-whole, ended-none}
 use borrow.Author.Needs.{needs}
 use Rattle.rows.proofs.ended_item.Statement.{statement}
@@ -21,7 +21,7 @@ ending-is c = ⊎-elim (λ w. line-ends _ _ (w .0 .taken) (w .1)) (λ w. item-en
 returns : tie.Need-returns
 returns c =
     let k = c .before .before .before in
-    ended-short _ _ (k .before .before .before .before .args .at) _ (rw (k .word .given .1) at (k .before .before .item-at .ensures))
+    ended-short limit _ _ (k .before .before .before .before .args .at) _ (rw (k .word .given .1) at (k .before .before .item-at .ensures))
     (ending-is (c .before)) (c .if2 .taken)
 
 shared-slice-read-if3 : tie.Need-shared-slice-read-if3
@@ -31,7 +31,7 @@ returns-2 : tie.Need-returns-2
 returns-2 c =
     let d = c .before .before in
     let k = d .before .before .before in
-    ended-differs _ _ (k .before .before .before .before .args .at) _ (rw (k .word .given .1) at (k .before .before .item-at .ensures))
+    ended-differs limit _ _ (k .before .before .before .before .args .at) _ (rw (k .word .given .1) at (k .before .before .item-at .ensures))
     (ending-is (d .before)) (d .if2 .left) (c .if3 .taken)
 
 add-t11 : tie.Need-add-t11
@@ -44,7 +44,7 @@ returns-3 : tie.Need-returns-3
 returns-3 c =
     let d = c .before .before in
     let k = d .before .before .before in
-    ended-whole _ _ (k .before .before .before .before .args .at) _ (rw (k .word .given .1) at (k .before .before .item-at .ensures))
+    ended-whole limit _ _ (k .before .before .before .before .args .at) _ (rw (k .word .given .1) at (k .before .before .item-at .ensures))
     (ending-is (d .before)) (d .if2 .left) (c .if3 .left)
 
 returns-4 : tie.Need-returns-4

@@ -1,4 +1,4 @@
--- `sheet::rows::entry_fault` meets its contract. Assumes nothing.
+-- `rows::entry_fault` meets its contract. Assumes nothing.
 use borrow.Author.Needs.{needs}
 use Rattle.rows.proofs.FaultLaws.{entry-absent, entry-low, entry-high, entry-good}
 use Rattle.rows.proofs.entry_fault.Statement.{statement}

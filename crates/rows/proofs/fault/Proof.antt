@@ -1,4 +1,4 @@
--- `sheet::rows::fault` meets its contract. Assumes nothing.
+-- `rows::fault` meets its contract. Assumes nothing.
 use borrow.Author.Needs.{needs}
 use Rattle.rows.proofs.FaultLaws.{mark-absent, mark-present}
 use Rattle.rows.proofs.fault.Statement.{statement}

@@ -1,4 +1,4 @@
--- `sheet::rows::first_fault` meets its contract. The loop's invariant: the first `k` words are passed, with the least fault so far.
+-- `rows::first_fault` meets its contract. The loop's invariant: the first `k` words are passed, with the least fault so far.
 -- Assumes nothing.
 use Prim.Native.Nat.{_-_}
 use borrow.Author.Needs.{needs}

@@ -1,4 +1,4 @@
--- `sheet::rows::literal_at` meets its contract. The loop's invariant: the first `i` bytes of the key stand at `at`. Assumes nothing.
+-- `rows::literal_at` meets its contract. The loop's invariant: the first `i` bytes of the key stand at `at`. Assumes nothing.
 use Prim.Native.Nat.{_-_}
 use native.Mathlib.Omega.{arith}
 use lib.ListN.{length}

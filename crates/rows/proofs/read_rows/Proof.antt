@@ -6,7 +6,7 @@ use mathlib.Core.List.{List, []}
 use lib.ListN.{drop, set}
 use Rattle.maxplus.specs.Finite.{each, mapL}
 use Rattle.words.specs.Words.{word}
-use Rattle.sheet.specs.Sheet.{got, refused, ended, checked, line, row, table}
+use Rattle.sheet.specs.Sheet.{got, refused, limit, ended, checked, line, row, table}
 use Rattle.rows.specs.Grid.{strip, grid}
 use Rattle.items.specs.Inner.{ItemIs}
 use Rattle.rows.specs.Inner.{LiteralAt, rule-of, verdict}
@@ -60,11 +60,11 @@ line-there c =
 item-there : (c : tie.After-known-told Inv-items μ-items Inv-lines μ-lines) →
     let i = c .before .before .before .before .before in
     let a = i .before .before .before .before .before .before .before .args in
-    ItemIs (ended (a .count - i .items .k - 1)) (a .s .now) (i .items .at) (Item.Entry (c .before .word .given .0 .0) (c .before .word .given .0 .1 .0))
+    ItemIs limit (ended (a .count - i .items .k - 1)) (a .s .now) (i .items .at) (Item.Entry (c .before .word .given .0 .0) (c .before .word .given .0 .1 .0))
 item-there c =
     let i = c .before .before .before .before .before in
     let a = i .before .before .before .before .before .before .before .args in
-    subst (λ (r : Item). ItemIs (ended (a .count - i .items .k - 1)) (a .s .now) (i .items .at) r) (c .before .word .given .1)
+    subst (λ (r : Item). ItemIs limit (ended (a .count - i .items .k - 1)) (a .s .now) (i .items .at) r) (c .before .word .given .1)
     (c .before .before .before .ended-item .ensures)
 
 no-item : (c : tie.After-enum-told Inv-items μ-items Inv-lines μ-lines) →
@@ -74,7 +74,7 @@ no-item : (c : tie.After-enum-told Inv-items μ-items Inv-lines μ-lines) →
 no-item c =
     let i = c .before .before .before .before in
     let a = i .before .before .before .before .before .before .before .args in
-    subst (λ (r : Item). ItemIs (ended (a .count - i .items .k - 1)) (a .s .now) (i .items .at) r) (c .enum-told .given .1)
+    subst (λ (r : Item). ItemIs limit (ended (a .count - i .items .k - 1)) (a .s .now) (i .items .at) r) (c .enum-told .given .1)
     (c .before .before .ended-item .ensures)
 
 -- a line without fault

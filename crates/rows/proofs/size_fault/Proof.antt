@@ -1,4 +1,4 @@
--- `sheet::rows::size_fault` meets its contract. Assumes nothing.
+-- `rows::size_fault` meets its contract. Assumes nothing.
 use borrow.Author.Needs.{needs}
 use Rattle.rows.proofs.FaultLaws.{size-absent, size-low, size-high, size-good}
 use Rattle.rows.proofs.size_fault.Statement.{statement}

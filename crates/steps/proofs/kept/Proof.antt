@@ -1,4 +1,4 @@
--- `tables::steps::kept` meets its contract. The bytes of the panels passed are written, and 0 stands past them. Assumes nothing.
+-- `steps::kept` meets its contract. The bytes of the panels passed are written, and 0 stands past them. Assumes nothing.
 use mathlib.Core.Path.{_≡_, refl}
 use Prim.Native.Nat.{_≤_, _-_}
 use lib.ListN.{length, length-set}

@@ -1,4 +1,4 @@
--- `tables::steps::landing` meets its contract. The largest of the differences passed, none of them far. Assumes nothing.
+-- `steps::landing` meets its contract. The largest of the differences passed, none of them far. Assumes nothing.
 use mathlib.Core.Path.{_≡_}
 use Prim.Native.Nat.{_*_, _≤_, _-_}
 use native.Mathlib.Omega.{arith}

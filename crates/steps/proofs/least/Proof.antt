@@ -1,4 +1,4 @@
--- `tables::steps::least` meets its contract. The largest of the differences passed. Assumes nothing.
+-- `steps::least` meets its contract. The largest of the differences passed. Assumes nothing.
 use mathlib.Core.Path.{_≡_}
 use Prim.Native.Nat.{_≤_, _-_}
 use native.Mathlib.Omega.{arith}

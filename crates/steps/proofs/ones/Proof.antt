@@ -1,4 +1,4 @@
--- `tables::steps::ones` meets its contract: eight bits have at most eight ones. Assumes nothing.
+-- `steps::ones` meets its contract: eight bits have at most eight ones. Assumes nothing.
 use native.Mathlib.Omega.{arith}
 use borrow.Author.Needs.{needs}
 use lib.Count.{ones-le}

@@ -1,4 +1,4 @@
--- `tables::steps::panel_byte` meets its contract. Assumes nothing.
+-- `steps::panel_byte` meets its contract. Assumes nothing.
 use mathlib.Core.Path.{sym, _∙_}
 use native.Mathlib.Omega.{arith}
 use Rattle.words.proofs.Laws.{close-more, close-minus}

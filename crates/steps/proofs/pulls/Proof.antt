@@ -1,4 +1,4 @@
--- `tables::steps::pulls` meets its contract. The pulls passed are written. Assumes nothing.
+-- `steps::pulls` meets its contract. The pulls passed are written. Assumes nothing.
 use mathlib.Core.Path.{_≡_}
 use Prim.Native.Nat.{_≤_, _-_}
 use native.Mathlib.Omega.{arith}

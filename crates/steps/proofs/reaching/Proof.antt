@@ -1,4 +1,4 @@
--- `tables::steps::reaching` meets its contract. The bits of the triggers passed; the next bit is larger. Assumes nothing.
+-- `steps::reaching` meets its contract. The bits of the triggers passed; the next bit is larger. Assumes nothing.
 use mathlib.Core.Path.{_≡_, refl, _∙_}
 use mathlib.Core.Logic.{⊎-elim}
 use Prim.Native.Nat.{_^_, _≤_, _<_, _-_}

@@ -1,4 +1,4 @@
--- `tables::square::joined` meets its contract. The places passed are written. Assumes nothing.
+-- `tables::joined` meets its contract. The places passed are written. Assumes nothing.
 use mathlib.Core.Path.{_≡_}
 use Prim.Native.Nat.{_≤_, _-_}
 use native.Mathlib.Omega.{arith}

@@ -1,4 +1,4 @@
--- `tables::square::product` meets its contract. The rows passed are written. Assumes nothing.
+-- `tables::product` meets its contract. The rows passed are written. Assumes nothing.
 use mathlib.Core.List.{[]}
 use Prim.Native.Nat.{_≤_, _-_}
 use native.Mathlib.Omega.{arith}

@@ -1,4 +1,4 @@
--- `tables::square::raise` meets its contract: the places passed have been raised. Assumes nothing.
+-- `tables::raise` meets its contract: the places passed have been raised. Assumes nothing.
 use Prim.Native.Nat.{_≤_, _-_}
 use native.Mathlib.Omega.{arith}
 use Rattle.words.specs.Words.{entry}

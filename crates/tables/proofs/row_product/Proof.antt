@@ -1,4 +1,4 @@
--- `tables::square::row_product` meets its contract. The largest over the ways passed. Assumes nothing.
+-- `tables::row_product` meets its contract. The largest over the ways passed. Assumes nothing.
 use mathlib.Core.Path.{_≡_, refl}
 use Prim.Native.Nat.{_≤_, _-_}
 use native.Mathlib.Omega.{arith}

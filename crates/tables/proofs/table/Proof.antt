@@ -1,4 +1,4 @@
--- `tables::square::table` meets its contract. The rows passed are copied. Assumes nothing.
+-- `tables::table` meets its contract. The rows passed are copied. Assumes nothing.
 use mathlib.Core.Path.{_≡_, refl}
 use mathlib.Core.List.{[]}
 use Prim.Native.Nat.{_≤_, _-_}

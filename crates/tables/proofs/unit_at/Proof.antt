@@ -1,4 +1,4 @@
--- `tables::square::unit_at` meets its contract. Assumes nothing.
+-- `tables::unit_at` meets its contract. Assumes nothing.
 use native.Mathlib.Omega.{arith}
 use Rattle.tables.proofs.SquareLaws.{unit-same, unit-other}
 use Rattle.tables.proofs.unit_at.Statement.{statement}

@@ -1,4 +1,4 @@
--- `planner::test::reaches` meets its contract: the words are those of the sheet's tables and of their least deviation. Assumes nothing.
+-- `testing::reaches` meets its contract: the words are those of the sheet's tables and of their least deviation. Assumes nothing.
 use mathlib.Core.Path.{subst}
 use borrow.Author.Needs.{needs}
 use Rattle.cue.specs.Meaning.{Tightest}

@@ -1,4 +1,4 @@
--- `planner::test::test_timing` meets its contract. Assumes nothing.
+-- `testing::test_timing` meets its contract. Assumes nothing.
 use mathlib.Core.Path.{_≡_, refl, ap, sym, subst, _∙_}
 use mathlib.Core.Bool.{Bool, true, false}
 use mathlib.Core.List.{List, []}

@@ -1,4 +1,4 @@
--- `text::line::put_lines` meets its contract. The loop's invariant: the first `k` lines are put. Assumes nothing.
+-- `text_lines::put_lines` meets its contract. The loop's invariant: the first `k` lines are put. Assumes nothing.
 use mathlib.Core.Path.{_≡_}
 use Prim.Native.Nat.{_-_, _≤_}
 use native.Mathlib.Omega.{arith}

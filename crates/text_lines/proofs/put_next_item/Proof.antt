@@ -1,4 +1,4 @@
--- `text::line::put_next_item` meets its contract. Assumes nothing.
+-- `text_lines::put_next_item` meets its contract. Assumes nothing.
 use mathlib.Core.Path.{_∙_}
 use native.Mathlib.Omega.{arith}
 use borrow.Author.Needs.{needs}

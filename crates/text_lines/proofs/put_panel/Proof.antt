@@ -1,4 +1,4 @@
--- `text::line::put_panel` meets its contract. Assumes nothing.
+-- `text_lines::put_panel` meets its contract. Assumes nothing.
 use native.Mathlib.Omega.{arith}
 use borrow.Author.Needs.{needs}
 use Rattle.sheet.specs.Text.{bytes}

@@ -1,4 +1,4 @@
--- `text::line::put_panels` meets its contract. The loop's invariant: the lines of the first `i` panels are put. Assumes nothing.
+-- `text_lines::put_panels` meets its contract. The loop's invariant: the lines of the first `i` panels are put. Assumes nothing.
 use mathlib.Core.List.{[], _∷_}
 use mathlib.Core.Path.{_≡_}
 use Prim.Native.Nat.{_-_, _≤_}

@@ -1,4 +1,4 @@
--- `count` meets its contract. The loop's invariant: the state is one that the walk comes to, after n selections.
+-- `walk::count` meets its contract. The loop's invariant: the state is one that the walk comes to, after n selections.
 use mathlib.Core.Path.{_≡_, refl, ap, ap₂, _∙_}
 use mathlib.Core.List.{List, [], _∷_, _++_}
 use Prim.Native.Nat.{ℕ}

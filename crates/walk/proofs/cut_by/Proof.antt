@@ -1,4 +1,4 @@
--- `cut_by` meets its contract: each of its three ways is what the definition says by the two tests.
+-- `walk::cut_by` meets its contract: each of its three ways is what the definition says by the two tests.
 use mathlib.Core.Path.{refl, sym, _∙_}
 use mathlib.Core.Bool.{true, false}
 use native.Mathlib.Omega.{arith}

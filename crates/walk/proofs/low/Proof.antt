@@ -1,4 +1,4 @@
--- `low` meets its contract: the lowest of six bits fits a byte.
+-- `walk::low` meets its contract: the lowest of six bits fits a byte.
 use native.Mathlib.Omega.{arith}
 use borrow.Author.Needs.{needs}
 use Rattle.walk.proofs.Bytes.{low-in}

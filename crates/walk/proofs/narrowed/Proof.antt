@@ -1,4 +1,4 @@
--- `narrowed` meets its contract. The loop's invariant: narrowing the mask by the picks that are left comes to the level's mask.
+-- `walk::narrowed` meets its contract. The loop's invariant: narrowing the mask by the picks that are left comes to the level's mask.
 use mathlib.Core.Path.{_≡_, sym, _∙_}
 use Prim.Native.Nat.{_-_, _<_, _≤_}
 use native.Mathlib.Omega.{arith}

@@ -1,4 +1,4 @@
--- `text::put::put_natural`, which calls itself, meets its contract: a number is its tenth part's digits, then its last. The measure is
+-- `writing::put_natural`, which calls itself, meets its contract: a number is its tenth part's digits, then its last. The measure is
 -- the number. Assumes nothing.
 use mathlib.Core.Path.{sym}
 use Prim.Native.Nat.{ℕ, _/_, _<_}

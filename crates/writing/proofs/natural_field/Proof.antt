@@ -1,4 +1,4 @@
--- `text::put::natural_field` meets its contract. Assumes nothing.
+-- `writing::natural_field` meets its contract. Assumes nothing.
 use native.Mathlib.Omega.{arith}
 use borrow.Author.Needs.{needs}
 use Rattle.sheet.specs.Text.{bytes}

@@ -1,4 +1,4 @@
--- `text::put::number_field` meets its contract. Assumes nothing.
+-- `writing::number_field` meets its contract. Assumes nothing.
 use mathlib.Core.Path.{ap}
 use borrow.Author.Needs.{needs}
 use mir.Facts.{toZ-ofZ}

@@ -1,4 +1,4 @@
--- `text::put::put_byte` meets its contract. Assumes nothing.
+-- `writing::put_byte` meets its contract. Assumes nothing.
 use borrow.Author.Needs.{needs}
 use Rattle.writing.proofs.PutLaws.{put-one}
 use Rattle.writing.proofs.put_byte.Statement.{statement}

@@ -1,4 +1,4 @@
--- `text::put::put_bytes` meets its contract. The loop's invariant: the first `i` bytes of the key are put. Assumes nothing.
+-- `writing::put_bytes` meets its contract. The loop's invariant: the first `i` bytes of the key are put. Assumes nothing.
 use Prim.Native.Nat.{_-_}
 use native.Mathlib.Omega.{arith}
 use lib.ListN.{length}

@@ -1,4 +1,4 @@
--- `text::put::put_item` meets its contract. Assumes nothing.
+-- `writing::put_item` meets its contract. Assumes nothing.
 use mathlib.Core.Path.{sym, ap, _∙_}
 use borrow.Author.Needs.{needs}
 use mir.Syntax.{w64}

@@ -1,4 +1,4 @@
--- `text::put::put_number` meets its contract. Assumes nothing.
+-- `writing::put_number` meets its contract. Assumes nothing.
 use mathlib.Core.Path.{sym, ap, _∙_}
 use native.Mathlib.Omega.{arith}
 use borrow.Author.Needs.{needs}
