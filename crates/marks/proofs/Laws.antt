@@ -26,7 +26,7 @@ use Rattle.levels.specs.Levels.{PackedAs, LevelsClose}
 use Rattle.levels.specs.declared.Packed.{Packed}
 use Rattle.known.proofs.Results.{floors-close, dues-close, star-close, through-close, pulls-held, pulls-close, least-held, least-close, kept-held, floored-is, level-floored, kept-bit, kept-small}
 use Rattle.words.proofs.Laws.{word-order, close-more, close-minus, entry-zero}
-use Rattle.walk.specs.Trace.{bit}
+use Rattle.masks.specs.Trace.{bit}
 use Rattle.walk.specs.Follows.{Follows}
 use Rattle.candidates.specs.Prepared.{Prepared}
 use Rattle.marks.specs.Marked.{Fit, MarkedAs, LevelsFar}

@@ -22,8 +22,8 @@ use Rattle.tables.specs.Held.{meant, Holds, Closely, Says}
 use Rattle.tables.proofs.SquareLaws.{closely-more}
 use Rattle.known.proofs.Good.{read-good}
 use Rattle.known.proofs.Results.{HeldBy, sheet-held, afters-close, lags-close, floors-close, dues-close, star-held, star-close, through-held, order-says}
-use Rattle.timing.specs.Deviation.{SheetClose}
-use Rattle.timing.specs.Test.{SheetWords}
+use Rattle.measuring.specs.Deviation.{SheetClose}
+use Rattle.measuring.specs.Test.{SheetWords}
 use Rattle.marks.specs.Marked.{Fit}
 use Rattle.orderly.specs.Inner.{Worded}
 

@@ -9,11 +9,11 @@ use lib.Count.{trailingZeros}
 use lib.ListN.{length, getD, set, replicate, getD-replicate, length-set, length-append}
 use lib.Seq.{getD-set-same, getD-set-other}
 use Rattle.tables.proofs.Loops.{blank-word}
-use Rattle.walk.specs.Trace.{Event, fixing, whole, bitsFrom, members, forEach, cut, serves, walkFrom, walkOf, fixings, selections}
-use Rattle.walk.specs.State.{Masks, countsOf}
+use Rattle.masks.specs.Trace.{Event, fixing, whole, bitsFrom, members, forEach, cut, serves, walkFrom, walkOf, fixings, selections, Masks}
+use Rattle.walk.specs.State.{countsOf}
 use Rattle.walk.specs.declared.Counts.{Counts}
-use Rattle.walk.proofs.Bytes.{members-split, members-none, cut-small}
-use Rattle.walk.proofs.Small.{set-below}
+use Rattle.masks.proofs.Bytes.{members-split, members-none, cut-small}
+use Rattle.masks.proofs.Small.{set-below}
 use Rattle.walk.proofs.TraceLaws.{fixings-append, selections-append, selections-few}
 use Rattle.walk.proofs.Whole.{bits-few, forEach-few, most, most-few}
 use Rattle.tally.specs.Counting.{row, SameFrom, CutBelow, ahead, tried, Remembered, Ready, Counted}

@@ -3,8 +3,7 @@ use mathlib.Core.Path.{_≡_}
 use mathlib.Core.List.{List, [], _∷_}
 use Prim.Native.Nat.{ℕ, _+_, _-_, _<_, _≤_}
 use lib.ListN.{length, getD}
-use Rattle.walk.specs.Trace.{Event, fixing, members, forEach, cut, serves, walkFrom, fixings, selections}
-use Rattle.walk.specs.State.{Masks}
+use Rattle.masks.specs.Trace.{Event, fixing, members, forEach, cut, serves, walkFrom, fixings, selections, Masks}
 use Rattle.walk.specs.declared.Counts.{Counts}
 
 abbrev pub row : List (List ℕ) → ℕ → List ℕ

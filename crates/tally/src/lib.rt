@@ -5,11 +5,12 @@ ghost use mathlib.Core.Path.{_≡_};
 ghost use Prim.Native.Nat.{_≤_, _<_};
 ghost use lib.ListN.{length};
 ghost use Rattle.tables.specs.Held.{Says};
-ghost use Rattle.walk.specs.State.{Masks, countsOf};
+ghost use Rattle.masks.specs.Trace.{Masks};
+ghost use Rattle.walk.specs.State.{countsOf};
 ghost use Rattle.tally.specs.Counting.{CutBelow, SameFrom, Ready, Counted, ahead, tried};
+use masks::cut_by;
+use masks::low;
 use walk::Counts;
-use walk::cut_by;
-use walk::low;
 
 fn wide(x: u8) -> usize
     ensures { λ r. ⌜ r ≡ x ⌝ }

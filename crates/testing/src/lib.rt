@@ -59,5 +59,5 @@ fn reaches(t: Sheet, after: &[[u64; 6]; 6], timing: Timing) -> bool
     let through = tables::product(&lag, &star, m, n);
     let pulls = steps::pulls(&star, due, n);
     let least = steps::least(&through, pulls, floor, m, n);
-    timing::tested(after, &lag, floor, due, least, timing, m, n)
+    measuring::tested(after, &lag, floor, due, least, timing, m, n)
 }

@@ -1,4 +1,2 @@
--- What the argument means, and what the program writes.
-pub mod Times
-pub mod Inner
+-- What the program writes.
 pub mod Output

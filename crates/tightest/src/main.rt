@@ -1,7 +1,5 @@
 // Whether the times of the argument are tightest for the sheet on standard input, on standard output; for a refusal also a sentence on standard
 // error.
-mod times;
-
 ghost use mathlib.Core.Path.{_≡_};
 ghost use lib.ListN.{take};
 ghost use Rattle.io.specs.Counts.{Counts};
@@ -71,7 +69,7 @@ fn main() {
     if os::arg_count() == 2 {
         let mut argument = [0u8; 131072];
         let length = os::arg(1, &mut argument);
-        let read = times::times(&argument[..length]);
+        let read = argument::times(&argument[..length]);
         if read.numerals {
             let at = read.at;
             let timing = Timing {

@@ -1,5 +1,3 @@
--- Laws of the limit on components, of their words, of an after rule in words, and of the test.
+-- Laws of the limit on components, and of their words.
 pub mod LimitLaws
 pub mod TimeLaws
-pub mod OrderLaws
-pub mod TestLaws

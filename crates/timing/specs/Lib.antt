@@ -1,4 +1,2 @@
--- What the test of a timing says: the components and their limit, the deviation over words' entries, and the test's answer.
+-- The components of a timing and their limit.
 pub mod Times
-pub mod Deviation
-pub mod Test

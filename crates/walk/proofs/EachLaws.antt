@@ -8,7 +8,7 @@ use borrow.Author.Tests.{lt-ltb, le-ltb}
 use lib.Dec.{T, ltb}
 use Rattle.maxplus.specs.Finite.{each, onlyIf, sum}
 use Rattle.maxplus.proofs.EachLaws.{each-same}
-use Rattle.walk.specs.Trace.{Event, bit, bitsFrom, members, forEach, selections, fixings}
+use Rattle.masks.specs.Trace.{Event, bit, bitsFrom, members, forEach, selections, fixings}
 use Rattle.walk.proofs.TraceLaws.{fixings-append, selections-append}
 
 module _ {A : Type 0} where

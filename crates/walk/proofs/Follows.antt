@@ -16,13 +16,13 @@ use Rattle.maxplus.proofs.EachLaws.{each-same, map-each, map-length, map-twice}
 use Rattle.cue.specs.Meaning.{Tables}
 use Rattle.cue.specs.Method as M
 use Rattle.cue.proofs.Walk.{geometric, steps-bound, cut-within}
-use Rattle.walk.specs.Trace.{Event, fixing, whole, bit, cut, serves, walkFrom, walkOf, selections, fixings}
+use Rattle.masks.specs.Trace.{Event, fixing, whole, bit, cut, serves, walkFrom, walkOf, selections, fixings}
 use Rattle.walk.specs.State.{Steps, startOf, countsOf}
 use Rattle.walk.specs.Follows.{Follows}
 use Rattle.walk.specs.declared.Walk.{Walk}
 use Rattle.walk.specs.declared.Stepped.{Stepped}
 use Rattle.walk.specs.declared.Outcome.the-variants.{Selection, End}
-use Rattle.walk.proofs.Bytes.{bit-cut}
+use Rattle.masks.proofs.Bytes.{bit-cut}
 use Rattle.walk.proofs.Whole.{start-pending}
 use Rattle.walk.proofs.Stepping.{remaining, Walked, found-selection, end-selections, walked-in}
 use Rattle.walk.proofs.EachLaws.{selections-each, fixings-each, sum-same, members-each}

@@ -1,7 +1,4 @@
 -- Laws of the walk, in the order in which one file builds on another. Stepping and Follows have what callers use.
-pub mod Small
-pub mod Bytes
-pub mod Narrow
 pub mod Whole
 pub mod Stack
 pub mod Walking

@@ -9,11 +9,11 @@ use lib.ListN.{length, getD, take, set, length-set}
 use lib.Seq.{getD-set-same, getD-set-other, take-set-le, take-suc-set}
 use lib.Bits.{bitAnd, and-le-l}
 use lib.Count.{trailingZeros}
-use Rattle.walk.specs.Trace.{Event, fixing, whole, forEach, members, maskAt, run}
+use Rattle.masks.specs.Trace.{Event, fixing, whole, forEach, members, maskAt, run}
 use Rattle.walk.specs.State.{marks, level, stack, pending, fixed, Sound, at}
 use Rattle.walk.specs.declared.Walk.{Walk}
-use Rattle.walk.proofs.Small.{set-below}
-use Rattle.walk.proofs.Bytes.{members-split, members-none, low-in}
+use Rattle.masks.proofs.Small.{set-below}
+use Rattle.masks.proofs.Bytes.{members-split, members-none, low-in}
 
 -- the untried triggers of the panel at the depth
 abbrev pub untried : Walk → ℕ

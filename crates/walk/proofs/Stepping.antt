@@ -7,8 +7,8 @@ use native.Mathlib.Omega.{arith}
 use lib.ListN.{length, take, length-append}
 use Rattle.maxplus.specs.Finite.{In}
 use Rattle.maxplus.proofs.FiniteLaws.{in-right}
-use Rattle.walk.specs.Trace.{whole, walkOf, selections, fixings}
-use Rattle.walk.specs.State.{Masks, Ready, Steps, After, Ended, marks, pending, startOf}
+use Rattle.masks.specs.Trace.{whole, walkOf, selections, fixings, Masks}
+use Rattle.walk.specs.State.{Ready, Steps, After, Ended, marks, pending, startOf}
 use Rattle.walk.specs.declared.Walk.{Walk}
 use Rattle.walk.specs.declared.Stepped.{Stepped}
 use Rattle.walk.specs.declared.Outcome.{Outcome}

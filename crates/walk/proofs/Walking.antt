@@ -6,7 +6,7 @@ use Prim.Native.Nat.{ℕ, suc, _+_, _*_, _<_}
 use native.Mathlib.Omega.{arith}
 use lib.ListN.{length, getD, take}
 use lib.Count.{trailingZeros}
-use Rattle.walk.specs.Trace.{maskAt}
+use Rattle.masks.specs.Trace.{maskAt}
 use Rattle.walk.specs.State.{Ready, FixedReady, Gives, Descends, marks, pending, fixed}
 use Rattle.walk.specs.declared.Walk.{Walk}
 use Rattle.walk.specs.declared.Stepped.{Stepped}

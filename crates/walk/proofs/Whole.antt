@@ -7,9 +7,9 @@ use native.Mathlib.Omega.{arith}
 use native.Mathlib.Nat.{suc-mul}
 use lib.Dec.{leb, leb→le}
 use lib.ListN.{length, getD, replicate, length-append}
-use Rattle.walk.specs.Trace.{Event, fixing, bit, bitsFrom, members, forEach, cut, serves, narrow, maskAt, run, walkFrom, walkOf}
-use Rattle.walk.specs.State.{Masks, Ready, level, stack, pending, startOf}
-use Rattle.walk.proofs.Small.{all-at, set-below}
+use Rattle.masks.specs.Trace.{Event, fixing, bit, bitsFrom, members, forEach, cut, serves, narrow, maskAt, run, walkFrom, walkOf, Masks}
+use Rattle.walk.specs.State.{Ready, level, stack, pending, startOf}
+use Rattle.masks.proofs.Small.{all-at, set-below}
 
 pub forEach-same : (js : List ℕ) (g h : ℕ → List Event) → ((j : ℕ) → g j ≡ h j) → forEach js g ≡ forEach js h
 unfolding forEach

@@ -8,7 +8,7 @@ use lib.IntN.{ℤ}
 use lib.ListN.{length, getD}
 use Rattle.cue.specs.Meaning.{Tables}
 use Rattle.cue.specs.Method as M
-use Rattle.walk.specs.Trace.{bit, serves}
+use Rattle.masks.specs.Trace.{bit, serves}
 
 module _ (n : ℕ) (P : Tables) (D : ℤ) (f : ℕ) (masks : List ℕ) (gains : List (List ℕ)) (panels : List ℕ) where
   -- panels are those with a floor, f of them; the masks are their kept triggers, and wherever the walk compares two words they stand in

@@ -1,4 +1,3 @@
--- The walk over masks as the list of what happens in it, what a state of it still has to give, and when masks follow a sheet's tables.
-pub mod Trace
+-- What a state of the walk still has to give, and when masks follow a sheet's tables.
 pub mod State
 pub mod Follows

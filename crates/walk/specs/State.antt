@@ -3,17 +3,13 @@ use mathlib.Core.Path.{_≡_}
 use mathlib.Core.List.{List, [], _∷_, _++_}
 use Prim.Native.Nat.{ℕ, zero, suc, _+_, _-_, _<_, _≤_}
 use lib.ListN.{length, getD, take, set, replicate}
-use Rattle.walk.specs.Trace.{Event, fixing, whole, forEach, members, run, walkOf, selections, fixings}
+use Rattle.masks.specs.Trace.{Masks, Event, fixing, whole, forEach, members, run, walkOf, selections, fixings}
 use Rattle.walk.specs.declared.Walk.{Walk}
 use Rattle.walk.specs.declared.Counts.{Counts}
 use Rattle.walk.specs.declared.Stepped.{Stepped}
 use Rattle.walk.specs.declared.Turn.{Turn}
 use Rattle.walk.specs.declared.Outcome.{Outcome}
 use Rattle.walk.specs.declared.Outcome.the-variants.{Selection, End}
-
--- every mask has six bits
-abbrev pub Masks : List ℕ → Type 0
-Masks kept = (k : ℕ) → getD kept k 0 < 64
 
 -- n fixings
 abbrev pub marks : ℕ → List Event

@@ -3,10 +3,11 @@
 // picks; a panel's mask is narrowed by the picks on the way down, so nothing is ever restored.
 ghost use mathlib.Core.Path.{_≡_};
 ghost use Prim.Native.Nat.{ℕ, _<_, _≤_};
-ghost use lib.Count.{trailingZeros};
 ghost use lib.ListN.{length, getD, take};
-ghost use Rattle.walk.specs.Trace.{bit, cut, maskAt};
-ghost use Rattle.walk.specs.State.{Ready, Steps, FixedReady, Descends, Masks, at, turned, startOf, countsOf};
+ghost use Rattle.walk.specs.State.{Ready, Steps, FixedReady, Descends, at, turned, startOf, countsOf};
+ghost use Rattle.masks.specs.Trace.{Masks};
+use masks::low;
+use masks::narrowed;
 
 // What a step gives.
 pub enum Outcome {
@@ -37,56 +38,6 @@ pub struct Turn {
 pub struct Counts {
     pub steps: u32,
     pub selections: u32,
-}
-
-fn wide(x: u8) -> usize
-    ensures { λ r. ⌜ r ≡ x ⌝ }
-{
-    x as usize
-}
-
-fn has(m: u8, j: usize) -> bool
-    requires { ⌜ j < 8 ⌝ }
-    ensures { λ r. ⌜ r ≡ bit m j ⌝ }
-{
-    (m >> j) % 2 == 1
-}
-
-// The lowest bit: the next trigger to fix.
-pub fn low(m: u8) -> u8
-    requires { ⌜ (0 < m) × (m < 64) ⌝ }
-    ensures { λ r. ⌜ r ≡ trailingZeros 8 m ⌝ }
-{
-    u8::trailing_zeros(m) as u8
-}
-
-// What fixing trigger j leaves of a later panel's mask m; `serves`: j is there as good as where it was fixed.
-pub fn cut_by(j: usize, serves: bool, m: u8) -> u8
-    requires { ⌜ j < 6 ⌝ }
-    ensures { λ r. ⌜ r ≡ cut j serves m ⌝ }
-{
-    if has(m, j) {
-        if serves {
-            return 1u8 << j;
-        }
-    }
-    m
-}
-
-// The triggers left to level k after the picks of the levels above it.
-fn narrowed(kept: &[u8; 6], gains: &[[u64; 6]; 6], picks: [u8; 6], k: usize) -> u8
-    requires { ⌜ (k < 6) × ((i : ℕ) → getD picks i 0 < 6) × (length picks ≡ 6) × Masks (now kept) ⌝ }
-    ensures { λ r. ⌜ (r ≡ maskAt (now (kept .entry)) (now (gains .entry)) (take k picks)) × (r < 64) ⌝ }
-{
-    let mut m = kept[k];
-    let mut i: usize = 0;
-    while i < k {
-        let j = wide(picks[i]);
-        let serves = gains[i][j] <= gains[k][j];
-        m = cut_by(j, serves, m);
-        i += 1;
-    }
-    m
 }
 
 // Trying the triggers of the panel at the depth: the next one is fixed; where none is left, the panel above goes on.

@@ -6,7 +6,7 @@ use lib.Bits.{and-le-l, and-le-r}
 use lib.Count.{trailingZeros}
 use borrow.Fn.Kinds.{In}
 use borrow.Fn.PlainCycle.{Measures, is, falls, and}
-use Rattle.walk.proofs.Bytes.{low-in}
+use Rattle.masks.proofs.Bytes.{low-in}
 use Rattle.tally.specs.Counting.{CutBelow}
 use Rattle.tally.proofs.CountLaws.{counted-whole, counted-again, counted-level, counted-none, counted-more, steps-few, selections-fit}
 use Rattle.tally.proofs.below.Reads as below
@@ -18,7 +18,7 @@ use Rattle.tally.proofs.+below+each.Lts-each as each-lts
 use Rattle.tally.proofs.cut_below.Reads as cut-below-reads
 use Rattle.tally.proofs.same_from.Reads as same-from-reads
 use Rattle.tally.proofs.wide.Reads as wide-reads
-use Rattle.walk.proofs.low.Reads as low-reads
+use Rattle.masks.proofs.low.Reads as low-reads
 use Rattle.tally.proofs.+below+each.{statement}
 use Rattle.tally.proofs.+below+each.Tie.{close}
 

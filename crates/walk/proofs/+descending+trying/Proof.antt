@@ -14,8 +14,8 @@ use Rattle.walk.proofs.+descending+trying.Lts-descending as descending-
 use Rattle.walk.proofs.trying.Reads as trying
 use Rattle.walk.proofs.trying.Kinds as trying-kinds
 use Rattle.walk.proofs.+descending+trying.Lts-trying as trying-lts
-use Rattle.walk.proofs.low.Reads as low-reads
-use Rattle.walk.proofs.narrowed.Reads as narrowed-reads
+use Rattle.masks.proofs.low.Reads as low-reads
+use Rattle.masks.proofs.narrowed.Reads as narrowed-reads
 use Rattle.walk.proofs.+descending+trying.{statement}
 use Rattle.walk.proofs.+descending+trying.Tie.{close}
 

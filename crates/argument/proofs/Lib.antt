@@ -1,0 +1,2 @@
+-- Laws of the argument's numbers.
+pub mod TimesLaws

@@ -1,0 +1,3 @@
+-- What the argument means, and what reading it promises.
+pub mod Times
+pub mod Inner

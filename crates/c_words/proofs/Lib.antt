@@ -1,0 +1,2 @@
+-- Laws of words stored from a place on.
+pub mod Storing

@@ -1,0 +1,2 @@
+-- The words that C is given.
+pub mod Words
