@@ -1,7 +1,9 @@
 -- The sentences that the programs write for a person who reads a refusal: what its number means and what to look at (document 01, "What each
 -- operation may refuse").
-use mathlib.Core.List.{List, [], _∷_}
-use Prim.Native.Nat.{ℕ}
+use mathlib.Core.List.{List, [], _∷_, _++_}
+use mathlib.Core.Bool.{cond}
+use Prim.Native.Nat.{ℕ, _-_}
+use lib.Dec.{eqb}
 use lib.ListN.{getD}
 use Rattle.sheet.specs.Text.{bytes}
 
@@ -24,3 +26,8 @@ sentences =
 -- a refusal's sentence; nothing for a number that is no refusal's
 unfoldable pub advice : ℕ → List ℕ
 advice k = getD ([] ∷ sentences) k []
+
+-- the k-th line of a text, counted from 1, with its LF
+unfoldable pub nth-line : List ℕ → ℕ → List ℕ
+nth-line [] k = []
+nth-line (b ∷ s) k = cond (eqb k 1) (b ∷ []) [] ++ nth-line s (cond (eqb b 10) (k - 1) k)
