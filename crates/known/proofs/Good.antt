@@ -101,20 +101,29 @@ row-some (num z ∷ es) h = (0, omega arith, (z, refl))
 row-some (absent ∷ es) h = let (j, l, p) = row-some es h in (suc j, omega arith, p)
 
 -- ---- rows
-rows-fine : (key : List ℕ) (r : Rule) (m n : ℕ) (s : List ℕ) {t : List (List E)} {x : List ℕ} → rows key r m n s ≡ got t x →
-    (i : ℕ) → i < m → (es : List E) × (table t i ≡ row es) × Fine r n es × In es t
+-- the i-th row is a line that passes the rule, and stands in the table
+abbrev Kept : Rule → ℕ → List (List E) → ℕ → Type 0
+Kept r n t i = (es : List E) × (table t i ≡ row es) × Fine r n es × In es t
+
+-- with a line in front: a declaration of its own, as the same text in the clause of a recursion takes seconds to check
+rows-more : (key : List ℕ) (r : Rule) (m n : ℕ) (s : List ℕ) {t : List (List E)} {x : List ℕ} → rows key r (suc m) n s ≡ got t x →
+    ((s : List ℕ) (t : List (List E)) (x : List ℕ) → rows key r m n s ≡ got t x → (i : ℕ) → i < m → Kept r n t i) →
+    (i : ℕ) → i < suc m → Kept r n t i
 unfolding rows table
-rows-fine key r zero n s e i h = let x : ⊥ = omega arith in absurd x
-rows-fine key r (suc m) n s {t} e i h =
+rows-more key r m n s {t} e ih i h =
     let (es, y, p, f) = bind-got (line key r n s) e in
     let (u, z, q, g) = bind-got (rows key r m n y) f in
     let c : es ∷ u ≡ t = cc in
-    rw (← c) (go es u i (line-fine key r n s p) (λ i l. rows-fine key r m n y q i l) (omega arith))
+    rw (← c) (go es u i (line-fine key r n s p) (ih y u z q) h)
   where
-    go : (es : List E) (u : List (List E)) (i : ℕ) → Fine r n es → ((i : ℕ) → i < m → (es : List E) × (table u i ≡ row es) × Fine r n es × In es u) →
-        i < suc m → (fs : List E) × (table (es ∷ u) i ≡ row fs) × Fine r n fs × In fs (es ∷ u)
+    go : (es : List E) (u : List (List E)) (i : ℕ) → Fine r n es → ((i : ℕ) → i < m → Kept r n u i) → i < suc m → Kept r n (es ∷ u) i
     go es u zero F ih l = (es, refl, F, inl refl)
     go es u (suc i) F ih l = let (fs, a, b, c) = ih i (omega arith) in (fs, a, b, inr c)
+
+rows-fine : (key : List ℕ) (r : Rule) (m n : ℕ) (s : List ℕ) {t : List (List E)} {x : List ℕ} → rows key r m n s ≡ got t x →
+    (i : ℕ) → i < m → Kept r n t i
+rows-fine key r zero n s e i h = let x : ⊥ = omega arith in absurd x
+rows-fine key r (suc m) n s e i h = rows-more key r m n s e (λ y u z q. rows-fine key r m n y q) i h
 
 rows-past : (key : List ℕ) (r : Rule) (m n : ℕ) (s : List ℕ) {t : List (List E)} {x : List ℕ} → rows key r m n s ≡ got t x →
     (i : ℕ) → m ≤ i → table t i ≡ row []
