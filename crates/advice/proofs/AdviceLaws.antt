@@ -11,6 +11,7 @@ use lib.ListN.{length, take, drop, set, getD, length-set, length-append}
 use borrow.Author.Tests.{leb-true, eq-eqb, ne-eqb}
 use lib.Seq.{drop-cons, drop-length, take-suc-set, length-take-le}
 use Rattle.sheet.specs.Text.{bytes}
+use Rattle.sheet.specs.Sheet.{any}
 use Rattle.advice.specs.Advice.{sentences, advice}
 use Rattle.advice.specs.Inner.{nth-line}
 use Rattle.writing.specs.Writing.{Writes}
@@ -198,3 +199,16 @@ pub answered : {out errors t u T S : List ℕ} {r q : ℕ} → Writes out r t �
     ((r ≤ length out) × (r ≡ length (take r out))) ×
     ((take r out ≡ T) × (((q ≤ length errors) × (q ≡ length (take q errors))) × (take q errors ≡ S)))
 answered w e v f = (counted _ _ (w .within), (w .text ∙ e, (counted _ _ (v .within), v .text ∙ f)))
+
+-- ---- every number from 1 to 11 has a sentence
+some-at : (l : List (List ℕ)) (k : ℕ) → any none l ≡ false → k < length l → 0 < length (getD l k [])
+unfolding any
+some-at [] k h i = let x : ⊥ = omega arith in absurd x
+some-at ([] ∷ l) k h i = absurd (let z : _≡_ {A = ℕ} 0 1 = cc in let x : ⊥ = omega arith in x)
+some-at ((b ∷ s) ∷ l) zero h i = omega arith
+some-at ((b ∷ s) ∷ l) (suc k) h i = some-at l k h (omega arith)
+
+pub advised : (k : ℕ) → 1 ≤ k → k ≤ 11 → 0 < length (advice k)
+unfolding advice sentences any bytes
+advised zero h l = let x : ⊥ = omega arith in absurd x
+advised (suc k) h l = some-at sentences k refl (omega arith)

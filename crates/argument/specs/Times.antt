@@ -1,10 +1,9 @@
 -- The times that an argument gives: "A number is 0, or an optional minus, a digit 1 to 9 and any digits", "items split by one comma".
 use mathlib.Core.List.{List, [], _∷_}
 use mathlib.Core.Bool.{cond}
-use Prim.Native.Nat.{ℕ, zero, suc, _-_, min}
+use Prim.Native.Nat.{ℕ, zero, suc, min}
 use lib.Dec.{eqb}
 use lib.IntN.{ℤ, pos, negsuc}
-use Rattle.maxplus.specs.Whole.{neg}
 use Rattle.maxplus.specs.Entry.{E, absent, num}
 use Rattle.sheet.specs.Sheet.{Got, got, refused, _>>=_, item}
 use Rattle.timing.specs.Times.{far-limit}

@@ -2,7 +2,6 @@
 use mathlib.Core.Path.{_≡_, refl, ap₂, _∙_}
 use mathlib.Core.List.{List}
 use Prim.Native.Nat.{ℕ, _+_, _≤_}
-use native.Mathlib.Omega.{arith}
 use lib.ListN.{getD}
 use Rattle.maxplus.specs.Entry.{_⊗_, _⊕_, inv}
 use Rattle.maxplus.specs.Tables.{sup, Vec, normal}

@@ -16,24 +16,25 @@ use Rattle.maxplus.proofs.EachLaws.{length-each, each-at}
 use Rattle.maxplus.proofs.StarLaws.{no-gain?}
 use Rattle.sheet.specs.Sheet.{Got, got, Sheet, _>>=_, read}
 use Rattle.sheet.specs.Sheet as sheet
-use Rattle.reading.proofs.Refusals.{refusal-numbered}
+use Rattle.reading.proofs.Refusals.{refusal-known}
 use Rattle.known.proofs.Good.{read-good}
 use Rattle.advice.specs.Advice.{advice}
 use Rattle.writing.specs.Texts.{kept-text, refusal-text}
 use Rattle.keeping.specs.Keeping.{KeptOutcome, kept, refused, kept-of, keeping, six, kept-answer}
 use Rattle.orderly.specs.Orderly.{orderly}
 use Rattle.keeping.specs.declared.KeptTable.{KeptTable}
+use Rattle.advice.proofs.AdviceLaws.{advised}
 use Rattle.kept.specs.Output.{kept-output, kept-complaint}
 
 abbrev pub Sound : KeptOutcome → Type 0
 Sound (kept D panels k l) = length panels ≤ 6
-Sound (refused k) = 1 ≤ k
+Sound (refused k) = (1 ≤ k) × (k ≤ 8)
 
 -- a sheet that was read, whether or not its order can be kept
 ordered-sound : (s : List ℕ) (t : Sheet) (r : List ℕ) → read s ≡ got t r → (d : Dec (NoGain (t .triggers) (t .after))) →
     Sound (kept-of (elim d [ yes h ↦ got t r | no h ↦ sheet.refused 8 ]))
 ordered-sound s t r e (yes h) = simp length-each (read-good s t r e .panels-few)
-ordered-sound s t r e (no h) = omega arith
+ordered-sound s t r e (no h) = (omega arith, omega arith)
 
 pub keeping-sound : (s : List ℕ) → Sound (keeping s)
 unfolding keeping orderly
@@ -41,7 +42,7 @@ keeping-sound s = go (read s) refl
   where
     go : (g : Got Sheet) → read s ≡ g →
         Sound (kept-of (g >>= λ t r. elim (no-gain? (t .triggers) (t .after)) [ yes h ↦ got t r | no h ↦ sheet.refused 8 ]))
-    go (sheet.refused k) e = refusal-numbered s k e
+    go (sheet.refused k) e = let n = refusal-known s k e in (n .0, let m = n .1 in omega arith)
     go (got t r) e = ordered-sound s t r e (no-gain? (t .triggers) (t .after))
 
 -- the first six pairs, part by part, are the pairs again
@@ -76,7 +77,7 @@ few-kept (refused k) h = omega arith
 
 kept-out : (o : KeptOutcome) → Sound o → kept-answer o .refusal ≡ 0 → table-text (kept-answer o) ≡ kept-output o
 kept-out (kept D P k l) few h = ap (λ p. kept-text D p k l) (panels-again P few)
-kept-out (refused k) numbered h = let e : ⊥ = omega arith in absurd e
+kept-out (refused k) numbered h = let n = numbered .0 in let e : ⊥ = omega arith in absurd e
 
 complained : (o : KeptOutcome) → advice (kept-answer o .refusal) ≡ kept-complaint o
 unfolding advice
@@ -99,3 +100,9 @@ module _ (s : List ℕ) (t : KeptTable) (e : t ≡ kept-answer (keeping s)) wher
 -- the deviation as a signed word is the deviation
 pub deviation-back : {D : ℤ} (P : List (ℕ × ℕ)) (k l : ℕ) → SFits w64 D → kept-text (toZ w64 (ofZ w64 D)) P k l ≡ kept-text D P k l
 deviation-back P k l f = ap (λ z. kept-text z P k l) (toZ-ofZ f)
+
+-- a refusal gets a sentence
+pub explained : (s : List ℕ) (k : ℕ) → keeping s ≡ refused k → 0 < length (kept-complaint (keeping s))
+explained s k e =
+    let n = subst Sound e (keeping-sound s) in
+    rw e (advised k (n .0) (let m = n .1 in omega arith))

@@ -1,12 +1,11 @@
--- What is known of a sheet that was read: its sizes, that each panel has a lag and some panel a floor, that every entry is within the limit,
--- and that its tables are absent outside the sizes.
+-- What is known of a sheet that was read: its sizes, that each panel has a lag and some panel a floor, and that every entry is within the
+-- limit.
 use mathlib.Core.Path.{_≡_, refl, ap, sym, subst, _∙_}
-use mathlib.Core.Logic.{_⊎_, inl, inr}
+use mathlib.Core.Logic.{inl, inr}
 use mathlib.Core.List.{List, [], _∷_}
 use mathlib.Core.Bool.{Bool, true, false, cond}
 use Prim.Native.Nat.{ℕ, zero, suc, _≤_, _<_}
 use native.Mathlib.Omega.{arith}
-use native.Mathlib.Decide.{decLt}
 use lib.Dec.{ltb}
 use lib.ListN.{length}
 use borrow.Author.Tests.{ltb-false}
@@ -17,7 +16,7 @@ use Rattle.maxplus.proofs.EntryLaws.{num-inj, absent-not}
 use Rattle.sheet.specs.Text.{bytes}
 use Rattle.sheet.specs.Sheet.{Got, got, refused, _>>=_, literal, ended, items, Rule, size, entry, mark, limit, no-size, out-of-range, absent?}
 use Rattle.sheet.specs.Sheet.{any, all, checked, line, rows, row, table, Sheet, count, finished, tables, lines, read}
-use Rattle.reading.proofs.SheetLaws.{one-size, sheet-of, row-past, row-present}
+use Rattle.reading.proofs.SheetLaws.{one-size, sheet-of, row-present}
 use Rattle.rows.proofs.FaultLaws.{none-or}
 use Rattle.cue.specs.Meaning.{Readable}
 use Rattle.cue.proofs.Bounds.{Within, Limited}
@@ -125,17 +124,6 @@ rows-fine : (key : List ℕ) (r : Rule) (m n : ℕ) (s : List ℕ) {t : List (Li
 rows-fine key r zero n s e i h = let x : ⊥ = omega arith in absurd x
 rows-fine key r (suc m) n s e i h = rows-more key r m n s e (λ y u z q. rows-fine key r m n y q) i h
 
-rows-past : (key : List ℕ) (r : Rule) (m n : ℕ) (s : List ℕ) {t : List (List E)} {x : List ℕ} → rows key r m n s ≡ got t x →
-    (i : ℕ) → m ≤ i → table t i ≡ row []
-unfolding rows table
-rows-past key r zero n s {t} e i h = let q : [] ≡ t = cc in rw (← q)
-rows-past key r (suc m) n s {t} e zero h = let x : ⊥ = omega arith in absurd x
-rows-past key r (suc m) n s {t} e (suc i) h =
-    let (es, y, p, f) = bind-got (line key r n s) e in
-    let (u, z, q, g) = bind-got (rows key r m n y) f in
-    let c : es ∷ u ≡ t = cc in
-    rw (← c) (rows-past key r m n y q i (omega arith))
-
 any-in : (f : List E → Bool) (t : List (List E)) (es : List E) → any f t ≡ false → In es t → f es ≡ false
 unfolding any
 any-in f (fs ∷ t) es h (inl e) = rw e (none-or (f fs) (any f t) h .0)
@@ -147,26 +135,15 @@ module _ (key : List ℕ) (m n : ℕ) (s : List ℕ) {t : List (List E)} {x : Li
       let (es, q, F, l) = rows-fine key entry m n s e i h in
       subst (λ r. Within limit limit (r j)) (sym q) (row-within es j (entries-in F))
 
-  table-past : (i j : ℕ) → (m ≤ i) ⊎ (n ≤ j) → table t i j ≡ absent
-  table-past i j (inl h) = ap (λ r. r j) (rows-past key entry m n s e i h) ∙ row-past [] j (omega arith)
-  table-past i j (inr h) = elim (decLt i m) [
-    | yes l ↦ (let (es, q, F, k) = rows-fine key entry m n s e i l in ap (λ r. r j) q ∙ row-past es j (let c = F .long in omega arith))
-    | no l ↦ ap (λ r. r j) (rows-past key entry m n s e i (omega arith)) ∙ row-past [] j (omega arith)
-  ]
-
 -- ---- a good sheet
 pub record Good (t : Sheet) : Type 0 where
-  pub panels-some : 1 ≤ t .panels
   pub panels-few : t .panels ≤ 6
   pub triggers-some : 1 ≤ t .triggers
   pub triggers-few : t .triggers ≤ 6
   pub readable : Readable (t .triggers) (tables-of t)
   pub limited : Limited (t .triggers) limit (tables-of t)
-  pub lag-past : (i j : ℕ) → (t .panels ≤ i) ⊎ (t .triggers ≤ j) → t .lag i j ≡ absent
-  pub floor-past : (i : ℕ) → t .panels ≤ i → t .floor i ≡ absent
-  pub after-past : (i j : ℕ) → (t .triggers ≤ i) ⊎ (t .triggers ≤ j) → t .after i j ≡ absent
 
-module _ (m n : ℕ) (some-m : 1 ≤ m) (few-m : m ≤ 6) (some-n : 1 ≤ n) (few-n : n ≤ 6) where
+module _ (m n : ℕ) (few-m : m ≤ 6) (some-n : 1 ≤ n) (few-n : n ≤ 6) where
   -- the lines behind the sizes, each with what was read of it
   record Parts (lag : List (List E)) (floor due : List E) (after : List (List E)) : Type 0 where
     x₁ : List ℕ
@@ -183,7 +160,6 @@ module _ (m n : ℕ) (some-m : 1 ≤ m) (few-m : m ≤ 6) (some-n : 1 ≤ n) (fe
   parts-good : (lag : List (List E)) (floor due : List E) (after : List (List E)) → Parts lag floor due after →
       Good (sheet-of m n lag floor due after)
   parts-good lag floor due after T = record {
-    panels-some = some-m;
     panels-few = few-m;
     triggers-some = some-n;
     triggers-few = few-n;
@@ -202,9 +178,6 @@ module _ (m n : ℕ) (some-m : 1 ≤ m) (few-m : m ≤ 6) (some-n : 1 ≤ n) (fe
           subst (Within limit limit) (row-present due j (p .1) (let c = T .dues .long in omega arith)) (row-within due j (p .0));
       afters = λ i j hi hj. table-within (bytes "after=") n n (T .x₂) (T .afters) i j hi;
     };
-    lag-past = table-past (bytes "lag=") m n (T .x₁) (T .lags);
-    floor-past = λ i h. row-past floor i (let c = T .floors .long in omega arith);
-    after-past = table-past (bytes "after=") n n (T .x₂) (T .afters);
   }
 
   tables-good : (s : List ℕ) {t : Sheet} {x : List ℕ} → tables m n s ≡ got t x → Good t
@@ -250,4 +223,4 @@ read-good s t x e =
     let (q, z, b, h) = bind-got (line (bytes "triggers=") size 1 y) g in
     let m = size-count p (line-fine (bytes "panels=") size 1 s a) in
     let n = size-count q (line-fine (bytes "triggers=") size 1 y b) in
-    tables-good (count p) (count q) (m .0) (m .1) (n .0) (n .1) z h
+    tables-good (count p) (count q) (m .1) (n .0) (n .1) z h

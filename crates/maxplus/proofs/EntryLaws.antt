@@ -104,16 +104,6 @@ distrib a b c =
     ≼-anti (elim (⊕-or b c) [ inl e ↦ rw e (⊕-l _ _) | inr e ↦ rw e (⊕-r _ _) ])
     (⊕-lub (⊗-mono (≼-refl a) (⊕-l b c)) (⊗-mono (≼-refl a) (⊕-r b c)))
 
-pub ⊕-comm : (a b : E) → a ⊕ b ≡ b ⊕ a
-⊕-comm a b = ≼-anti (⊕-lub (⊕-r b a) (⊕-l b a)) (⊕-lub (⊕-r a b) (⊕-l a b))
-
-pub ⊕-idem : (a : E) → a ⊕ a ≡ a
-⊕-idem a = ≼-anti (⊕-lub (≼-refl a) (≼-refl a)) (⊕-l a a)
-
-pub ⊕-assoc : (a b c : E) → (a ⊕ b) ⊕ c ≡ a ⊕ (b ⊕ c)
-⊕-assoc a b c =
-    ≼-anti (⊕-lub (⊕-lub (⊕-l a _) (⊕-l b c ▸ ⊕-r a _)) (⊕-r b c ▸ ⊕-r a _)) (⊕-lub (⊕-l a b ▸ ⊕-l _ c) (⊕-lub (⊕-r a b ▸ ⊕-l _ c) (⊕-r _ c)))
-
 -- a bound, by the numbers below
 pub ≼-num : {a c : E} → ((z : ℤ) → num z ≼ a → num z ≼ c) → a ≼ c
 ≼-num {a = absent} {c} h = ≼-absent c

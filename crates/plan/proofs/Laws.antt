@@ -7,8 +7,8 @@ use Prim.Native.Nat.{ℕ, _+_, _*_, _/_, _≤_, _<_}
 use native.Mathlib.Omega.{arith}
 use borrow.Author.Tests.{leb-true, leb-false}
 use lib.Dec.{leb}
-use lib.IntN.{ℤ}
-use lib.ListN.{length}
+use lib.IntN.{ℤ, pos}
+use lib.ListN.{length, length-replicate, replicate}
 use lib.Seq.{take-at}
 use mir.Facts.{toZ-ofZ}
 use mir.Syntax.{w64}
@@ -22,7 +22,7 @@ use Rattle.cue.proofs.Bounds.{results-32}
 use Rattle.cue.proofs.WrittenLaws.{Fitting, list-words-length}
 use Rattle.sheet.specs.Sheet.{Got, got, Sheet, read}
 use Rattle.sheet.specs.Sheet as sheet
-use Rattle.reading.proofs.Refusals.{refusal-numbered}
+use Rattle.reading.proofs.Refusals.{refusal-known}
 use Rattle.known.specs.Cue.{tables-of}
 use Rattle.known.proofs.Good.{Good, read-good}
 use Rattle.advice.specs.Advice.{advice}
@@ -31,14 +31,16 @@ use Rattle.writing.specs.Writing.{Stands}
 use Rattle.planning.specs.Planning.{Outcome, planned, full, refused, plan-of, planning, space-after, plan-answer}
 use Rattle.orderly.specs.Orderly.{orderly}
 use Rattle.planning.specs.Text.{text, program-text}
+use Rattle.planning.specs.Demands.{Planned}
 use Rattle.planning.specs.declared.CuePlan.{CuePlan}
 use Rattle.planning.proofs.PlanLaws.{planning-refused, planning-8, planning-listed}
+use Rattle.advice.proofs.AdviceLaws.{advised}
 use Rattle.plan.specs.Output.{complaint, program-complaint}
 
 abbrev pub Sound : ℕ → Outcome → Type 0
 Sound room (planned n D k l L) = (n ≤ 6) × (length L ≤ room) × Fitting n L
 Sound room (full k) = 1 ≤ k
-Sound room (refused k) = 1 ≤ k
+Sound room (refused k) = (1 ≤ k) × (k ≤ 8)
 
 listed-sound : (room : ℕ) (t : Sheet) → Good t → NoGain (t .triggers) (t .after) → Sound room (plan-of room (got t []))
 listed-sound room t G np = go (leb (length (lines n P)) room) (leb-true (length (lines n P)) room) (leb-false (length (lines n P)) room)
@@ -59,10 +61,11 @@ planning-sound s space = go (read s) refl
   where
     ordered : (t : Sheet) (r : List ℕ) → read s ≡ got t r → Dec (NoGain (t .triggers) (t .after)) → Sound (length space / 7) (planning s space)
     ordered t r e (yes np) = subst (Sound (length space / 7)) (planning-listed s space t r e np) (listed-sound (length space / 7) t (read-good s t r e) np)
-    ordered t r e (no f) = subst (Sound (length space / 7)) (sym (planning-8 s space t r e f)) (omega arith)
+    ordered t r e (no f) = subst (Sound (length space / 7)) (sym (planning-8 s space t r e f)) (omega arith, omega arith)
 
     go : (g : Got Sheet) → read s ≡ g → Sound (length space / 7) (planning s space)
-    go (sheet.refused k) e = subst (Sound (length space / 7)) (sym (planning-refused s space k e)) (refusal-numbered s k e)
+    go (sheet.refused k) e = subst (Sound (length space / 7)) (sym (planning-refused s space k e))
+        (let n = refusal-known s k e in (n .0, let m = n .1 in omega arith))
     go (got t r) e = ordered t r e (no-gain? (t .triggers) (t .after))
 
 -- ---- the answer's text is the outcome's
@@ -87,14 +90,14 @@ refusal-of room (refused k) q h g = refl
 few-of : (room : ℕ) (o : Outcome) → Sound room o → plan-answer o .refusal ≡ 0 → (plan-answer o .triggers ≤ 6) × (plan-answer o .count ≤ room)
 few-of room (planned n D k l L) q h = (q .0, q .1)
 few-of room (full k) q h = let x : ⊥ = omega arith in absurd x
-few-of room (refused k) q h = let x : ⊥ = omega arith in absurd x
+few-of room (refused k) q h = let n = q .0 in let x : ⊥ = omega arith in absurd x
 
 lists-of : (room : ℕ) (o : Outcome) (space : List ℤ) → Sound room o → plan-answer o .refusal ≡ 0 → Lists o space (plan-answer o)
 unfolding text space-after
 lists-of room (planned n D k l L) space q h =
     record { list = L; stands = record { many = refl; words = take-at _ _ _ (list-words-length n L); fitting = q .2 }; text-is = refl }
 lists-of room (full k) space q h = let x : ⊥ = omega arith in absurd x
-lists-of room (refused k) space q h = let x : ⊥ = omega arith in absurd x
+lists-of room (refused k) space q h = let n = q .0 in let x : ⊥ = omega arith in absurd x
 
 -- the sentence of the answer's number is the outcome's
 complaint-of : (o : Outcome) → advice (plan-answer o .refusal) ≡ complaint o
@@ -148,3 +151,13 @@ bytes-for len count h q = omega arith
 
 pub words-for : (len count : ℕ) → 14000 ≤ len → count ≤ 2000 → 7 * count ≤ len
 words-for len count h q = omega arith
+
+-- whatever is not planned gets a sentence
+pub explained : (s : List ℕ) → ¬ (Planned (plan-of 2000 (orderly s))) → 0 < length (program-complaint s)
+unfolding program-complaint planning
+explained s n = go (plan-of 2000 (orderly s)) (sound s (replicate 14000 (pos 0)) (length-replicate 14000 (pos 0)) _ refl) n
+  where
+    go : (o : Outcome) → Sound 2000 o → ¬ (Planned o) → 0 < length (complaint o)
+    go (planned n D k l L) q h = absurd (h tt)
+    go (full k) q h = advised 9 (omega arith) (omega arith)
+    go (refused k) q h = advised k (q .0) (let m = q .1 in omega arith)

@@ -1,4 +1,4 @@
--- Every refusal of reading has a number of document 01, so that 0 can stand for none.
+-- Every refusal of reading has a number of document 01, 1 to 7, so that 0 can stand for none.
 use mathlib.Core.Path.{_≡_, subst}
 use mathlib.Core.List.{List, [], _∷_}
 use mathlib.Core.Bool.{Bool, true, false, cond}
@@ -16,7 +16,7 @@ use Rattle.sheet.specs.Text.{bytes}
 
 abbrev Numbered : {A : Type 0} → Got A → Type 0
 Numbered (got a s) = Unit {0}
-Numbered (refused k) = 1 ≤ k
+Numbered (refused k) = (1 ≤ k) × (k ≤ 7)
 
 module _ {A : Type 0} where
   if-numbered : (b : Bool) (g h : Got A) → Numbered g → Numbered h → Numbered (cond b g h)
@@ -30,8 +30,8 @@ module _ {A : Type 0} where
 literal-numbered : (k s : List ℕ) → Numbered (literal k s)
 unfolding literal
 literal-numbered [] s = tt
-literal-numbered (b ∷ k) [] = omega arith
-literal-numbered (b ∷ k) (c ∷ s) = if-numbered (eqb c b) (literal k s) (refused 2) (literal-numbered k s) (omega arith)
+literal-numbered (b ∷ k) [] = (omega arith, omega arith)
+literal-numbered (b ∷ k) (c ∷ s) = if-numbered (eqb c b) (literal k s) (refused 2) (literal-numbered k s) (omega arith, omega arith)
 
 signed-numbered : (s : List ℕ) → Numbered (signed s)
 unfolding signed
@@ -44,9 +44,9 @@ signed-numbered (b ∷ s) = go (leading b)
 
 item-numbered : (s : List ℕ) → Numbered (item s)
 unfolding item
-item-numbered [] = omega arith
+item-numbered [] = (omega arith, omega arith)
 item-numbered (b ∷ s) = if-numbered (eqb b 0x30) (got (num (pos 0)) s) _ tt (if-numbered (eqb b 0x2D) (signed s) _ (signed-numbered s)
-    (if-numbered (leading b) (got (num (pos (value (b - 48) s))) (behind s)) (refused 2) tt (omega arith)))
+    (if-numbered (leading b) (got (num (pos (value (b - 48) s))) (behind s)) (refused 2) tt (omega arith, omega arith)))
 
 ended-numbered : (k : ℕ) (s : List ℕ) → Numbered (ended k s)
 unfolding ended
@@ -61,10 +61,10 @@ items-numbered (suc k) s =
 checked-numbered : (r : Rule) (es : List E) (s : List ℕ) → Numbered (checked r es s)
 unfolding checked
 checked-numbered size es s =
-    if-numbered (any absent? es) (refused 2) _ (omega arith) (if-numbered (any no-size es) (refused 3) (got es s) (omega arith) tt)
-checked-numbered entry es s = if-numbered (any out-of-range es) (refused 4) (got es s) (omega arith) tt
+    if-numbered (any absent? es) (refused 2) _ (omega arith, omega arith) (if-numbered (any no-size es) (refused 3) (got es s) (omega arith, omega arith) tt)
+checked-numbered entry es s = if-numbered (any out-of-range es) (refused 4) (got es s) (omega arith, omega arith) tt
 checked-numbered mark es s =
-    if-numbered (any out-of-range es) (refused 4) _ (omega arith) (if-numbered (any absent? es) (refused 5) (got es s) (omega arith) tt)
+    if-numbered (any out-of-range es) (refused 4) _ (omega arith, omega arith) (if-numbered (any absent? es) (refused 5) (got es s) (omega arith, omega arith) tt)
 
 line-numbered : (key : List ℕ) (r : Rule) (k : ℕ) (s : List ℕ) → Numbered (line key r k s)
 unfolding line
@@ -78,9 +78,9 @@ rows-numbered key r (suc i) k s = then-numbered (line key r k s) _ (line-numbere
     (λ es s. then-numbered (rows key r i k s) _ (rows-numbered key r i k s) (λ t s. tt))
 
 finished-numbered : (lag : List (List E)) (floor : List E) (t : Sheet) (s : List ℕ) → Numbered (finished lag floor t s)
-finished-numbered lag floor t (b ∷ s) = omega arith
-finished-numbered lag floor t [] = if-numbered (any (all absent?) lag) (refused 6) _ (omega arith)
-    (if-numbered (all absent? floor) (refused 7) (got t []) (omega arith) tt)
+finished-numbered lag floor t (b ∷ s) = (omega arith, omega arith)
+finished-numbered lag floor t [] = if-numbered (any (all absent?) lag) (refused 6) _ (omega arith, omega arith)
+    (if-numbered (all absent? floor) (refused 7) (got t []) (omega arith, omega arith) tt)
 
 tables-numbered : (m n : ℕ) (s : List ℕ) → Numbered (tables m n s)
 unfolding tables
@@ -97,6 +97,9 @@ lines-numbered s =
     then-numbered (line (bytes "panels=") size 1 s) _ (line-numbered (bytes "panels=") size 1 s) (λ p s.
     then-numbered (line (bytes "triggers=") size 1 s) _ (line-numbered (bytes "triggers=") size 1 s) (λ q s. tables-numbered (count p) (count q) s))
 
-pub refusal-numbered : (s : List ℕ) (k : ℕ) → read s ≡ refused k → 1 ≤ k
+pub refusal-known : (s : List ℕ) (k : ℕ) → read s ≡ refused k → (1 ≤ k) × (k ≤ 7)
 unfolding read
-refusal-numbered s k e = subst Numbered e (if-numbered (ltb 2048 (length s)) (refused 1) (lines s) (omega arith) (lines-numbered s))
+refusal-known s k e = subst Numbered e (if-numbered (ltb 2048 (length s)) (refused 1) (lines s) (omega arith, omega arith) (lines-numbered s))
+
+pub refusal-numbered : (s : List ℕ) (k : ℕ) → read s ≡ refused k → 1 ≤ k
+refusal-numbered s k e = refusal-known s k e .0

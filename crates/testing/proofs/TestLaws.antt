@@ -2,7 +2,8 @@
 use mathlib.Core.Path.{_≡_, refl, ap, sym, subst, _∙_}
 use mathlib.Core.Bool.{Bool, true, false, cond, not}
 use mathlib.Core.List.{List}
-use Prim.Native.Nat.{ℕ}
+use Prim.Native.Nat.{ℕ, _≤_}
+use native.Mathlib.Omega.{arith}
 use lib.Dec.{eqb}
 use lib.IntN.{ℤ}
 use Rattle.maxplus.specs.Tables.{NoGain}
@@ -11,6 +12,7 @@ use Rattle.maxplus.proofs.StarLaws.{no-gain?}
 use Rattle.cue.specs.Meaning.{Tightest}
 use Rattle.sheet.specs.Sheet.{Got, got, Sheet, read}
 use Rattle.sheet.specs.Sheet as spec
+use Rattle.reading.proofs.Refusals.{refusal-known}
 use Rattle.known.specs.Cue.{tables-of}
 use Rattle.tables.specs.Held.{Says}
 use Rattle.timing.specs.Times.{some-beyond}
@@ -75,6 +77,29 @@ tests-one (got t r) count X o p a b = go (not (eqb count (t .triggers))) (some-b
     go false true d a b = a ∙ sym b
     go false false (yes h) a b = exactly-one _ o p a b
     go false false (no h) a b = a ∙ sym b
+
+-- ---- a refusal's number is one of document 01's
+refused-same : {j k : ℕ} → _≡_ {A = TestOutcome} (refused k) (refused j) → k ≡ j
+refused-same e = cc
+
+pub known-number : (s : List ℕ) (count : ℕ) (X : ℕ → ℤ) (k : ℕ) → Testing s count X (refused k) → (1 ≤ k) × (k ≤ 11)
+unfolding Testing
+known-number s count X k a = go (read s) refl a
+  where
+    is : (j : ℕ) → 1 ≤ j → j ≤ 11 → refused k ≡ refused j → (1 ≤ k) × (k ≤ 11)
+    is j p q e = let h = refused-same e in (omega arith, omega arith)
+
+    by-tests : (t : Sheet) (x y : Bool) (d : Dec (NoGain (t .triggers) (t .after))) →
+        cond x (refused k ≡ refused 10) (cond y (refused k ≡ refused 11)
+        (elim d [ yes h ↦ Exactly (Tightest (t .triggers) (tables-of t) X) (refused k) | no h ↦ refused k ≡ refused 8 ])) → (1 ≤ k) × (k ≤ 11)
+    by-tests t true y d a = is 10 (omega arith) (omega arith) a
+    by-tests t false true d a = is 11 (omega arith) (omega arith) a
+    by-tests t false false (yes h) a = absurd a
+    by-tests t false false (no h) a = is 8 (omega arith) (omega arith) a
+
+    go : (g : Got Sheet) → read s ≡ g → Tests g count X (refused k) → (1 ≤ k) × (k ≤ 11)
+    go (spec.refused j) e a = let n = refusal-known s j e in is j (n .0) (let m = n .1 in omega arith) a
+    go (got t r) e a = by-tests t (not (eqb count (t .triggers))) (some-beyond (t .triggers) X) (no-gain? (t .triggers) (t .after)) a
 
 abbrev tested-as : TestOutcome → Tested
 tested-as (answer true) = Yes

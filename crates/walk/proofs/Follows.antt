@@ -1,6 +1,5 @@
 -- The walk over masks that follow a sheet's tables is document 01's walk: the same selections in the same order, and as many steps.
 use mathlib.Core.Path.{_≡_, refl, sym, ap, ap₂, _∙_}
-use mathlib.Core.Logic.{inl, inr}
 use mathlib.Core.Bool.{Bool, true, false, cond, _&&_}
 use mathlib.Core.List.{List, [], _∷_, _++_, append-assoc, append-nil, zip, zipWith}
 use Prim.Native.Nat.{ℕ, zero, suc, _+_, _<_, _≤_}
@@ -10,8 +9,7 @@ use lib.Dec.{T, eqb, ltb, eqb→eq}
 use lib.IntN.{ℤ}
 use lib.ListN.{length, getD, take, drop, drop-of-length-le}
 use lib.Seq.{drop-cons}
-use Rattle.maxplus.specs.Finite.{In, each, onlyIf, mapL, countIf}
-use Rattle.maxplus.proofs.FiniteLaws.{in-map}
+use Rattle.maxplus.specs.Finite.{each, onlyIf, mapL, countIf}
 use Rattle.maxplus.proofs.EachLaws.{each-same, map-each, map-length, map-twice}
 use Rattle.cue.specs.Meaning.{Tables}
 use Rattle.cue.specs.Method as M
@@ -24,7 +22,7 @@ use Rattle.walk.specs.declared.Stepped.{Stepped}
 use Rattle.walk.specs.declared.Outcome.the-variants.{Selection, End}
 use Rattle.masks.proofs.Bytes.{bit-cut}
 use Rattle.walk.proofs.Whole.{start-pending}
-use Rattle.walk.proofs.Stepping.{remaining, Walked, found-selection, end-selections, walked-in}
+use Rattle.walk.proofs.Stepping.{remaining, found-selection, end-selections}
 use Rattle.walk.proofs.EachLaws.{selections-each, fixings-each, sum-same, members-each}
 
 -- ---- document 01's walk as a list of events
@@ -170,20 +168,7 @@ module _ {masks : List ℕ} {gains : List (List ℕ)} {f : ℕ} {w : Walk} {r : 
   unfolding mapL
   ahead-end e = ap (mapL (zip panels)) (end-selections s e)
 
-in-zip : (xs ys : List ℕ) (l : ℕ) → l < length xs → l < length ys → In (getD xs l 0, getD ys l 0) (zip xs ys)
-unfolding zip zipWith
-in-zip [] ys l h k = let e : ⊥ = omega arith in absurd e
-in-zip (x ∷ xs) [] l h k = let e : ⊥ = omega arith in absurd e
-in-zip (x ∷ xs) (y ∷ ys) zero h k = inl refl
-in-zip (x ∷ xs) (y ∷ ys) (suc l) h k = inr (in-zip xs ys l (omega arith) (omega arith))
-
 module _ {n : ℕ} {P : Tables} {D : ℤ} {f : ℕ} {masks : List ℕ} {gains : List (List ℕ)} {panels : List ℕ}
     (F : Follows n P D f masks gains panels) where
   pub ahead-start : 0 < f → ahead masks gains f panels (startOf masks) ≡ M.selections n P D
   ahead-start h = rw (start-pending masks gains f h) (selections-follow F)
-
-  module _ {w : Walk} {seen : List (List ℕ)} (b : Walked masks gains f w seen) {r : Stepped} (s : Steps masks gains f w r)
-      (e : r .outcome ≡ Selection) where
-    -- what a step shows is one of document 01's selections
-    pub shown-in : In (shown f panels (r .next)) (M.selections n P D)
-    shown-in = rw (← selections-follow F) (in-map (zip panels) (selections (walkOf masks gains f)) (take f (r .next .picks)) (walked-in b s e))

@@ -1,12 +1,9 @@
 -- What a caller of `step` learns, and what holds all along a loop over the selections.
-use mathlib.Core.Path.{_≡_, refl, sym, ap, subst, _∙_}
+use mathlib.Core.Path.{_≡_, sym, ap, subst, _∙_}
 use mathlib.Core.List.{List, [], _∷_, _++_, append-assoc, append-nil}
-use mathlib.Core.Logic.{inl}
 use Prim.Native.Nat.{ℕ, _+_, _<_, _≤_}
 use native.Mathlib.Omega.{arith}
 use lib.ListN.{length, take, length-append}
-use Rattle.maxplus.specs.Finite.{In}
-use Rattle.maxplus.proofs.FiniteLaws.{in-right}
 use Rattle.masks.specs.Trace.{whole, walkOf, selections, fixings, Masks}
 use Rattle.walk.specs.State.{Ready, Steps, After, Ended, marks, pending, startOf}
 use Rattle.walk.specs.declared.Walk.{Walk}
@@ -89,10 +86,6 @@ module _ {kept : List ℕ} {gains : List (List ℕ)} {f : ℕ} {w : Walk} {seen 
     -- a loop over the selections ends
     pub walked-less : length (remaining kept gains f (r .next)) < length (remaining kept gains f w)
     walked-less = omega (arith, ap length (found-selection s e))
-
-    -- what was found is a selection of the walk
-    pub walked-in : In (take f (r .next .picks)) (selections (walkOf kept gains f))
-    walked-in = rw (b .rest, found-selection s e) (in-right seen _ (take f (r .next .picks)) (inl refl))
 
     pub walked-few : f ≤ 6 → length seen < 102642
     walked-few h = omega (

@@ -2,8 +2,7 @@
 // for trigger 1), and gains[l][j] a word in whose order d(i,j) − p(i) stands. A walk keeps the untried triggers of each open level and its
 // picks; a panel's mask is narrowed by the picks on the way down, so nothing is ever restored.
 ghost use mathlib.Core.Path.{_≡_};
-ghost use Prim.Native.Nat.{ℕ, _<_, _≤_};
-ghost use lib.ListN.{length, getD, take};
+ghost use Prim.Native.Nat.{_<_, _≤_};
 ghost use Rattle.walk.specs.State.{Ready, Steps, FixedReady, Descends, at, turned, startOf, countsOf};
 ghost use Rattle.masks.specs.Trace.{Masks};
 use masks::low;

@@ -1,6 +1,5 @@
 -- `gather::consider_bounds` meets its contract: the candidates of the first `k` bounds have been considered.
-use mathlib.Core.Path.{_≡_}
-use Prim.Native.Nat.{_-_, _≤_}
+use Prim.Native.Nat.{_-_}
 use native.Mathlib.Omega.{arith}
 use Rattle.gather.proofs.SpreadLaws.{Drawn-to, drawn-to-none, drawn-to-more, drawn-to-end}
 use Rattle.gather.proofs.consider_bounds.Statement.{statement}

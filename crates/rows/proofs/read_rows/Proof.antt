@@ -1,3 +1,4 @@
+-- `rows::read_rows` meets its contract. The loops' invariants: the lines passed are read, and of the line at hand the items passed. Assumes nothing.
 use Prim.Native.Nat.{ℕ, _+_, _-_}
 use mathlib.Core.Path.{_≡_, refl, sym, subst, _∙_}
 use mathlib.Core.Bool.{true}
@@ -16,11 +17,6 @@ use Rattle.rows.proofs.FaultLaws.{good-words}
 use Rattle.rows.proofs.RowsLaws.{ItemsRead, items-none, items-stop, items-step, items-done, items-count, RowsRead, rows-none, rows-stop, rows-step, rows-all, rows-done, line-key, line-items, line-checked, literal-yes, literal-no, verdict-bad, verdict-good, rows-refused, rows-got}
 use Rattle.rows.proofs.read_rows.Statement.{statement}
 use Rattle.rows.proofs.read_rows.Tie as tie
-use Rattle.rows.proofs.read_rows.Reads as reads
-use Rattle.rows.proofs.read_rows.Lts as lts
-use Rattle.rows.proofs.ended_item.Reads as ended-item-reads
-use Rattle.rows.proofs.first_fault.Reads as first-fault-reads
-use Rattle.rows.proofs.literal_at.Reads as literal-at-reads
 
 abbrev Inv-items : tie.InvT-items
 Inv-items s from key rule lines count rows at₀ refusal₀ i row₀ k₀ at refusal row k = ItemsRead s at₀ count row at k × (refusal ≡ 0)
