@@ -28,6 +28,7 @@ pub fn times(s: &[u8]) -> Components
     loop {
         match item_at(s, place, FAR_LIMIT) {
             Item::Entry(word, next) => {
+                // a lone minus is an item and no number
                 if word == 0 {
                     return no_times();
                 }
