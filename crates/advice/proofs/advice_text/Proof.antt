@@ -12,13 +12,13 @@ use Rattle.advice.proofs.advice_text.Tie as tie
 slice-aggregate-put-nth : tie.Need-slice-aggregate-put-nth
 slice-aggregate-put-nth c = search needs
 
-put-nth-requires : tie.Need-put-nth-requires
-unfolding sentences bytes
-put-nth-requires c κs = omega (arith, spoken-short (c .before .before .args .refusal))
-
 returns : tie.Need-returns
 unfolding sentences bytes
 returns c = subst (Writes _ _) (spoken _) (c .put-nth .ensures)
+
+put-nth-requires : tie.Need-put-nth-requires
+unfolding sentences bytes
+put-nth-requires c κs = omega (arith, spoken-short (c .before .before .args .refusal))
 
 pub advice-text-spec : {M : Type 1} → statement M
 advice-text-spec = tie.close (tie.spec slice-aggregate-put-nth put-nth-requires returns)
