@@ -1,15 +1,18 @@
 -- What a caller has made of a sheet's tables before it draws lines.
 use mathlib.Core.Path.{_≡_}
+use mathlib.Core.Bool.{_&&_}
 use mathlib.Core.List.{List}
 use Prim.Native.Nat.{ℕ, _*_, _≤_, _<_}
+use lib.Dec.{ltb}
 use lib.ListN.{length, getD}
 use Rattle.maxplus.specs.Entry.{num, _⊗_, inv}
 use Rattle.maxplus.specs.Tables.{star, NoGain}
 use Rattle.sheet.specs.Sheet.{limit}
 use Rattle.cue.specs.Meaning.{Tables, Readable}
-use Rattle.cue.specs.Method.{through, pull, least, floor-panels, ask}
+use Rattle.cue.specs.Method.{through, pull, least, floor-panels, kept, ask}
 use Rattle.cue.proofs.Bounds.{Limited}
 use Rattle.tables.specs.Held.{meant, Holds, HoldsV, Closely, CloselyV}
+use Rattle.steps.specs.Steps.{bit}
 use Rattle.candidates.specs.declared.Marks.{Marks}
 
 -- the tables of P, and the marks, as words: row l of needs has p(i) − Δ − d(i,j) for the l-th panel i with a floor
@@ -30,6 +33,8 @@ pub record Prepared (n : ℕ) (P : Tables) (M : Marks) (stars lags needs : List 
   pub asked : HoldsV (P .panels) (ask n P (least n P)) (M .asks)
   pub needed : (l j : ℕ) → l < M .levels → j < n →
       meant needs l j ≡ ask n P (least n P) (getD (floor-panels n P) l 0) ⊗ inv (through n P (getD (floor-panels n P) l 0) j)
+  -- the masks are the kept triggers of the panels with a floor
+  pub masks : (l j : ℕ) → l < M .levels → j < 6 → bit (getD (M .kept) l 0) j ≡ (ltb j n && kept n P (least n P) (getD (floor-panels n P) l 0) j)
 
 -- few enough of each, and words close enough to add up
 pub record Ready (M : Marks) (stars lags : List (List ℕ)) : Type 0 where

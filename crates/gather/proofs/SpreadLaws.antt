@@ -35,7 +35,6 @@ use Rattle.candidates.proofs.WordLaws.{blank, sized-none, sized-set}
 use Rattle.candidates.proofs.PreparedLaws.{needs-close, drawn-from}
 use Rattle.buffer.specs.Buffer.{room, row, held}
 use Rattle.bounds.specs.Bounds.{places, Under, Raised, Expanded}
-use Rattle.gather.specs.Given.{Given}
 use Rattle.gather.specs.Gathering.{first, Gathered, drawn, drawn-all, Met, Bound, Bounds, Below, Spread, Filled}
 use Rattle.buffer.proofs.HeldLaws.{held-row, stored-as}
 use Rattle.gather.proofs.GatherLaws.{gathered-as, all-none, all-snoc, all-append, in-drawn-all, drawn-all-in, first-all}
@@ -70,7 +69,7 @@ under-below : {n : ℕ} {a w : List ℕ} {b : Vec} → n ≤ 6 → Under a w →
 unfolding meantV
 under-below {a = a} {w} h u k j hj = entry-mono (getD a j 0) (getD w j 0) (u .at j (omega arith)) ▸ (unfold meantV in k j hj)
 
-module _ {M : Marks} {stars lags needs : List (List ℕ)} {P : Tables} (g : Given P M stars lags needs) where
+module _ {M : Marks} {stars lags needs : List (List ℕ)} {P : Tables} (g : Prepared (M .triggers) P M stars lags needs) where
   abbrev n : ℕ
   n = M .triggers
 
@@ -80,13 +79,13 @@ module _ {M : Marks} {stars lags needs : List (List ℕ)} {P : Tables} (g : Give
 
   -- ---- a level's mask is its panel's kept triggers, and its needs are what the panel asks of them
   mask-kept : (l j : ℕ) → l < M .levels → j < n → Has (getD (M .kept) l 0) j → T (kept n P (least n P) (panel l) j)
-  mask-kept l j hl hj t = and-r (ltb j n) _ (subst T (g .masks l j hl (omega (arith, g .prepared .few))) t)
+  mask-kept l j hl hj t = and-r (ltb j n) _ (subst T (g .masks l j hl (omega (arith, g .few))) t)
 
   kept-mask : (l j : ℕ) → l < M .levels → j < n → T (kept n P (least n P) (panel l) j) → Has (getD (M .kept) l 0) j
-  kept-mask l j hl hj t = subst T (sym (g .masks l j hl (omega (arith, g .prepared .few)))) (and-of (ltb j n) _ (lt→ltb j n hj) t)
+  kept-mask l j hl hj t = subst T (sym (g .masks l j hl (omega (arith, g .few)))) (and-of (ltb j n) _ (lt→ltb j n hj) t)
 
   panel-there : (l : ℕ) → l < M .levels → (panel l < P .panels) × Present (P .floor (panel l))
-  panel-there l h = floor-panels-in n P (panel l) (in-at 0 (floor-panels n P) l (omega (arith, g .prepared .levels)))
+  panel-there l h = floor-panels-in n P (panel l) (in-at 0 (floor-panels n P) l (omega (arith, g .levels)))
 
   -- ---- a raised bound is a bound of one level more
   raised-bound : {l j : ℕ} {w v : List ℕ} → l < M .levels → Bound M needs l w → j < n → Has (getD (M .kept) l 0) j →
@@ -97,7 +96,7 @@ module _ {M : Marks} {stars lags needs : List (List ℕ)} {P : Tables} (g : Give
     close = record {
       at = λ t ht. elim (ℕ-discrete t j) [
         | yes e ↦ rw (e, raised-word (b .sized .size) six x)
-            (close-larger (cell needs l j) (getD w j 0) (x .word) (unfold meantV in x .larger) (needs-close (g .prepared) .at l j hl hj) (b .close .at j hj))
+            (close-larger (cell needs l j) (getD w j 0) (x .word) (unfold meantV in x .larger) (needs-close g .at l j hl hj) (b .close .at j hj))
         | no d ↦ rw (raised-other (b .sized .size) six x t d) (b .close .at t ht)
       ];
     };
@@ -113,15 +112,15 @@ module _ {M : Marks} {stars lags needs : List (List ℕ)} {P : Tables} (g : Give
   }
     where
       six : j < 6
-      six = omega (arith, g .prepared .few)
+      six = omega (arith, g .few)
 
       asked : entry (cell needs l j) ⊗ entry (getD (M .pulls) j 0) ≼ unit
-      asked = ≼-of (ap₂ _⊗_ (unfold meant in g .prepared .needed l j hl hj) (unfold meantV in g .prepared .pulled .at j hj)) ▸
+      asked = ≼-of (ap₂ _⊗_ (unfold meant in g .needed l j hl hj) (unfold meantV in g .pulled .at j hj)) ▸
           kept-mark n P (least n P) (panel l) j (mask-kept l j hl hj m)
 
   -- ---- where bounds of all levels cover what serves, their lines cover the cone
   level-of : (i : ℕ) → i < P .panels → Present (P .floor i) → (l : ℕ) × (l < M .levels) × (panel l ≡ i)
-  level-of i hi p = let (l, hl, e) = in-place 0 (floor-panels n P) i (in-floor-panels n P i hi p) in (l, omega (arith, g .prepared .levels), e)
+  level-of i hi p = let (l, hl, e) = in-place 0 (floor-panels n P) i (in-floor-panels n P i hi p) in (l, omega (arith, g .levels), e)
 
   met-served : {b : Vec} → ((l : ℕ) → l < M .levels → Met M needs l b) → Served n P (least n P) b
   met-served {b} f i hi p =
@@ -130,16 +129,16 @@ module _ {M : Marks} {stars lags needs : List (List ℕ)} {P : Tables} (g : Give
         j,
         hj,
         subst (λ i. T (kept n P (least n P) i j)) e (mask-kept l j hl hj m),
-        subst (λ i. ask n P (least n P) i ⊗ inv (through n P i j) ≼ b j) e (≼-back (g .prepared .needed l j hl hj) ▸ y),
+        subst (λ i. ask n P (least n P) i ⊗ inv (through n P i j) ≼ b j) e (≼-back (g .needed l j hl hj) ▸ y),
       )
 
   served-met : {b : Vec} → Served n P (least n P) b → (l : ℕ) → l < M .levels → Met M needs l b
   served-met f l hl = let (hi, p) = panel-there l hl in let (j, hj, k, y) = f (panel l) hi p in
-      (j, hj, kept-mask l j hl hj k, ≼-of (g .prepared .needed l j hl hj) ▸ y)
+      (j, hj, kept-mask l j hl hj k, ≼-of (g .needed l j hl hj) ▸ y)
 
   bound-serving : {w : List ℕ} → Bound M needs (M .levels) w → Serving n P (least n P) (meantV w)
   bound-serving {w} b = record {
-    marked = λ t ht. ≼-of (ap (λ a. meantV w t ⊗ a) (sym (g .prepared .pulled .at t ht))) ▸ b .marked t ht;
+    marked = λ t ht. ≼-of (ap (λ a. meantV w t ⊗ a) (sym (g .pulled .at t ht))) ▸ b .marked t ht;
     served = met-served (b .met);
   }
 
@@ -148,14 +147,14 @@ module _ {M : Marks} {stars lags needs : List (List ℕ)} {P : Tables} (g : Give
       Covering n P (drawn-all n (meant stars) (meantV (M .pulls)) W)
   bounds-cover W f h = record {
     sound = λ c i. let (w, t, ht, k, e) = drawn-all-in n (meant stars) (meantV (M .pulls)) W c i in
-        let q : c ≡ line-from n P (meantV w) t = e ∙ drawn-from (g .prepared) w t ht in (
-          subst (λ c. Cone n P (least n P) (at n c)) (sym q) (line-from-cone n P (least n P) (meantV w) (bound-serving (f w k)) (g .prepared .order) t),
+        let q : c ≡ line-from n P (meantV w) t = e ∙ drawn-from g w t ht in (
+          subst (λ c. Cone n P (least n P) (at n c)) (sym q) (line-from-cone n P (least n P) (meantV w) (bound-serving (f w k)) (g .order) t),
           subst (λ c. Normal n c) (sym q) (line-from-normal n P (meantV w) t ht),
         );
     full = λ b s. let (w, i, k) = h b (served-met s) in (
       meantV w,
       k,
-      λ t ht. subst (λ c. In c (drawn-all n (meant stars) (meantV (M .pulls)) W)) (drawn-from (g .prepared) w t ht)
+      λ t ht. subst (λ c. In c (drawn-all n (meant stars) (meantV (M .pulls)) W)) (drawn-from g w t ht)
           (in-drawn-all n (meant stars) (meantV (M .pulls)) W w t ht i),
     );
   }
@@ -224,7 +223,7 @@ module _ {M : Marks} {stars lags needs : List (List ℕ)} {last : List ℕ} {s :
   }
 
   -- the bounds up to a place with one panel more, and then the others
-  pub spread-more : {to found held r : ℕ} {next mid after : List (List ℕ)} {P : Tables} → Given P M stars lags needs → level < M .levels →
+  pub spread-more : {to found held r : ℕ} {next mid after : List (List ℕ)} {P : Tables} → Prepared (M .triggers) P M stars lags needs → level < M .levels →
       many ≤ places → to ≤ many → Bounds M needs level s many →
       Expanded s from to (getD (M .kept) level 0) (getD needs level []) (M .triggers) next found →
       Spread M stars lags needs last next 0 found (level + 1) len buf held mid →
@@ -247,7 +246,7 @@ module _ {M : Marks} {stars lags needs : List (List ℕ)} {last : List ℕ} {s :
       early v m k h i d =
           let (j, hj, q, y) = m level (omega arith) hl in
           let (u, e, o) = x .new k j h i hj q in
-          let n6 : M .triggers ≤ 6 = g .prepared .few in
+          let n6 : M .triggers ≤ 6 = g .few in
           let z : length (row s k) ≡ 6 = b k (omega arith) .sized .size in
           a .covers v (λ l hl. m l (omega arith)) (o .place) (omega arith) (o .there)
           (under-below n6 (o .under) (raised-below z (omega arith) e d (unfold meant meantV in y)))
@@ -274,11 +273,11 @@ none-gathered n P last buf h = record { stored = record { few = omega arith; siz
 
 module _ {M : Marks} {stars lags needs : List (List ℕ)} {last : List ℕ} where
   pub spread-filled : {buf : List (List ℕ)} {r : ℕ} {after : List (List ℕ)} → length buf ≡ room →
-      Spread M stars lags needs last none 0 1 0 0 buf r after → (P : Tables) → Given P M stars lags needs → Filled (M .triggers) P last r after
+      Spread M stars lags needs last none 0 1 0 0 buf r after → (P : Tables) → Prepared (M .triggers) P M stars lags needs → Filled (M .triggers) P last r after
   unfolding meantV
   spread-filled {buf} z s P g = record {
-    stored = stored-as (s .gathered P [] (g .prepared) (none-gathered (M .triggers) P last buf z) .stored)
-        (first-all (g .prepared .order) _ (bounds-cover g (s .used) (s .bounds) cover) (line-of (M .triggers) last));
+    stored = stored-as (s .gathered P [] g (none-gathered (M .triggers) P last buf z) .stored)
+        (first-all (g .order) _ (bounds-cover g (s .used) (s .bounds) cover) (line-of (M .triggers) last));
   }
     where
       cover : (b : Vec) → ((l : ℕ) → l < M .levels → Met M needs l b) → (w : List ℕ) × In w (s .used) × Below (M .triggers) w b

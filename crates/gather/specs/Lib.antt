@@ -1,3 +1,2 @@
--- What is given, and what is gathered.
-pub mod Given
+-- What is gathered.
 pub mod Gathering

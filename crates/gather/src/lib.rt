@@ -11,7 +11,6 @@ ghost use Rattle.candidates.specs.Lines.{Sized, line-of};
 ghost use Rattle.candidates.specs.Prepared.{Prepared};
 ghost use Rattle.buffer.specs.Buffer.{room, row};
 ghost use Rattle.bounds.specs.Bounds.{places};
-ghost use Rattle.gather.specs.Given.{Given};
 ghost use Rattle.gather.specs.Gathering.{Gathered, drawn, drawn-all, Bounds, Spread, Filled};
 use bounds::expand;
 use buffer::fresh;
@@ -144,7 +143,7 @@ fn spread(
     needs: &[[u64; 6]; 6],
 ) -> usize
     requires { ⌜ ((P : Tables) × (C : List (maxplus.Line (marks .triggers)))
-        × Given P marks (now star) (now lag) (now needs) × Gathered (marks .triggers) P last C len (now buf))
+        × Prepared (marks .triggers) P marks (now star) (now lag) (now needs) × Gathered (marks .triggers) P last C len (now buf))
         × Sized (marks .triggers) last × (many ≤ places) × (length (now set) ≡ places) × (level ≤ marks .levels)
         × Bounds marks (now needs) level (now set) many ⌝ }
     ensures { λ r. ⌜ Spread marks (now (star .entry)) (now (lag .entry)) (now (needs .entry)) last (now (set .entry)) from many level
@@ -206,8 +205,8 @@ pub fn gather(
     lag: &[[u64; 6]; 6],
     needs: &[[u64; 6]; 6],
 ) -> usize
-    requires { ⌜ ((P : Tables) × Given P marks (now star) (now lag) (now needs)) × Sized (marks .triggers) last × (length (now buf) ≡ room) ⌝ }
-    ensures { λ r. ⌜ ((P : Tables) → Given P marks (now (star .entry)) (now (lag .entry)) (now (needs .entry)) →
+    requires { ⌜ ((P : Tables) × Prepared (marks .triggers) P marks (now star) (now lag) (now needs)) × Sized (marks .triggers) last × (length (now buf) ≡ room) ⌝ }
+    ensures { λ r. ⌜ ((P : Tables) → Prepared (marks .triggers) P marks (now (star .entry)) (now (lag .entry)) (now (needs .entry)) →
         Filled (marks .triggers) P last r (now (buf .exit))) ⌝ }
 {
     let set = [[0u64; 6]; 64];

@@ -1,5 +1,5 @@
 -- What the kept table's answer says: its bytes and counts are those of document 01's panels, 0 past the last.
-use mathlib.Core.Path.{_≡_, ap, sym, subst, _∙_}
+use mathlib.Core.Path.{_≡_, ap, sym, _∙_}
 use mathlib.Core.List.{List, [], _∷_}
 use Prim.Native.Nat.{ℕ, _≤_, _<_}
 use native.Mathlib.Omega.{arith}
@@ -11,25 +11,20 @@ use Rattle.maxplus.specs.Finite.{each}
 use Rattle.maxplus.proofs.EachLaws.{length-each, each-at, each-same}
 use lib.IntN.{ℤ}
 use Rattle.cue.specs.Meaning.{Tables}
-use Rattle.cue.specs.Method.{least, floor-panels, kept-byte, kept-count, steps, selections}
-use Rattle.maxplus.specs.Tables.{NoGain}
-use Rattle.sheet.specs.Sheet.{got, read}
+use Rattle.cue.specs.Method.{least, kept-byte, kept-count, steps, selections}
+use Rattle.sheet.specs.Sheet.{Got, got}
 use Rattle.sheet.specs.Sheet as spec
-use Rattle.reading.specs.declared.Sheet.{Sheet}
 use Rattle.known.specs.Cue.{tables-of}
-use Rattle.known.proofs.Results.{kept-ones}
+use Rattle.marks.proofs.Results.{kept-ones}
 use Rattle.tables.proofs.Loops.{Filled}
 use Rattle.walk.specs.State.{countsOf}
-use Rattle.walk.specs.Follows.{Follows}
 use Rattle.walk.specs.declared.Counts.{Counts}
 use Rattle.walk.proofs.Follows.{counts-follow}
-use Rattle.marks.specs.Marked.{Fit, MarkedAs}
+use Rattle.marks.specs.Marked.{MarkedAs}
 use Rattle.marks.specs.declared.Marked.{Marked}
-use Rattle.keeping.specs.Keeping.{KeptOutcome, kept, refused, kept-of, keeping, six, six-counts, kept-answer}
-use Rattle.orderly.specs.Inner.{Orderly}
+use Rattle.keeping.specs.Keeping.{kept-of, keeping, six, six-counts, kept-answer}
+use Rattle.orderly.specs.Orderly.{orderly}
 use Rattle.keeping.specs.declared.KeptTable.{KeptTable}
-use Rattle.orderly.proofs.OrderlyLaws.{orderly-refused, orderly-8, orderly-got}
-use Rattle.orderly.proofs.Preparing.{panels-of, triggers-of}
 
 -- the byte and the number of panel i
 abbrev pub Pair : Type 0
@@ -85,47 +80,31 @@ same-table : {D E : ℤ} {p q : ℕ} {b c x y : List ℕ} {k l i j : ℕ} → D 
     (record { refusal = 0; deviation = E; panels = q; kept = c; counts = y; steps = l; selections = j })
 same-table d p b x k i = cc
 
-pub walked-answer : (s : spec.Sheet) (t : Sheet) (after : List (List ℕ)) → Orderly s t after → (stars throughs : List (List ℕ)) →
-    Fit (tables-of s) t stars throughs → (r : Marked) → MarkedAs (tables-of s) t r → (gains : List (List ℕ)) →
-    Follows (t .triggers) (tables-of s) (least (t .triggers) (tables-of s)) (r .marks .levels) (r .marks .kept) gains
-    (floor-panels (t .triggers) (tables-of s)) → (D : ℤ) → D ≡ least (t .triggers) (tables-of s) → (ns : List ℕ) → ns ≡ six-counts (r .kept) →
-    (k : Counts) → k ≡ countsOf (r .marks .kept) gains (r .marks .levels) →
+pub walked-answer : (s : spec.Sheet) (x : List ℕ) {lags stars gains needs : List (List ℕ)} {r : Marked} →
+    MarkedAs (s .triggers) (tables-of s) lags stars gains needs r → (D : ℤ) → D ≡ least (s .triggers) (tables-of s) →
+    (ns : List ℕ) → ns ≡ six-counts (r .kept) → (k : Counts) → k ≡ countsOf (r .marks .kept) gains (r .marks .levels) →
     _≡_ {A = KeptTable}
-    (record { refusal = 0; deviation = D; panels = t .panels; kept = r .kept; counts = ns; steps = k .steps; selections = k .selections })
-    (kept-answer (kept-of (got s [])))
-walked-answer s t after O stars throughs F r M gains W D d ns e k f =
-    subst (λ n. _≡_ {A = KeptTable}
-    (record { refusal = 0; deviation = D; panels = t .panels; kept = r .kept; counts = ns; steps = k .steps; selections = k .selections })
-    (kept-answer (outcome n))) (triggers-of s t after (O .worded))
-    (same-table d (panels-of s t after (O .worded) ∙ sym (length-each (s .panels) (pair (kept-byte n P (least n P)) (kept-count n P (least n P)))))
-    (bytes-answer (s .panels) _ _ (r .kept) (O .worded .good .panels-few) (M .size) (M .bytes) (M .past) (kept-ones n P (least n P)))
-    (e ∙ counts-answer (s .panels) _ _ (r .kept) (O .worded .good .panels-few) (M .size) (M .bytes) (M .past) (kept-ones n P (least n P)))
-    (ap (λ c. c .steps) counted) (ap (λ c. c .selections) counted))
+    (record { refusal = 0; deviation = D; panels = r .marks .panels; kept = r .kept; counts = ns; steps = k .steps; selections = k .selections })
+    (kept-answer (kept-of (got s x)))
+walked-answer s x {r} M D d ns e k f =
+    same-table d (M .prepared .panels ∙ sym (length-each (s .panels) (pair (kept-byte n P (least n P)) (kept-count n P (least n P)))))
+    (bytes-answer (s .panels) _ _ (r .kept) few (M .size) (M .bytes) (M .past) (kept-ones n P (least n P)))
+    (e ∙ counts-answer (s .panels) _ _ (r .kept) few (M .size) (M .bytes) (M .past) (kept-ones n P (least n P)))
+    (ap (λ c. c .steps) counted) (ap (λ c. c .selections) counted)
   where
     n : ℕ
-    n = t .triggers
+    n = s .triggers
 
     P : Tables
     P = tables-of s
 
-    outcome : ℕ → KeptOutcome
-    outcome n = kept (least n P) (each (s .panels) (λ i. pair (kept-byte n P (least n P)) (kept-count n P (least n P)) i ∷ [])) (steps n P (least n P))
-        (length (selections n P (least n P)))
+    few : s .panels ≤ 6
+    few = M .prepared .few-panels
 
     counted : _≡_ {A = Counts} k (record { steps = steps n P (least n P); selections = length (selections n P (least n P)) })
-    counted = f ∙ counts-follow W
+    counted = f ∙ counts-follow (M .follows)
 
 -- ---- the outcomes
-module _ (s : List ℕ) where
-  pub keeping-refused : (k : ℕ) → read s ≡ spec.refused k → keeping s ≡ refused k
-  unfolding keeping
-  keeping-refused k e = ap kept-of (orderly-refused s k e)
-
-  module _ (t : spec.Sheet) (r : List ℕ) (e : read s ≡ got t r) where
-    pub keeping-8 : ¬ (NoGain (t .triggers) (t .after)) → keeping s ≡ refused 8
-    unfolding keeping
-    keeping-8 f = ap kept-of (orderly-8 s t r e f)
-
-    pub keeping-kept : NoGain (t .triggers) (t .after) → kept-of (got t []) ≡ keeping s
-    unfolding keeping
-    keeping-kept np = sym (ap kept-of (orderly-got s t r e np))
+pub keeping-of : (s : List ℕ) {g : Got spec.Sheet} → orderly s ≡ g → kept-of g ≡ keeping s
+unfolding keeping
+keeping-of s e = sym (ap kept-of e)

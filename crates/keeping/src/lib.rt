@@ -1,11 +1,7 @@
 // Kept table and walk: the least deviation, each panel's kept triggers, steps and selections.
 ghost use mathlib.Core.Path.{_≡_};
-ghost use mathlib.Core.List.{[]};
-ghost use Rattle.sheet.specs.Sheet as spec;
 ghost use Rattle.keeping.specs.Keeping as outcome;
-ghost use Rattle.keeping.specs.Keeping.{kept-of, keeping, kept-answer, six-counts};
-ghost use Rattle.orderly.specs.Inner.{Orderly};
-use reading::Sheet;
+ghost use Rattle.keeping.specs.Keeping.{keeping, kept-answer, six-counts};
 
 // Document 01's refusal, 1 to 8, and nothing else; or 0, Δ, for each panel the byte of its kept triggers and their number (0 and 0 without a
 // floor and past the last panel), the walk's fixings and its selections.
@@ -23,37 +19,20 @@ pub struct KeptTable {
 pub fn kept_table(bytes: &[u8]) -> KeptTable
     ensures { λ r. ⌜ r ≡ kept-answer (keeping (now (bytes .entry))) ⌝ }
 {
-    let reading = reading::read_sheet(bytes);
-    if reading.refusal != 0 {
-        return no_table(reading.refusal);
+    let blank = [0u64; 6];
+    let mut lag = [blank; 6];
+    let mut star = [blank; 6];
+    let mut gains = [blank; 6];
+    let mut needs = [blank; 6];
+    let ready = orderly::prepare(bytes, &mut lag, &mut star, &mut gains, &mut needs);
+    if ready.refusal != 0 {
+        return no_table(ready.refusal);
     }
-    let t = reading.sheet;
-    let rows = t.after;
-    let after = tables::table(rows);
-    if !order::order_kept(&after, t.triggers) {
-        return no_table(8);
-    }
-    walked(t, &after)
-}
-
-// The answer for a sheet whose order can be kept.
-fn walked(t: Sheet, after: &[[u64; 6]; 6]) -> KeptTable
-    requires { ⌜ ((s : spec.Sheet) × Orderly s t (now after)) ⌝ }
-    ensures { λ r. ⌜ ((s : spec.Sheet) → Orderly s t (now (after .entry)) → r ≡ kept-answer (kept-of (spec.got s []))) ⌝ }
-{
-    let n = t.triggers;
-    let m = t.panels;
-    let rows = t.lag;
-    let lag = tables::table(rows);
-    let star = order::star(after, n);
-    let through = tables::product(&lag, &star, m, n);
-    let marked = marks::marks_of(t, &star, &through);
-    let floor = t.floor;
-    let at = marked.at;
+    let marked = ready.marked;
     let marks = marked.marks;
-    let masks = marks.kept;
     let f = marks.levels;
-    let gains = levels::gains(&through, floor, at, f, n);
+    let m = marks.panels;
+    let masks = marks.kept;
     let counts = walk::count(f, &masks, &gains);
     let kept = marked.kept;
     KeptTable {

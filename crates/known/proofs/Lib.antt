@@ -1,3 +1,2 @@
--- What is known of a sheet that was read, and what the words of each step hold.
+-- What is known of a sheet that was read.
 pub mod Good
-pub mod Results

@@ -30,7 +30,6 @@ use Rattle.candidates.specs.Prepared.{Prepared}
 use Rattle.candidates.specs.declared.Marks.{Marks}
 use Rattle.candidates.proofs.WordLaws.{blank, sized-none, line-at}
 use Rattle.buffer.specs.Buffer.{room, row, held}
-use Rattle.gather.specs.Given.{Given}
 use Rattle.gather.specs.Gathering.{rest, Filled}
 use Rattle.buffer.proofs.ListLaws.{in-take}
 use Rattle.buffer.proofs.HeldLaws.{stored-length, row-line}
@@ -107,8 +106,8 @@ module _ {n len : ℕ} {P : Tables} {last : List ℕ} {buf : List (List ℕ)} (f
       after = sym (above-after (ltL n) (strict n) (line-of n last) b (lines n P) (take 127 left) (drop room left)
           (split-at left 127 (line-of n last) (omega (arith, filled-few)))) ∙ ap (rest n P) e
 
-pub lines-few : {P : Tables} {M : Marks} {stars lags needs : List (List ℕ)} → Given P M stars lags needs → length (lines (M .triggers) P) ≤ most
-lines-few {P} {M} g = few.lines-few (M .triggers) P (g .prepared .few) (g .prepared .few-panels)
+pub lines-few : {P : Tables} {M : Marks} {stars lags needs : List (List ℕ)} → Prepared (M .triggers) P M stars lags needs → length (lines (M .triggers) P) ≤ most
+lines-few {P} {M} g = few.lines-few (M .triggers) P (g .few) (g .few-panels)
 
 -- ---- the words of lines that are held fit
 pub held-close : {n len : ℕ} {P : Tables} {M : Marks} {stars lags needs buf : List (List ℕ)} {last : List ℕ} → Prepared n P M stars lags needs →

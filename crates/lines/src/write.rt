@@ -12,7 +12,7 @@ ghost use Rattle.sheet.specs.Sheet.{limit};
 ghost use Rattle.tables.specs.Held.{CloselyV};
 ghost use Rattle.candidates.specs.Lines.{Sized, line-of};
 ghost use Rattle.buffer.specs.Buffer.{room, held};
-ghost use Rattle.gather.specs.Given.{Given};
+ghost use Rattle.candidates.specs.Prepared.{Prepared};
 ghost use Rattle.buffer.specs.Space.{laid};
 use buffer::ROOM;
 use candidates::Marks;
@@ -69,9 +69,9 @@ pub fn write_lines(
     lag: &[[u64; 6]; 6],
     needs: &[[u64; 6]; 6],
 )
-    requires { ⌜ ((P : Tables) × Given P marks (now star) (now lag) (now needs)
+    requires { ⌜ ((P : Tables) × Prepared (marks .triggers) P marks (now star) (now lag) (now needs)
         × (7 * length (lines (marks .triggers) P) ≤ length (now out))) ⌝ }
-    ensures { λ r. ⌜ ((P : Tables) → Given P marks (now (star .entry)) (now (lag .entry)) (now (needs .entry)) →
+    ensures { λ r. ⌜ ((P : Tables) → Prepared (marks .triggers) P marks (now (star .entry)) (now (lag .entry)) (now (needs .entry)) →
         7 * length (lines (marks .triggers) P) ≤ length (now (out .entry)) →
         now (out .exit) ≡ laid (now (out .entry)) 0 (list-words (marks .triggers) (lines (marks .triggers) P))) ⌝ }
 {

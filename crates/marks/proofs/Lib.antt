@@ -1,2 +1,4 @@
--- Laws of a sheet's marks: what the walk follows and what the lines are drawn from.
+-- Laws of a sheet's tables, marks and levels: what the walk follows and what the lines are drawn from.
+pub mod Results
+pub mod LevelLaws
 pub mod Laws

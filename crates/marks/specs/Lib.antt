@@ -1,2 +1,3 @@
 -- What is known of a sheet's marks and levels.
+pub mod Levels
 pub mod Marked

@@ -1,18 +1,18 @@
-// Step 1: the star of the after table, and whether timings that keep the order exist.
+// Step 1: whether timings that keep the order exist, and the star of the after table.
 ghost use Prim.Native.Nat.{ℕ, _≤_, _<_};
 ghost use Rattle.maxplus.specs.Entry.{_≼_, unit};
-ghost use Rattle.maxplus.specs.Tables as maxplus;
-ghost use Rattle.maxplus.specs.Tables.{NoGain};
 ghost use Rattle.sheet.specs.Sheet.{limit};
-ghost use Rattle.tables.specs.Held.{meant, Holds, Closely, Says};
+ghost use Rattle.tables.specs.Held.{meant, Closely, Says};
+ghost use Rattle.order.specs.Closed.{Closed};
 use tables::identity;
 use tables::joined;
 use tables::product;
 
-// "M* is the sum of the powers 0 to n − 1 of the after table"
-pub fn star(after: &[[u64; 6]; 6], n: usize) -> [[u64; 6]; 6]
+// "Timings that keep the order exist exactly when no diagonal entry of powers 1 to n is above 0." Then the lent table is M*, "the sum of the
+// powers 0 to n − 1 of the after table".
+pub fn closed(after: &[[u64; 6]; 6], star: &mut [[u64; 6]; 6], n: usize) -> bool
     requires { ⌜ (n ≤ 6) × Closely n n limit (now after) ⌝ }
-    ensures { λ r. ⌜ Holds n n (maxplus.star n (meant (now (after .entry)))) r ⌝ }
+    ensures { λ r. ⌜ Closed n (meant (now (after .entry))) (now (star .exit)) r ⌝ }
 {
     let blank = [0u64; 6];
     let mut sum = [blank; 6];
@@ -21,25 +21,12 @@ pub fn star(after: &[[u64; 6]; 6], n: usize) -> [[u64; 6]; 6]
     while k < n {
         sum = joined(&power, &sum, n);
         power = product(after, &power, n, n);
-        k += 1;
-    }
-    sum
-}
-
-// "Timings that keep the order exist exactly when no diagonal entry of powers 1 to n is above 0."
-pub fn order_kept(after: &[[u64; 6]; 6], n: usize) -> bool
-    requires { ⌜ (n ≤ 6) × Closely n n limit (now after) ⌝ }
-    ensures { λ r. ⌜ Says (NoGain n (meant (now (after .entry)))) r ⌝ }
-{
-    let mut power = identity();
-    let mut done: usize = 0;
-    while done < n {
-        power = product(after, &power, n, n);
         if !diagonal_low(&power, n) {
             return false;
         }
-        done += 1;
+        k += 1;
     }
+    *star = sum;
     true
 }
 

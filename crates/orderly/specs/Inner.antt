@@ -1,23 +1,31 @@
--- What the inner functions of the operations are handed. Nothing public is stated here.
+-- What the operations are handed: a sheet's tables, and all that planning and the kept table are made from. Nothing public is stated here.
 use mathlib.Core.Path.{_≡_}
+use mathlib.Core.Bool.{Bool}
 use mathlib.Core.List.{List, []}
-use Prim.Native.Nat.{ℕ, _<_}
-use Rattle.sheet.specs.Sheet.{got}
-use lib.ListN.{getD}
-use Rattle.maxplus.specs.Tables.{NoGain}
-use Rattle.rows.specs.Grid.{grid}
-use Rattle.reading.specs.declared.Sheet.{Sheet}
-use Rattle.known.proofs.Good.{Good}
+use Prim.Native.Nat.{ℕ}
+use Rattle.sheet.specs.Sheet.{Got, got, refused}
 use Rattle.sheet.specs.Sheet as spec
-use Rattle.reading.specs.Reading as reading
+use Rattle.maxplus.specs.Tables.{NoGain}
+use Rattle.tables.specs.Held.{Says}
+use Rattle.reading.specs.Reading.{answer}
+use Rattle.reading.specs.declared.Sheet.{Sheet}
+use Rattle.known.specs.Cue.{tables-of}
+use Rattle.known.proofs.Good.{Good}
+use Rattle.marks.specs.Marked.{Fit, MarkedAs}
+use Rattle.orderly.specs.declared.Ready.{Ready}
 
--- the words of a good sheet s, and its after table
-pub record Worded (s : spec.Sheet) (t : Sheet) (after : List (List ℕ)) : Type 0 where
-  pub words : t ≡ reading.answer (got s []) .sheet
+-- the words of a good sheet s
+pub record Worded (s : spec.Sheet) (t : Sheet) : Type 0 where
+  pub words : t ≡ answer (got s []) .sheet
   pub good : Good s
-  pub table : (i : ℕ) → i < 6 → getD after i [] ≡ getD (grid (s .after)) i (record { at = [] }) .at
 
--- and its order can be kept
-pub record Orderly (s : spec.Sheet) (t : Sheet) (after : List (List ℕ)) : Type 0 where
-  pub worded : Worded s t after
-  pub order : NoGain (s .triggers) (s .after)
+-- whether its order can be kept, and then its tables
+pub record Tabled (s : spec.Sheet) (t : Sheet) (afters lags stars throughs : List (List ℕ)) (r : Bool) : Type 0 where
+  pub order : Says (NoGain (s .triggers) (s .after)) r
+  pub fit : NoGain (s .triggers) (s .after) → Fit (tables-of s) t afters lags stars throughs
+
+-- what reading and the order check came to: a refusal, or a sheet s with all that is made from it
+pub record Readied (g : Got spec.Sheet) (lags stars gains needs : List (List ℕ)) (r : Ready) : Type 0 where
+  pub refusal : ¬ (r .refusal ≡ 0) → g ≡ refused (r .refusal)
+  pub ready : r .refusal ≡ 0 → (s : spec.Sheet) × (x : List ℕ) × (g ≡ got s x) ×
+      MarkedAs (s .triggers) (tables-of s) lags stars gains needs (r .marked)

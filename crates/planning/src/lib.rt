@@ -1,15 +1,8 @@
 // Planning: the least deviation, and the list at the front of the lent space.
 ghost use mathlib.Core.Path.{_≡_};
-ghost use mathlib.Core.List.{[]};
-ghost use Prim.Native.Nat.{_/_};
-ghost use lib.ListN.{length};
-ghost use Rattle.sheet.specs.Sheet as spec;
 ghost use Rattle.planning.specs.Planning as outcome;
-ghost use Rattle.planning.specs.Planning.{plan-of, planning, space-after, plan-answer};
-ghost use Rattle.orderly.specs.Inner.{Orderly};
-ghost use Rattle.planning.specs.Inner.{Does};
+ghost use Rattle.planning.specs.Planning.{planning, space-after, plan-answer};
 use lines::Listed;
-use reading::Sheet;
 
 // Document 01's refusal, 1 to 8, and nothing else; 9 and the count needed; or 0, the sheet's number of triggers, Δ, the walk's fixings, its
 // selections and the number of lines.
@@ -27,40 +20,20 @@ pub fn plan(bytes: &[u8], space: &mut [i32]) -> CuePlan
     ensures answer { λ r. ⌜ r ≡ plan-answer (planning (now (bytes .entry)) (now (space .entry))) ⌝ }
     ensures written { λ r. ⌜ now (space .exit) ≡ space-after (planning (now (bytes .entry)) (now (space .entry))) (now (space .entry)) ⌝ }
 {
-    let reading = reading::read_sheet(bytes);
-    if reading.refusal != 0 {
-        return no_plan(reading.refusal);
+    let blank = [0u64; 6];
+    let mut lag = [blank; 6];
+    let mut star = [blank; 6];
+    let mut gains = [blank; 6];
+    let mut needs = [blank; 6];
+    let ready = orderly::prepare(bytes, &mut lag, &mut star, &mut gains, &mut needs);
+    if ready.refusal != 0 {
+        return no_plan(ready.refusal);
     }
-    let t = reading.sheet;
-    let rows = t.after;
-    let after = tables::table(rows);
-    if !order::order_kept(&after, t.triggers) {
-        return no_plan(8);
-    }
-    listed(t, &after, space)
-}
-
-// The plan of a sheet whose order can be kept.
-fn listed(t: Sheet, after: &[[u64; 6]; 6], space: &mut [i32]) -> CuePlan
-    requires { ⌜ ((s : spec.Sheet) × Orderly s t (now after)) ⌝ }
-    ensures { λ r. ⌜ ((s : spec.Sheet) → Orderly s t (now (after .entry)) →
-        Does (plan-of (length (now (space .entry)) / 7) (spec.got s [])) (now (space .entry)) (now (space .exit)) r) ⌝ }
-{
-    let n = t.triggers;
-    let m = t.panels;
-    let rows = t.lag;
-    let lag = tables::table(rows);
-    let star = order::star(after, n);
-    let through = tables::product(&lag, &star, m, n);
-    let marked = marks::marks_of(t, &star, &through);
-    let floor = t.floor;
-    let at = marked.at;
+    let marked = ready.marked;
     let marks = marked.marks;
-    let asks = marks.asks;
-    let masks = marks.kept;
+    let n = marks.triggers;
     let f = marks.levels;
-    let gains = levels::gains(&through, floor, at, f, n);
-    let needs = marks::needs(&through, asks, at, f, n);
+    let masks = marks.kept;
     let counts = tally::tally(f, &masks, &gains);
     let deviation = words::number(marked.least);
     match lines::list(space, marks, &star, &lag, &needs) {

@@ -1,2 +1,3 @@
 -- Laws of testing a timing.
 pub mod TestLaws
+pub mod SheetLaws

@@ -1,13 +1,11 @@
 // Testing a timing: whether it is tightest.
 ghost use mathlib.Core.Path.{_≡_};
 ghost use mathlib.Core.Bool.{false};
-ghost use Rattle.cue.specs.Meaning.{Tightest};
-ghost use Rattle.sheet.specs.Sheet as spec;
-ghost use Rattle.known.specs.Cue.{tables-of};
+ghost use Rattle.cue.specs.Meaning.{Tables, Tightest};
 ghost use Rattle.tables.specs.Held.{Says};
 ghost use Rattle.timing.specs.Times.{component, some-beyond};
 ghost use Rattle.testing.specs.Testing.{Testing, test-answer};
-ghost use Rattle.orderly.specs.Inner.{Orderly};
+ghost use Rattle.marks.specs.Marked.{Fit};
 use reading::Sheet;
 use timing::Timing;
 
@@ -33,31 +31,38 @@ pub fn test_timing(bytes: &[u8], timing: Timing) -> Tested
     if timing::limit::beyond(timing, t.triggers) {
         return Tested::Refused(11);
     }
-    let rows = t.after;
-    let after = tables::table(rows);
-    if !order::order_kept(&after, t.triggers) {
+    let blank = [0u64; 6];
+    let mut after = [blank; 6];
+    let mut lag = [blank; 6];
+    let mut star = [blank; 6];
+    let mut through = [blank; 6];
+    if !orderly::ordered_tables(t, &mut after, &mut lag, &mut star, &mut through) {
         return Tested::Refused(8);
     }
-    if reaches(t, &after, timing) {
+    if reaches(t, &after, &lag, &star, &through, timing) {
         return Tested::Yes;
     }
     Tested::No
 }
 
 // Whether it is, on a sheet whose order can be kept and with no component beyond the limit.
-fn reaches(t: Sheet, after: &[[u64; 6]; 6], timing: Timing) -> bool
-    requires { ⌜ ((s : spec.Sheet) × Orderly s t (now after)) × (some-beyond (t .triggers) (component (timing .at)) ≡ false) ⌝ }
-    ensures { λ r. ⌜ ((s : spec.Sheet) → Orderly s t (now (after .entry)) → Says (Tightest (s .triggers) (tables-of s) (component (timing .at))) r) ⌝ }
+fn reaches(
+    t: Sheet,
+    after: &[[u64; 6]; 6],
+    lag: &[[u64; 6]; 6],
+    star: &[[u64; 6]; 6],
+    through: &[[u64; 6]; 6],
+    timing: Timing,
+) -> bool
+    requires { ⌜ ((P : Tables) × Fit P t (now after) (now lag) (now star) (now through)) × (some-beyond (t .triggers) (component (timing .at)) ≡ false) ⌝ }
+    ensures { λ r. ⌜ ((P : Tables) → Fit P t (now (after .entry)) (now (lag .entry)) (now (star .entry)) (now (through .entry)) →
+        Says (Tightest (t .triggers) P (component (timing .at))) r) ⌝ }
 {
     let n = t.triggers;
     let m = t.panels;
-    let rows = t.lag;
     let floor = t.floor;
     let due = t.due;
-    let lag = tables::table(rows);
-    let star = order::star(after, n);
-    let through = tables::product(&lag, &star, m, n);
-    let pulls = steps::pulls(&star, due, n);
-    let least = steps::least(&through, pulls, floor, m, n);
-    measuring::tested(after, &lag, floor, due, least, timing, m, n)
+    let pulls = steps::pulls(star, due, n);
+    let least = steps::least(through, pulls, floor, m, n);
+    measuring::tested(after, lag, floor, due, least, timing, m, n)
 }

@@ -44,11 +44,11 @@ lower : {t : ℕ} (c : spread-lts.After-part-end (claims t) (spread-at t) spread
 lower c = omega (arith, c .before .before .if1 .left, c .before .before .before .before .pre .1 .4)
 
 inside : {t : ℕ} (c : spread-lts.After-part-end (claims t) (spread-at t) spread.Post) → c .before .before .before .before .args .level < 6
-inside c = omega (arith, lower c, levels-few (c .before .before .before .before .pre .1 .0 .2 .prepared))
+inside c = omega (arith, lower c, levels-few (c .before .before .before .before .pre .1 .0 .2))
 
 consider-bounds-requires : (t : ℕ) → spread-lts.Need-consider-bounds-requires (claims t) (spread-at t) spread.Post
 consider-bounds-requires t c κs = let s = c .before .before .before in let (q, z, f, l, h, b) = s .pre .1 in let (P, C, g, i) = q in
-    ((P, s .args .needs .now, C, g .prepared, i), z, f, l, λ k hk. b k hk .close)
+    ((P, s .args .needs .now, C, g, i), z, f, l, λ k hk. b k hk .close)
 
 returns : (t : ℕ) → spread-lts.Need-returns (claims t) (spread-at t) spread.Post
 returns t c = let (q, z, f, l, h, b) = c .before .before .before .before .pre .1 in
@@ -71,7 +71,7 @@ element-copy-out-expand t c = inside (c .before .before)
 
 expand-requires : (t : ℕ) → spread-lts.Need-expand-requires (claims t) (spread-at t) spread.Post
 expand-requires t c κs = let e = c .before .before .before in let (q, z, f, l, h, b) = e .before .before .before .before .pre .1 in
-    let (x, y, w) = e .part-end .ensures in (q .2 .prepared .few, omega (arith, x), w, omega (arith, y, f), refl)
+    let (x, y, w) = e .part-end .ensures in (q .2 .few, omega (arith, x), w, omega (arith, y, f), refl)
 
 add-spread : (t : ℕ) → spread-lts.Need-add-spread (claims t) (spread-at t) spread.Post
 add-spread t c = omega (arith, inside (c .before .before .before .before .before .before))
@@ -89,7 +89,7 @@ spread-requires-2 t c κs =
     let e = c .before .before .before .before .before .before .before .before in
     let s = e .before .before .before .before in let (m, (q, z, f, l, h, b)) = s .pre in let (P, C, g, i) = q in
     let (a, d, w) = e .part-end .ensures in
-    (omega (arith, m, a, d), ((P, _, g, c .before .spread .ensures .gathered P C (g .prepared) i), z, f, l, h, b))
+    (omega (arith, m, a, d), ((P, _, g, c .before .spread .ensures .gathered P C g i), z, f, l, h, b))
 
 returns-3 : (t : ℕ) → spread-lts.Need-returns-3 (claims t) (spread-at t) spread.Post
 returns-3 t c =

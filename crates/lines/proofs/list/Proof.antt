@@ -17,7 +17,7 @@ returns c P g = let e = whole-count (c .before .before .gather .ensures) (c .bef
 
 write-held-requires : tie.Need-write-held-requires
 write-held-requires c κs = let r = c .before .before .before .before in let (P, g) = r .before .before .pre in
-    let h = r .gather .ensures P g in (g .prepared .few, h .stored .few, h .stored .size, omega arith, held-close (g .prepared) h)
+    let h = r .gather .ensures P g in (g .few, h .stored .few, h .stored .size, omega arith, held-close g h)
 
 same-length : tie.Need-same-length
 same-length c = search needs

@@ -1,33 +1,61 @@
 -- `marks::marks_of` meets its contract: each step gives what the next asks. Assumes nothing.
-use borrow.Author.Needs.{needs}
-use Rattle.marks.proofs.Laws.{six-panels, floors-near, pulls-ask, pulls-near, least-ask, least-near, marked-as}
+use Rattle.marks.proofs.Laws.{six-panels, floors-near, pulls-ask, pulls-near, least-ask, least-near, asks-ask, levels-few, levels-near, marked-as}
 use Rattle.marks.proofs.marks_of.Statement.{statement}
 use Rattle.marks.proofs.marks_of.Tie as tie
 
 pulls-requires : tie.Need-pulls-requires
-pulls-requires c κs = pulls-ask _ _ _ _ (c .before .before .pre .1)
+pulls-requires c κs =
+    let s : tie.Start = search in
+    let (P, A, L, F) = s .pre in pulls-ask F
 
 least-requires : tie.Need-least-requires
-least-requires c κs = least-ask _ _ _ _ (c .before .before .before .pre .1) _ (c .pulls .ensures)
+least-requires c κs =
+    let u : tie.After-pulls = search in
+    let s : tie.Start = search in
+    let (P, A, L, F) = s .pre in least-ask F (u .pulls .ensures)
 
 kept-requires : tie.Need-kept-requires
 kept-requires c κs =
-    let F = c .before .before .before .before .pre .1 in
-    let u = c .before .pulls .ensures in
-    (six-panels _ _ _ _ F, F .held .few, pulls-near _ _ _ _ F _ u, floors-near _ _ _ _ F, least-near _ _ _ _ F _ u _ (c .least .ensures))
+    let e : tie.After-least = search in
+    let u : tie.After-pulls = search in
+    let s : tie.Start = search in
+    let (P, A, L, F) = s .pre in
+    (six-panels F, F .held .few, pulls-near F (u .pulls .ensures), floors-near F, least-near F (u .pulls .ensures) _ (e .least .ensures))
 
 pack-requires : tie.Need-pack-requires
-pack-requires c κs = search needs
+pack-requires c κs =
+    let s : tie.Start = search in
+    let (P, A, L, F) = s .pre in six-panels F
 
-asks-requires : tie.Need-asks-requires
-asks-requires c κs =
-    let F = c .before .before .before .before .before .before .before .before .pre .1 in
-    (six-panels _ _ _ _ F, floors-near _ _ _ _ F, least-near _ _ _ _ F _ (c .before .before .before .before .before .pulls .ensures) _ (c .before .before .before .before .least .ensures))
+less-requires : tie.Need-less-requires
+less-requires c κs =
+    let e : tie.After-least = search in
+    let u : tie.After-pulls = search in
+    let s : tie.Start = search in
+    let (P, A, L, F) = s .pre in asks-ask F (u .pulls .ensures) _ (e .least .ensures)
+
+compared-requires : tie.Need-compared-requires
+compared-requires c κs =
+    let a : tie.After-less = search in
+    let k : tie.After-pack = search in
+    let b : tie.After-kept = search in
+    let e : tie.After-least = search in
+    let u : tie.After-pulls = search in
+    let s : tie.Start = search in
+    let (P, A, L, F) = s .pre in (
+      levels-few F (u .pulls .ensures) _ (e .least .ensures) (b .kept .ensures) (k .pack .ensures),
+      F .held .few,
+      levels-near F (u .pulls .ensures) _ (e .least .ensures) (b .kept .ensures) (k .pack .ensures) (a .less .ensures),
+    )
 
 returns : tie.Need-returns
-returns c = λ P F.
-    marked-as P _ _ _ F _ (c .before .before .before .before .before .before .pulls .ensures) _ (c .before .before .before .before .before .least .ensures) _ (c .before .before .before .before .kept .ensures) _ (c .before .before .before .pack .ensures)
-    _ (c .asks .ensures)
+returns c =
+    let a : tie.After-less = search in
+    let k : tie.After-pack = search in
+    let b : tie.After-kept = search in
+    let e : tie.After-least = search in
+    let u : tie.After-pulls = search in
+    λ P A L F. marked-as F (u .pulls .ensures) _ (e .least .ensures) (b .kept .ensures) (k .pack .ensures) (a .less .ensures) (c .compared .ensures)
 
 pub marks-of-spec : {M : Type 1} → statement M
-marks-of-spec = tie.close (tie.spec pulls-requires least-requires kept-requires pack-requires asks-requires returns)
+marks-of-spec = tie.close (tie.spec pulls-requires least-requires kept-requires pack-requires less-requires compared-requires returns)

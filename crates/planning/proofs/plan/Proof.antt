@@ -1,81 +1,117 @@
--- `planning::plan` meets its contract. Assumes nothing.
-use mathlib.Core.Path.{_≡_, ap, sym, _∙_}
+-- `planning::plan` meets its contract: the list is drawn from the sheet's tables. Assumes nothing.
+use mathlib.Core.Path.{_≡_, sym, subst, _∙_}
 use mathlib.Core.List.{List}
 use Prim.Native.Nat.{ℕ}
 use borrow.Author.Needs.{needs}
+use mir.Syntax.{w64}
+use mir.Val.{toZ, ofZ}
+use mir.Facts.{toZ-ofZ}
+use Rattle.maxplus.proofs.EntryLaws.{num-inj}
 use Rattle.sheet.specs.Sheet as spec
-use Rattle.sheet.specs.Sheet.{got, read}
-use Rattle.tables.proofs.Loops.{says-yes, says-no}
-use Rattle.planning.specs.Planning.{plan-answer}
-use Rattle.orderly.specs.Inner.{Worded}
-use Rattle.orderly.proofs.Preparing.{reading-refused, reading-good, worded, six-triggers, after-near, order-means}
-use Rattle.planning.proofs.PlanLaws.{planning-refused, planning-8, planning-listed, refusal-leaves, does-same}
+use Rattle.known.specs.Cue.{tables-of}
+use Rattle.marks.specs.Marked.{MarkedAs}
+use Rattle.walk.proofs.Follows.{counts-follow}
+use Rattle.lines.specs.Listing.{Answers}
+use Rattle.orderly.specs.Orderly.{orderly}
+use Rattle.planning.proofs.PlanLaws.{does-refused, does-lines, does-full}
 use Rattle.planning.proofs.plan.Statement.{statement}
 use Rattle.planning.proofs.plan.Tie as tie
 
--- the sheet that was read
-found : (c : tie.After-table) →
-    (t : spec.Sheet) × (r : List ℕ) × (read (c .before .before .before .before .before .before .before .args .bytes .now) ≡ got t r) × Worded t (c .before .before .before .before .before .read-sheet .result .sheet) (c .table .result)
-found c =
-    let k = c .before .before .before .before .before in
-    let (t, r, e, w) = reading-good _ _ (k .read-sheet .ensures) (c .before .before .before .if1 .left) in
-    (t, r, e, worded _ _ (k .read-sheet .ensures) t r e w _ (c .table .ensures))
+abbrev at-prepare : tie.Else1 → tie.After-prepare
+at-prepare c = c .before .before
 
-read-sheet-requires : tie.Need-read-sheet-requires
-read-sheet-requires c κs = search needs
+abbrev start : tie.After-prepare → tie.Start
+start c = c .before .before .before .before .before .before
+
+-- the sheet, and all that is made from it
+abbrev Made : tie.After-prepare → spec.Sheet → Type 0
+Made c s =
+    let l = c .prepare .last .1 in
+    MarkedAs (s .triggers) (tables-of s) (l .0) (l .1 .0) (l .1 .1 .0) (l .1 .1 .1 .0) (c .prepare .result .marked)
+
+made : (c : tie.Else1) → let p = at-prepare c in (s : spec.Sheet) × (x : List ℕ) × (orderly (start p .args .bytes .now) ≡ spec.got s x) × Made p s
+made c = at-prepare c .prepare .ensures .ready (c .if1 .left)
+
+prepare-requires : tie.Need-prepare-requires
+prepare-requires c κs = search needs
 
 no-plan-requires : tie.Need-no-plan-requires
 no-plan-requires c κs = search needs
 
 returns : tie.Need-returns
 returns c =
-    let e = planning-refused _ (c .before .before .before .before .before .args .space .now) _ (reading-refused _ _ (c .before .before .before .read-sheet .ensures) (c .before .if1 .taken)) in
-    (c .no-plan .ensures ∙ ap plan-answer (sym e), refusal-leaves _ _ _ e)
+    let p : tie.After-prepare = search in
+    let d = does-refused _ _ _ (p .prepare .ensures .refusal (c .before .if1 .taken)) (c .no-plan .ensures) in
+    (d .answer, d .written)
 
-table-requires : tie.Need-table-requires
-table-requires c κs = search needs
+tally-requires : tie.Need-tally-requires
+tally-requires c κs =
+    let k : tie.Else1 = search in
+    let (s, x, e, M) = made k in
+    (M .few-levels, M .follows .small, M .masks-size)
 
-order-kept-requires : tie.Need-order-kept-requires
-order-kept-requires c κs = let (t, r, e, w) = found (c .before) in (six-triggers t _ _ w, after-near t _ _ w)
+number-requires : tie.Need-number-requires
+number-requires c κs =
+    let k : tie.Else1 = search in
+    let (s, x, e, M) = made k in M .word
 
-no-plan-requires-2 : tie.Need-no-plan-requires-2
-no-plan-requires-2 c κs = search needs
+list-requires : tie.Need-list-requires
+list-requires c κs =
+    let k : tie.Else1 = search in
+    let (s, x, e, M) = made k in (tables-of s, M .prepared)
 
-returns-2 : tie.Need-returns-2
-returns-2 c =
-    let o = c .before .before .order-kept in
-    let (t, r, e, w) = found (c .before .before .before .before) in
-    let q = planning-8 _ (c .before .before .before .before .before .before .before .before .before .before .before .args .space .now) t r e (says-no (o .result) (c .before .if2 .taken) (order-means t _ _ w (o .result) (o .ensures))) in
-    (c .no-plan2 .ensures ∙ ap plan-answer (sym q), refusal-leaves _ _ _ q)
+enum-known-k : tie.Need-enum-known-k
+enum-known-k c = search needs
 
-listed-requires : tie.Need-listed-requires
-listed-requires c κs =
-    let o = c .before .before .before .order-kept in
-    let (t, r, e, w) = found (c .before .before .before .before .before) in
-    (t, record { worded = w; order = says-yes (o .result) (c .before .before .if2 .left) (order-means t _ _ w (o .result) (o .ensures)) })
+no-room-requires : tie.Need-no-room-requires
+no-room-requires c κs = search needs
+
+enum-known-k-2 : tie.Need-enum-known-k-2
+enum-known-k-2 c = search needs
 
 same-length : tie.Need-same-length
 same-length c = search needs
 
+returns-2 : tie.Need-returns-2
+returns-2 c =
+    let l : tie.After-list = search in
+    let t : tie.After-tally = search in
+    let k : tie.Else1 = search in
+    let (s, x, q, M) = made k in
+    let (n, e) = c .before .before .k .given in
+    let d = does-full _ _ s x q _ _ (M .triggers-are) _ (c .no-room .ensures) (subst (Answers _ _ _ _) e (l .list .ensures (tables-of s) (M .prepared))) in
+    (d .answer, d .written)
+
+same-length-2 : tie.Need-same-length-2
+same-length-2 c = search needs
+
 returns-3 : tie.Need-returns-3
 returns-3 c =
-    let o = c .before .before .before .before .before .order-kept in
-    let (t, r, e, w) = found (c .before .before .before .before .before .before .before) in
-    let np = says-yes (o .result) (c .before .before .before .before .if2 .left) (order-means t _ _ w (o .result) (o .ensures)) in
-    let d = does-same (planning-listed _ (c .before .before .before .before .before .before .before .before .before .before .before .before .before .before .args .space .now) t r e np) (c .before .listed .ensures t (record { worded = w; order = np })) in
+    let l : tie.After-list = search in
+    let v : tie.After-number = search in
+    let t : tie.After-tally = search in
+    let k : tie.Else1 = search in
+    let (s, x, q, M) = made k in
+    let (n, e) = c .before .k2 .given in
+    let z : toZ w64 (ofZ w64 (v .number .result)) ≡ v .number .result = toZ-ofZ (record { sfits = v .number .ok }) in
+    let d = does-lines _ _ s x q _ _ (M .triggers-are) _ _ _ (z ∙ num-inj (sym (v .number .ensures) ∙ M .deviation))
+    (t .tally .ensures ∙ counts-follow (M .follows)) (subst (Answers _ _ _ _) e (l .list .ensures (tables-of s) (M .prepared))) in
     (d .answer, d .written)
 
 pub plan-spec : {M : Type 1} → statement M
 plan-spec =
     tie.close
     (tie.spec
-    read-sheet-requires
+    prepare-requires
     no-plan-requires
     returns
-    table-requires
-    order-kept-requires
-    no-plan-requires-2
-    returns-2
-    listed-requires
+    tally-requires
+    number-requires
+    list-requires
+    enum-known-k
+    no-room-requires
+    enum-known-k-2
     same-length
+    returns-2
+    same-length-2
     returns-3)

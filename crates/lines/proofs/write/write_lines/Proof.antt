@@ -31,7 +31,7 @@ write-held-requires : tie.Need-write-held-requires Inv-loop μ-loop
 write-held-requires c κs =
     let (P, g, h) = c .before .before .before .before .before .pre in let r = c .before .before .gather .ensures P g in
     let e = c .before .before .before .before .loop .inv .1 .size in
-    (g .prepared .few, r .stored .few, r .stored .size, omega (arith, e, room-left (c .before .before)), held-close (g .prepared) r)
+    (g .few, r .stored .few, r .stored .size, omega (arith, e, room-left (c .before .before)), held-close g r)
 
 same-length : tie.Need-same-length Inv-loop μ-loop
 same-length c = c .before .before .write-held .kept .0 ∙ c .before .before .before .before .before .before .before .loop .inv .1 .size

@@ -12,9 +12,9 @@ use Rattle.maxplus.specs.Finite.{each, mapL}
 use Rattle.maxplus.specs.Tables.{Vec}
 use Rattle.maxplus.proofs.EachLaws.{map-append}
 use Rattle.words.specs.Words.{entry}
-use Rattle.tables.specs.Held.{meant, meantV}
+use Rattle.tables.specs.Held.{meant, meantV, HoldsV}
 use Rattle.steps.specs.Steps.{floored}
-use Rattle.levels.specs.Levels.{PackedAs}
+use Rattle.marks.specs.Levels.{PackedAs}
 use Rattle.tables.proofs.Loops.{blank-word}
 
 module _ (kept : List ℕ) (p : Vec) where
@@ -74,6 +74,13 @@ module _ (kept : List ℕ) (p : Vec) where
     past = k .past;
   })
 
-pub gain-of : (t : List (List ℕ)) (w : List ℕ) (i k j r : ℕ) → i ≡ k → entry r ≡ meant t i j ⊗ inv (meantV w i) →
-    entry r ≡ meant t k j ⊗ inv (meantV w k)
-gain-of t w i k j r e h = rw (← e) h
+-- a level's rows, by the panel's number as it was read
+pub gained-at : (t : List (List ℕ)) (w : List ℕ) {i k n : ℕ} {r : List ℕ} → i ≡ k → HoldsV n (λ j. meantV (getD t i []) j ⊗ inv (entry (getD w i 0))) r →
+    HoldsV n (λ j. meant t k j ⊗ inv (meantV w k)) r
+unfolding meant meantV
+gained-at t w e h = rw (← e) h
+
+pub needed-at : (t : List (List ℕ)) (w : List ℕ) {i k n : ℕ} {r : List ℕ} → i ≡ k → HoldsV n (λ j. entry (getD w i 0) ⊗ inv (meantV (getD t i []) j)) r →
+    HoldsV n (λ j. meantV w k ⊗ inv (meant t k j)) r
+unfolding meant meantV
+needed-at t w e h = rw (← e) h

@@ -1,12 +1,12 @@
--- `levels::pack` meets its contract. The panels passed are packed. Assumes nothing.
+-- `marks::levels::pack` meets its contract. The panels passed are packed. Assumes nothing.
 use mathlib.Core.Path.{refl, sym, _∙_}
 use mathlib.Core.Logic.{⊎-elim}
 use Prim.Native.Nat.{_≤_, _-_}
 use native.Mathlib.Omega.{arith}
 use Rattle.tables.specs.Held.{meantV}
-use Rattle.levels.proofs.LevelLaws.{Packing, packing-none, packing-more, packing-less, packing-all}
-use Rattle.levels.proofs.pack.Statement.{statement}
-use Rattle.levels.proofs.pack.Tie as tie
+use Rattle.marks.proofs.LevelLaws.{Packing, packing-none, packing-more, packing-less, packing-all}
+use Rattle.marks.proofs.levels.pack.Statement.{statement}
+use Rattle.marks.proofs.levels.pack.Tie as tie
 
 abbrev Inv-loop : tie.InvT-loop
 Inv-loop m kept floor bytes₀ at₀ f₀ i₀ bytes at f i = (i ≤ m) × Packing kept (meantV floor) bytes at f i

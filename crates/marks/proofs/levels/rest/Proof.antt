@@ -1,20 +1,19 @@
--- `marks::asks` meets its contract. The places passed are written. Assumes nothing.
+-- `marks::levels::rest` meets its contract. The places passed are written. Assumes nothing.
 use mathlib.Core.Path.{_≡_}
 use Prim.Native.Nat.{_≤_, _-_}
 use native.Mathlib.Omega.{arith}
 use Rattle.maxplus.specs.Entry.{_⊗_, inv}
 use Rattle.words.specs.Words.{entry}
-use Rattle.words.proofs.Laws.{close-more}
 use Rattle.tables.specs.Held.{meantV}
 use Rattle.tables.proofs.Loops.{Filled, filled-none, filled-more}
-use Rattle.marks.proofs.asks.Statement.{statement}
-use Rattle.marks.proofs.asks.Tie as tie
+use Rattle.marks.proofs.levels.rest.Statement.{statement}
+use Rattle.marks.proofs.levels.rest.Tie as tie
 
 abbrev Inv-loop : tie.InvT-loop
-Inv-loop least m floor r₀ i₀ r i = (i ≤ m) × Filled (λ i v. entry v ≡ meantV floor i ⊗ inv (entry least)) 0 r i
+Inv-loop x n row r₀ j₀ r j = (j ≤ n) × Filled (λ j v. entry v ≡ entry x ⊗ inv (meantV row j)) 0 r j
 
 abbrev μ-loop : tie.MeasureT-loop
-μ-loop least m floor r₀ i₀ r i = m - i
+μ-loop x n row r₀ j₀ r j = n - j
 
 loop-holds : tie.Need-loop-holds Inv-loop μ-loop
 loop-holds c = (omega arith, filled-none _ 0 0)
@@ -26,9 +25,7 @@ array-read-minus : tie.Need-array-read-minus Inv-loop μ-loop
 array-read-minus c = omega arith
 
 minus-requires : tie.Need-minus-requires Inv-loop μ-loop
-minus-requires c κs =
-    let s = c .before .before in
-    (close-more (omega arith) (s .pre .1 .at _ (omega arith)), close-more (omega arith) (s .pre .2))
+minus-requires c κs = let p = c .before .before .pre in (p .2, p .1 .at _ (omega arith))
 
 mul-r : tie.Need-mul-r Inv-loop μ-loop
 mul-r c = omega arith
@@ -36,8 +33,8 @@ mul-r c = omega arith
 array-write-r : tie.Need-array-write-r Inv-loop μ-loop
 array-write-r c = omega arith
 
-add-i : tie.Need-add-i Inv-loop μ-loop
-add-i c = omega arith
+add-j : tie.Need-add-j Inv-loop μ-loop
+add-j c = omega arith
 
 loop-less : tie.Need-loop-less Inv-loop μ-loop
 loop-less c = omega arith
@@ -50,8 +47,8 @@ returns : tie.Need-returns Inv-loop μ-loop
 unfolding meantV
 returns c = record { at = λ j h. c .before .loop .inv .1 .done j (omega arith) }
 
-pub asks-spec : {M : Type 1} → statement M
-asks-spec =
+pub rest-spec : {M : Type 1} → statement M
+rest-spec =
     tie.close
     (tie.spec
     Inv-loop
@@ -62,7 +59,7 @@ asks-spec =
     minus-requires
     mul-r
     array-write-r
-    add-i
+    add-j
     loop-less
     loop-again
     returns)

@@ -9,14 +9,13 @@ use native.Mathlib.Nat.{le-refl}
 use lib.Count.{ones}
 use lib.Dec.{ltb}
 use lib.IntN.{ℤ}
-use lib.ListN.{length, getD, take}
-use lib.Seq.{getD-take}
+use lib.ListN.{getD}
 use borrow.Author.Tests.{lt-ltb}
 use Rattle.maxplus.specs.Entry.{E, absent, num, _⊗_, inv, Present, present?}
 use Rattle.maxplus.specs.Finite.{In, onlyIf}
 use Rattle.maxplus.specs.Tables.{Vec, Mat, sup, mv, mm, power, star, NoGain}
 use Rattle.maxplus.proofs.EntryLaws.{_▸_, ≼-of, ≼-back, inv-num, present?-yes}
-use Rattle.maxplus.proofs.FiniteLaws.{each-in, in-at}
+use Rattle.maxplus.proofs.FiniteLaws.{each-in}
 use Rattle.maxplus.proofs.EachLaws.{each-same}
 use Rattle.maxplus.proofs.SupLaws.{sup-ext}
 use Rattle.words.specs.Words.{word, entry, Close}
@@ -27,26 +26,15 @@ use Rattle.rows.proofs.PlaceLaws.{strip-at, grid-at}
 use Rattle.cue.specs.Meaning.{Tables, timing, overdue, shortfall, Readable}
 use Rattle.cue.specs.Method.{through, pullE, pull, mark, leastE, least, floor-panels, kept, kept-byte, kept-count}
 use Rattle.cue.proofs.Deviation.{pull-is, mv-through, mark-keeps, mark-shortfall}
-use Rattle.cue.proofs.Bounds.{Within, Limited, star-within, through-within, pull-within, least-within}
-use Rattle.levels.specs.declared.Packed.{Packed}
+use Rattle.cue.proofs.Bounds.{Within, star-within, through-within, pull-within, least-within}
 use Rattle.tables.specs.Held.{meant, meantV, Holds, HoldsV, Closely, CloselyV, Says}
 use Rattle.steps.specs.Steps.{pull-of, landing-of, least-of, reaches, kept-of, byte-of, bit, KeptBytes, floored}
-use Rattle.levels.specs.Levels.{PackedAs, LevelsClose}
 use Rattle.known.specs.Cue.{tables-of}
 use Rattle.tables.proofs.SquareLaws.{close-within, closely-within, closely-withinV}
 use Rattle.order.proofs.OrderLaws.{mm-held}
 use Rattle.steps.proofs.ByteLaws.{byte-ext, byte-small, byte-ones, byte-bit}
 use Rattle.known.proofs.Good.{Good}
-
--- the arrays hold the tables P of a sheet with n triggers
-pub record HeldBy (n : ℕ) (P : Tables) (lag after : List (List ℕ)) (floor due : List ℕ) : Type 0 where
-  pub lags : Holds (P .panels) n (P .lag) lag
-  pub floors : HoldsV (P .panels) (P .floor) floor
-  pub dues : HoldsV n (λ j. num (P .due j)) due
-  pub afters : Holds n n (P .after) after
-  pub limited : Limited n limit P
-  pub few : n ≤ 6
-  pub few-panels : P .panels ≤ 6
+use Rattle.marks.specs.Marked.{HeldBy}
 
 -- ---- the arrays of a sheet that was read
 word-held : (e : E) → Within limit limit e → entry (word e) ≡ e
@@ -108,7 +96,7 @@ module _ (n : ℕ) (P : Tables) (D : ℤ) (i : ℕ) where
   unfolding kept-byte kept-count
   kept-ones = unfold byte-of in byte-ones n (kept n P D i)
 
-module _ (n : ℕ) (P : Tables) (lag after : List (List ℕ)) (floor due : List ℕ) (H : HeldBy n P lag after floor due) where
+module _ {n : ℕ} {P : Tables} {lag after : List (List ℕ)} {floor due : List ℕ} (H : HeldBy n P lag after floor due) where
   -- what each function asks of the sheet's words
   pub lags-close : Closely (P .panels) n limit lag
   lags-close = closely-within (le-refl _) (le-refl _) (H .lags) (H .limited .lags)
@@ -169,7 +157,7 @@ module _ (n : ℕ) (P : Tables) (lag after : List (List ℕ)) (floor due : List 
       go : (k : ℕ) → k < P .panels → (b : Bool) → present? (P .floor k) ≡ b → In i (onlyIf b (k ∷ [])) → (i < P .panels) × Present (P .floor i)
       go k hk true e (inl q) = rw q (hk, present?-yes (P .floor k) (rw e tt))
 
-  module _ (d : List (List ℕ)) (u : List ℕ) (hd : Holds (P .panels) n (through n P) d) (hu : HoldsV n (λ j. num (pull n P j)) u) where
+  module _ {d : List (List ℕ)} {u : List ℕ} (hd : Holds (P .panels) n (through n P) d) (hu : HoldsV n (λ j. num (pull n P j)) u) where
     -- ---- step 3
     landing-is : (i : ℕ) → i < P .panels → landing-of n (meant d) (meantV u) i ≡ mv n (through n P) (timing (mark n P)) i
     unfolding landing-of mv
@@ -201,24 +189,3 @@ module _ (n : ℕ) (P : Tables) (lag after : List (List ℕ)) (floor due : List 
       pub kept-held : (i : ℕ) → i < P .panels → getD r i 0 ≡ kept-byte n P D i
       unfolding kept-byte
       kept-held i hi = hr .at i hi ∙ unfold byte-of in byte-ext n _ _ (λ j hj. kept-is i j hi hj)
-
-      -- ---- the panels with a floor, packed
-      module _ (k : Packed) (hk : PackedAs r (floored (P .panels) (meantV floor)) k) where
-        pub packed-many : length (floor-panels n P) ≡ k .panels
-        packed-many = ap length (sym floored-is) ∙ sym (hk .many)
-
-        pub packed-panels : take (k .panels) (k .at) ≡ floor-panels n P
-        packed-panels = hk .panels-are ∙ floored-is
-
-        pub packed-at : (l : ℕ) → l < k .panels → getD (k .at) l 0 ≡ getD (floor-panels n P) l 0
-        packed-at l h = sym (getD-take (k .panels) (k .at) l 0 h) ∙ ap (λ a. getD a l 0) packed-panels
-
-        pub level-panel : (l : ℕ) → l < k .panels → (getD (k .at) l 0 < P .panels) × Present (P .floor (getD (k .at) l 0))
-        level-panel l h = rw (packed-at l h) (level-floored _ (in-at 0 (floor-panels n P) l (let q = packed-many in omega arith)))
-
-        pub levels-close : LevelsClose (k .panels) n d floor (k .at)
-        levels-close = record {
-          panel = λ l h. let q = level-panel l h .0 in let s = H .few-panels in omega arith;
-          through-close = λ l j h hj. through-close hd .at (getD (k .at) l 0) j (level-panel l h .0) hj;
-          floor-close = λ l h. floors-close .at (getD (k .at) l 0) (level-panel l h .0);
-        }

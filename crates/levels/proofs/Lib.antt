@@ -1,2 +1,0 @@
--- Laws of packing and of gains.
-pub mod LevelLaws

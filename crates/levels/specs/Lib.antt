@@ -1,2 +1,0 @@
--- What is asked and promised of the levels.
-pub mod Levels

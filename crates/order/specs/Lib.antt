@@ -1,0 +1,2 @@
+-- What step 1 promises.
+pub mod Closed
