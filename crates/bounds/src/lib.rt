@@ -2,7 +2,7 @@
 ghost use mathlib.Core.Path.{_≡_};
 ghost use Prim.Native.Nat.{_+_, _≤_, _<_};
 ghost use lib.ListN.{length};
-ghost use Rattle.steps.specs.Steps.{bit};
+ghost use Rattle.thresholds.specs.Steps.{bit};
 ghost use Rattle.tables.specs.Held.{Says};
 ghost use Rattle.bounds.specs.Bounds.{places, Under, Covered, Thinned, Joined, Branched, Expanded};
 

@@ -17,7 +17,7 @@ use Rattle.maxplus.proofs.FiniteLaws.{in-app, in-at}
 use Rattle.maxplus.proofs.EachLaws.{map-append, map-length, map-at}
 use Rattle.maxplus.proofs.LineLaws.{strict}
 use Rattle.maxplus.proofs.SortedLaws.{gt?}
-use Rattle.generators.proofs.MinimalLaws.{Increasing}
+use Rattle.cue.proofs.MinimalLaws.{Increasing}
 use Rattle.cue.specs.Written.{line-words, list-words}
 use Rattle.cue.proofs.WrittenLaws.{list-words-length, line-words-length}
 use Rattle.candidates.specs.Lines.{line-of, Sized}

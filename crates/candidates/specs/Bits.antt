@@ -2,7 +2,7 @@
 use mathlib.Core.Logic.{_↔_}
 use Prim.Native.Nat.{ℕ, _<_}
 use lib.Dec.{T}
-use Rattle.steps.specs.Steps.{bit}
+use Rattle.thresholds.specs.Steps.{bit}
 
 abbrev pub Has : ℕ → ℕ → Type 0
 Has m j = T (bit m j)

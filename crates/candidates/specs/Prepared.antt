@@ -12,7 +12,7 @@ use Rattle.cue.specs.Meaning.{Tables, Readable}
 use Rattle.cue.specs.Method.{through, pull, least, floor-panels, kept, ask}
 use Rattle.cue.proofs.Bounds.{Limited}
 use Rattle.tables.specs.Held.{meant, Holds, HoldsV, Closely, CloselyV}
-use Rattle.steps.specs.Steps.{bit}
+use Rattle.thresholds.specs.Steps.{bit}
 use Rattle.candidates.specs.declared.Marks.{Marks}
 
 -- the tables of P, and the marks, as words: row l of needs has p(i) − Δ − d(i,j) for the l-th panel i with a floor

@@ -27,7 +27,7 @@ use Rattle.maxplus.proofs.FiniteLaws.{all-or, all-dec, any-dec, dec-×, dec-¬,
 use Rattle.maxplus.proofs.LineLaws.{ltE-cmp, ltL-cmp, strict, same?}
 use Rattle.maxplus.proofs.CombinationLaws.{under-dec, met?, asked?, combination?}
 use Rattle.maxplus.proofs.StarLaws.{gain-or, no-gain?}
-use Rattle.generators.specs.Minimal.{others, needed?, minimal}
+use Rattle.cue.specs.Minimal.{others, needed?, minimal}
 use Rattle.cue.specs.Meaning.{Tables, Tightest, Keeps, overdue, shortfall, deviation, Readable}
 use Rattle.cue.specs.Method.{through, pullE, pull, leastE, least, floor-panels, serves-as-well, cut, walk, fixings, kept, kept-byte, kept-count}
 use Rattle.cue.specs.Method.{selections, steps, need, seed, ray, candidate, candidates, lines}
@@ -41,7 +41,7 @@ use Rattle.timing.specs.Times.{component}
 use Rattle.timing.specs.declared.Timing.{Timing}
 use Rattle.writing.specs.Numerals.{digits}
 use Rattle.writing.specs.Texts.{joined, line-texts, plan-text, refusal-text, full-text}
-use Rattle.orderly.specs.Orderly.{orderly}
+use Rattle.preparing.specs.Orderly.{orderly}
 use Rattle.planning.specs.Planning.{planning, space-after, plan-answer}
 use Rattle.keeping.specs.Keeping.{keeping, kept-answer}
 use Rattle.testing.specs.Testing.{Testing, test-answer}

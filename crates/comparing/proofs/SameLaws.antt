@@ -21,17 +21,17 @@ use Rattle.cue.specs.Method.{lines}
 use Rattle.sheet.specs.Sheet.{Got, got, Sheet, read}
 use Rattle.sheet.specs.Sheet as sheet
 use Rattle.reading.proofs.Refusals.{refusal-numbered}
-use Rattle.known.specs.Cue.{tables-of}
+use Rattle.sheet.specs.Cue.{tables-of}
 use Rattle.tables.specs.Held.{Says}
 use Rattle.planning.specs.Planning.{Outcome, planned, full, refused, plan-of, planning, space-after, plan-answer}
-use Rattle.orderly.specs.Orderly.{orderly}
+use Rattle.preparing.specs.Orderly.{orderly}
 use Rattle.comparing.specs.Inner.{Refuses}
 use Rattle.planning.specs.Demands.{Planned, count-of}
 use Rattle.comparing.specs.Comparing.{Comparison, answer, unlike, first-refused, second-refused, Alike, Likens, Compares, Comparing, compared-space}
 use Rattle.planning.specs.declared.CuePlan.{CuePlan}
 use Rattle.comparing.specs.declared.Refusal.{Refusal}
 use Rattle.planning.proofs.Demands.{known, demand-3}
-use Rattle.orderly.proofs.OrderlyLaws.{ordered, orderly-refused}
+use Rattle.preparing.proofs.OrderlyLaws.{ordered, orderly-refused}
 use Rattle.planning.proofs.PlanLaws.{planning-refused}
 use Rattle.maxplus.proofs.FiniteLaws.{equal, unequal}
 

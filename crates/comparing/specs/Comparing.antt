@@ -11,7 +11,7 @@ use lib.IntN.{ℤ}
 use Rattle.cue.specs.Meaning.{Tightest}
 use Rattle.sheet.specs.Sheet.{Got, got, Sheet, read}
 use Rattle.sheet.specs.Sheet as sheet
-use Rattle.known.specs.Cue.{tables-of}
+use Rattle.sheet.specs.Cue.{tables-of}
 use Rattle.planning.specs.Planning.{Outcome, planned, full, refused, planning, space-after, plan-answer}
 use Rattle.planning.specs.declared.CuePlan.{CuePlan}
 use Rattle.comparing.specs.declared.Compared.{Compared}

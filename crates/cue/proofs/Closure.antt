@@ -19,7 +19,7 @@ use Rattle.maxplus.proofs.FiniteLaws.{all-dec, dec-×, dec-⊎, dec-→, some-d
 use Rattle.maxplus.proofs.SupLaws.{sup-at, sup-⊗r}
 use Rattle.maxplus.proofs.TableLaws.{idm-eq}
 use Rattle.maxplus.proofs.StarLaws.{star-diag, star-step}
-use Rattle.generators.proofs.MinimalLaws.{Increasing, increasing-equal}
+use Rattle.cue.proofs.MinimalLaws.{Increasing, increasing-equal}
 use Rattle.cue.specs.Meaning.{Tables, overdue, landing}
 use Rattle.cue.specs.Method.{least, ask, candidates, lines}
 use Rattle.cue.proofs.Order.{keeps-rule, keeps-power, keeps-star}

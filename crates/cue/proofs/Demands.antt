@@ -14,7 +14,7 @@ use Rattle.maxplus.specs.Line.{Line, at, ltL, Normal}
 use Rattle.maxplus.specs.Sorted.{Sorted}
 use Rattle.maxplus.specs.Combination.{Weighed, Combination}
 use Rattle.maxplus.proofs.LineLaws.{strict}
-use Rattle.generators.specs.Minimal.{others}
+use Rattle.cue.specs.Minimal.{others}
 use Rattle.cue.specs.Meaning.{Tables, timing, Keeps, deviation, Tightest, Readable}
 use Rattle.cue.specs.Method.{Entries, Selection, least, floor-panels, walk, steps, candidates, lines}
 use Rattle.cue.proofs.Order.{keeps-iff-unchanged}

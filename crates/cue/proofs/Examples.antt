@@ -16,7 +16,7 @@ use Rattle.maxplus.proofs.EntryLaws.{≼-dec, present-dec}
 use Rattle.maxplus.proofs.FiniteLaws.{all-or, all-dec, any-dec, dec-×, dec-¬, dec-→}
 use Rattle.maxplus.proofs.LineLaws.{ltE-cmp, ltL-cmp, strict, same?}
 use Rattle.maxplus.proofs.CombinationLaws.{under-dec, met?, asked?, combination?}
-use Rattle.generators.specs.Minimal.{others, needed?, minimal}
+use Rattle.cue.specs.Minimal.{others, needed?, minimal}
 use Rattle.cue.specs.Meaning.{Tables, overdue}
 use Rattle.cue.specs.Method.{through, pullE, pull, leastE, least, floor-panels, serves-as-well, cut, walk, fixings, kept, kept-byte}
 use Rattle.cue.specs.Method.{selections, steps, need, seed, ray, candidate, candidates, lines}

@@ -14,7 +14,7 @@ use Rattle.maxplus.specs.Combination.{Combination}
 use Rattle.maxplus.proofs.WholeLaws.{up-add, up-neg}
 use Rattle.maxplus.proofs.EntryLaws.{_▸_, ≼-anti, ≼-absent, ≼-back, ⊗-left, ⊗-right, absent-not, cancel-r}
 use Rattle.maxplus.proofs.CombinationLaws.{weight-fits, weight-meets, Under, under-anti, Span, span-combination}
-use Rattle.generators.proofs.MinimalLaws.{Needed, in-minimal, Increasing, minimal-increasing, needed-alone, alone-needed, needed-meet}
+use Rattle.cue.proofs.MinimalLaws.{Needed, in-minimal, Increasing, minimal-increasing, needed-alone, alone-needed, needed-meet}
 use Rattle.cue.specs.Meaning.{Tables, timing, Readable}
 use Rattle.cue.specs.Method.{mark, least, candidates, lines}
 use Rattle.cue.proofs.Cone.{Cone, cone-⊗, cone-ext, cone-combination, mark-cone}

@@ -10,7 +10,7 @@ use Rattle.maxplus.specs.Line.{ltL}
 use Rattle.maxplus.proofs.EachLaws.{map-length}
 use Rattle.maxplus.proofs.LineLaws.{strict}
 use Rattle.maxplus.proofs.SortedLaws.{sift-few}
-use Rattle.generators.specs.Minimal.{minimal, needed?}
+use Rattle.cue.specs.Minimal.{minimal, needed?}
 use Rattle.cue.specs.Meaning.{Tables}
 use Rattle.cue.specs.Method.{least, selections, candidate, candidates, lines, floor-panels}
 use Rattle.cue.proofs.Walk.{selections-bound, floor-panels-few}

@@ -1,4 +1,5 @@
 -- Why the method finds what is meant, in the order in which one file builds on another. Demands has what it gives.
+pub mod MinimalLaws
 pub mod Order
 pub mod Deviation
 pub mod Cone

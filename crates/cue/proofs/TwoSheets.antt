@@ -13,7 +13,7 @@ use Rattle.maxplus.specs.Line.{Line, at, line}
 use Rattle.maxplus.specs.Combination.{Weighed}
 use Rattle.maxplus.proofs.FiniteLaws.{in-map, map-in}
 use Rattle.maxplus.proofs.LineLaws.{line-ext, at-line}
-use Rattle.generators.proofs.MinimalLaws.{increasing-equal}
+use Rattle.cue.proofs.MinimalLaws.{increasing-equal}
 use Rattle.cue.specs.Meaning.{Tables, Tightest, Readable}
 use Rattle.cue.specs.Method.{mark, least, lines}
 use Rattle.cue.proofs.Cone.{Cone, tightest-cone, mark-tightest, mark-cone, timings-determine}

@@ -9,7 +9,7 @@ use Rattle.maxplus.specs.Entry.{E, num, _⊗_, _⊕_, val, leqE, inv, present?}
 use Rattle.maxplus.specs.Finite.{each, onlyIf, mapL, sum, countIf}
 use Rattle.maxplus.specs.Tables.{sup, supL, Vec, Mat, mv, mm, idm, star, normal}
 use Rattle.maxplus.specs.Line.{Line, line}
-use Rattle.generators.specs.Minimal.{minimal}
+use Rattle.cue.specs.Minimal.{minimal}
 use Rattle.cue.specs.Meaning.{Tables, timing, overdue}
 
 -- which entries (panel, trigger) the walk still has, and the entries that it fixed, in sheet order

@@ -15,7 +15,7 @@ use Rattle.maxplus.proofs.FiniteLaws.{in-app, in-left, in-right, in-each, each-
 use Rattle.maxplus.proofs.LineLaws.{strict}
 use Rattle.maxplus.proofs.SortedLaws.{above, in-above, above-sorted, sorted-eq, sift-sorted, sift-in, in-sift}
 use Rattle.maxplus.proofs.GatherLaws.{sift-last, sift-skip, put-take}
-use Rattle.generators.proofs.MinimalLaws.{Increasing}
+use Rattle.cue.proofs.MinimalLaws.{Increasing}
 use Rattle.cue.specs.Meaning.{Tables}
 use Rattle.cue.specs.Method.{least, lines}
 use Rattle.cue.proofs.Closure.{Common}

@@ -21,7 +21,7 @@ use candidates::Marks;
 use candidates::drawing::candidate;
 use candidates::drawing::starred;
 use candidates::order::below;
-use closure::extreme;
+use extremes::extreme;
 
 // Puts a line in at its place if it is above the last one, new and extreme. Most lines are there already, so a line is looked up before it
 // is tested.

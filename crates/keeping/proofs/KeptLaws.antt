@@ -14,16 +14,16 @@ use Rattle.cue.specs.Meaning.{Tables}
 use Rattle.cue.specs.Method.{least, kept-byte, kept-count, steps, selections}
 use Rattle.sheet.specs.Sheet.{Got, got}
 use Rattle.sheet.specs.Sheet as spec
-use Rattle.known.specs.Cue.{tables-of}
-use Rattle.marks.proofs.Results.{kept-ones}
+use Rattle.sheet.specs.Cue.{tables-of}
+use Rattle.preparing.proofs.Results.{kept-ones}
 use Rattle.tables.proofs.Loops.{Filled}
 use Rattle.walk.specs.State.{countsOf}
 use Rattle.walk.specs.declared.Counts.{Counts}
 use Rattle.walk.proofs.Follows.{counts-follow}
-use Rattle.marks.specs.Marked.{MarkedAs}
-use Rattle.marks.specs.declared.Marked.{Marked}
+use Rattle.preparing.specs.Marked.{MarkedAs}
+use Rattle.preparing.specs.declared.Marked.{Marked}
 use Rattle.keeping.specs.Keeping.{kept-of, keeping, six, six-counts, kept-answer}
-use Rattle.orderly.specs.Orderly.{orderly}
+use Rattle.preparing.specs.Orderly.{orderly}
 use Rattle.keeping.specs.declared.KeptTable.{KeptTable}
 
 -- the byte and the number of panel i

@@ -7,8 +7,8 @@ use lib.ListN.{length, getD, replicate}
 use Rattle.maxplus.specs.Finite.{each}
 use Rattle.cue.specs.Method.{least, kept-byte, kept-count, steps, selections}
 use Rattle.sheet.specs.Sheet.{Got, got, Sheet}
-use Rattle.known.specs.Cue.{tables-of}
-use Rattle.orderly.specs.Orderly.{orderly}
+use Rattle.sheet.specs.Cue.{tables-of}
+use Rattle.preparing.specs.Orderly.{orderly}
 use Rattle.keeping.specs.declared.KeptTable.{KeptTable}
 use Rattle.sheet.specs.Sheet as sheet
 

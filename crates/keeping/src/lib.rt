@@ -24,7 +24,7 @@ pub fn kept_table(bytes: &[u8]) -> KeptTable
     let mut star = [blank; 6];
     let mut gains = [blank; 6];
     let mut needs = [blank; 6];
-    let ready = orderly::prepare(bytes, &mut lag, &mut star, &mut gains, &mut needs);
+    let ready = preparing::prepare(bytes, &mut lag, &mut star, &mut gains, &mut needs);
     if ready.refusal != 0 {
         return no_table(ready.refusal);
     }
@@ -68,7 +68,7 @@ fn ones_of(kept: [u8; 6]) -> [u8; 6]
     let mut r = [0u8; 6];
     let mut i: usize = 0;
     while i < 6 {
-        r[i] = steps::ones(kept[i]);
+        r[i] = thresholds::ones(kept[i]);
         i += 1;
     }
     r

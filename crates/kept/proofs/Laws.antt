@@ -17,11 +17,11 @@ use Rattle.maxplus.proofs.StarLaws.{no-gain?}
 use Rattle.sheet.specs.Sheet.{Got, got, Sheet, _>>=_, read}
 use Rattle.sheet.specs.Sheet as sheet
 use Rattle.reading.proofs.Refusals.{refusal-known}
-use Rattle.known.proofs.Good.{read-good}
+use Rattle.sheet.proofs.Good.{read-good}
 use Rattle.advice.specs.Advice.{advice}
 use Rattle.writing.specs.Texts.{kept-text, refusal-text}
 use Rattle.keeping.specs.Keeping.{KeptOutcome, kept, refused, kept-of, keeping, six, kept-answer}
-use Rattle.orderly.specs.Orderly.{orderly}
+use Rattle.preparing.specs.Orderly.{orderly}
 use Rattle.keeping.specs.declared.KeptTable.{KeptTable}
 use Rattle.advice.proofs.AdviceLaws.{advised}
 use Rattle.kept.specs.Output.{kept-output, kept-complaint}

@@ -23,13 +23,13 @@ use Rattle.cue.proofs.WrittenLaws.{Fitting, list-words-length}
 use Rattle.sheet.specs.Sheet.{Got, got, Sheet, read}
 use Rattle.sheet.specs.Sheet as sheet
 use Rattle.reading.proofs.Refusals.{refusal-known}
-use Rattle.known.specs.Cue.{tables-of}
-use Rattle.known.proofs.Good.{Good, read-good}
+use Rattle.sheet.specs.Cue.{tables-of}
+use Rattle.sheet.proofs.Good.{Good, read-good}
 use Rattle.advice.specs.Advice.{advice}
 use Rattle.writing.specs.Texts.{plan-text, refusal-text, full-text}
 use Rattle.writing.specs.Writing.{Stands}
 use Rattle.planning.specs.Planning.{Outcome, planned, full, refused, plan-of, planning, space-after, plan-answer}
-use Rattle.orderly.specs.Orderly.{orderly}
+use Rattle.preparing.specs.Orderly.{orderly}
 use Rattle.planning.specs.Text.{text, program-text}
 use Rattle.planning.specs.Demands.{Planned}
 use Rattle.planning.specs.declared.CuePlan.{CuePlan}

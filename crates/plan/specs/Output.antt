@@ -3,7 +3,7 @@ use mathlib.Core.List.{List, []}
 use Prim.Native.Nat.{ℕ}
 use Rattle.advice.specs.Advice.{advice}
 use Rattle.planning.specs.Planning.{Outcome, planned, full, refused, plan-of}
-use Rattle.orderly.specs.Orderly.{orderly}
+use Rattle.preparing.specs.Orderly.{orderly}
 
 abbrev pub complaint : Outcome → List ℕ
 complaint (planned n D k l L) = []

@@ -15,11 +15,11 @@ use Rattle.cue.specs.Method.{least, lines, kept-byte, kept-count}
 use Rattle.cue.proofs.Few.{most, lines-few}
 use Rattle.sheet.specs.Sheet.{Got, got, Sheet, read}
 use Rattle.sheet.specs.Sheet as sheet
-use Rattle.known.specs.Cue.{tables-of}
-use Rattle.known.proofs.Good.{read-good}
+use Rattle.sheet.specs.Cue.{tables-of}
+use Rattle.sheet.proofs.Good.{read-good}
 use Rattle.planning.specs.Planning.{planned, full, plan-of, planning, plan-answer}
 use Rattle.keeping.specs.Keeping.{kept-of, keeping, kept-answer}
-use Rattle.orderly.specs.Orderly.{orderly}
+use Rattle.preparing.specs.Orderly.{orderly}
 
 module _ (s : List ℕ) where
   abbrev Sized : Got Sheet → Type 0

@@ -5,12 +5,14 @@ ghost use Rattle.testing.specs.Testing.{TestOutcome, Testing};
 ghost use Rattle.planning.specs.Planning.{planning, space-after, plan-answer};
 ghost use Rattle.keeping.specs.Keeping.{keeping, kept-answer};
 ghost use Rattle.timing.specs.Times.{component};
-ghost use Rattle.c_words.specs.Words.{plan-words, kept-words, six-times, test-number};
-use c_words::six_times;
-use c_words::write_kept;
-use c_words::write_plan;
+ghost use Rattle.planner_c.specs.Words.{plan-words, kept-words, six-times, test-number};
+use crate::answers::six_times;
+use crate::answers::write_kept;
+use crate::answers::write_plan;
 use testing::Tested;
 use timing::Timing;
+
+mod answers;
 
 // 0 or the refusal. The list goes to the front of the space, deviation, steps, selections and count to the answer; for 9 the count alone.
 #[no_mangle]

@@ -20,11 +20,11 @@ use Rattle.cue.proofs.WrittenLaws.{Fitting, list-words-length, list-words-one}
 use Rattle.cue.proofs.Demands as cue
 use Rattle.sheet.specs.Sheet.{got, Sheet, read}
 use Rattle.sheet.specs.Sheet as sheet
-use Rattle.known.specs.Cue.{tables-of}
-use Rattle.known.proofs.Good.{Good, read-good}
+use Rattle.sheet.specs.Cue.{tables-of}
+use Rattle.sheet.proofs.Good.{Good, read-good}
 use Rattle.planning.specs.Planning.{Outcome, planned, full, refused, plan-of, planning, space-after}
-use Rattle.orderly.specs.Orderly.{orderly}
-use Rattle.orderly.proofs.OrderlyLaws.{ordered}
+use Rattle.preparing.specs.Orderly.{orderly}
+use Rattle.preparing.proofs.OrderlyLaws.{ordered}
 use Rattle.planning.specs.Demands.{Planned, deviation-of, count-of, written, Least, Demand-2, Demand-8, Demand-3}
 
 -- ---- a planning without refusal is the plan of the sheet's tables

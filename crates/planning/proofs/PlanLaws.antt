@@ -13,13 +13,13 @@ use Rattle.cue.specs.Meaning.{Tables}
 use Rattle.cue.specs.Method.{least, steps, selections, lines}
 use Rattle.sheet.specs.Sheet.{Got, got, Sheet, read}
 use Rattle.sheet.specs.Sheet as spec
-use Rattle.known.specs.Cue.{tables-of}
+use Rattle.sheet.specs.Cue.{tables-of}
 use Rattle.walk.specs.declared.Counts.{Counts}
 use Rattle.lines.specs.Listing.{Answers}
 use Rattle.lines.specs.declared.Listed.{Listed}
 use Rattle.lines.specs.declared.Listed.the-variants.{Lines, NoRoom}
-use Rattle.orderly.specs.Orderly.{orderly}
-use Rattle.orderly.proofs.OrderlyLaws.{orderly-refused, orderly-8, orderly-got}
+use Rattle.preparing.specs.Orderly.{orderly}
+use Rattle.preparing.proofs.OrderlyLaws.{orderly-refused, orderly-8, orderly-got}
 use Rattle.planning.specs.Planning.{Outcome, planned, full, refused, plan-of, planning, space-after, plan-answer}
 use Rattle.planning.specs.Inner.{Does}
 use Rattle.planning.specs.declared.CuePlan.{CuePlan}

@@ -11,7 +11,7 @@ use Rattle.maxplus.specs.Combination.{Weighed}
 use Rattle.cue.specs.Meaning.{timing, Keeps, deviation, Tightest}
 use Rattle.cue.specs.Written.{list-words}
 use Rattle.sheet.specs.Sheet.{got, Sheet, read}
-use Rattle.known.specs.Cue.{tables-of}
+use Rattle.sheet.specs.Cue.{tables-of}
 use Rattle.planning.specs.Planning.{Outcome, planned, full, refused, planning, space-after}
 
 -- planned without refusal; the deviation and the number of lines that are returned

@@ -9,8 +9,8 @@ use Rattle.maxplus.specs.Line.{Line}
 use Rattle.cue.specs.Method.{least, steps, selections, lines}
 use Rattle.cue.specs.Written.{list-words}
 use Rattle.sheet.specs.Sheet.{Got, got, Sheet}
-use Rattle.known.specs.Cue.{tables-of}
-use Rattle.orderly.specs.Orderly.{orderly}
+use Rattle.sheet.specs.Cue.{tables-of}
+use Rattle.preparing.specs.Orderly.{orderly}
 use Rattle.planning.specs.declared.CuePlan.{CuePlan}
 use Rattle.sheet.specs.Sheet as sheet
 

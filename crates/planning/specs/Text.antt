@@ -3,7 +3,7 @@ use mathlib.Core.List.{List}
 use Prim.Native.Nat.{ℕ}
 use Rattle.writing.specs.Texts.{plan-text, full-text, refusal-text}
 use Rattle.planning.specs.Planning.{Outcome, planned, full, refused, plan-of}
-use Rattle.orderly.specs.Orderly.{orderly}
+use Rattle.preparing.specs.Orderly.{orderly}
 
 unfoldable pub text : Outcome → List ℕ
 text (planned n D k l L) = plan-text n D k l L

@@ -25,7 +25,7 @@ pub fn plan(bytes: &[u8], space: &mut [i32]) -> CuePlan
     let mut star = [blank; 6];
     let mut gains = [blank; 6];
     let mut needs = [blank; 6];
-    let ready = orderly::prepare(bytes, &mut lag, &mut star, &mut gains, &mut needs);
+    let ready = preparing::prepare(bytes, &mut lag, &mut star, &mut gains, &mut needs);
     if ready.refusal != 0 {
         return no_plan(ready.refusal);
     }

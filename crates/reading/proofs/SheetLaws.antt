@@ -26,7 +26,7 @@ use Rattle.reading.specs.declared.SizeLine.{SizeLine}
 use Rattle.rows.specs.declared.Row.{Row}
 use Rattle.rows.specs.declared.Rows.{Rows}
 use Rattle.rows.proofs.PlaceLaws.{strip-at, grid-at, strip-eq}
-use Rattle.rows.proofs.FaultLaws.{none-or}
+use Rattle.sheet.proofs.LineLaws.{none-or, entry-good, mark-good, one-size, row-present, sheet-of}
 
 -- ---- what an answer of read_rows says
 module _ (r : Rule) (s : List ℕ) (lines n : ℕ) (R : Rows) where
@@ -70,51 +70,6 @@ module _ (key : List ℕ) (r : Rule) (n : ℕ) (x : List ℕ) where
   pub line-got : (t : List (List E)) (y : List ℕ) → rows key r 1 n x ≡ got t y →
       (es : List E) × (t ≡ es ∷ []) × (line key r n x ≡ got es y)
   line-got t y e = one-got (line key r n x) t y (sym (rows-one key r n x) ∙ e)
-
--- ---- lines without fault
-cond-got : {A : Type 0} (b : Bool) (k : ℕ) (g : Got A) (a : A) (s : List ℕ) → cond b (refused k) g ≡ got a s → (b ≡ false) × (g ≡ got a s)
-cond-got true k g a s e = absurd (let z : _≡_ {A = ℕ} 0 1 = cc in omega arith)
-cond-got false k g a s e = (refl, e)
-
-entry-good : (es : List E) (s : List ℕ) → checked entry es s ≡ got es s → any out-of-range es ≡ false
-unfolding checked
-entry-good es s e = cond-got (any out-of-range es) 4 (got es s) es s e .0
-
-mark-good : (es : List E) (s : List ℕ) → checked mark es s ≡ got es s → any absent? es ≡ false
-unfolding checked
-mark-good es s e = cond-got (any absent? es) 5 (got es s) es s (cond-got (any out-of-range es) 4 _ es s e .1) .0
-
-size-good : (es : List E) (s : List ℕ) → checked size es s ≡ got es s → (any absent? es ≡ false) × (any no-size es ≡ false)
-unfolding checked
-size-good es s e = let p = cond-got (any absent? es) 2 _ es s e in (p .0, cond-got (any no-size es) 3 (got es s) es s (p .1) .0)
-
-true-not-false : true ≡ false → ⊥
-true-not-false e = let z : _≡_ {A = ℕ} 0 1 = cc in omega arith
-
--- a good size line has one number, 1 to 6
-not-absent : any absent? (absent ∷ []) ≡ false → ⊥
-unfolding any
-not-absent e = true-not-false e
-
-not-negative : (n : ℕ) → any no-size (num (negsuc n) ∷ []) ≡ false → ⊥
-unfolding any
-not-negative n e = true-not-false e
-
-not-zero : any no-size (num (pos zero) ∷ []) ≡ false → ⊥
-unfolding any
-not-zero e = true-not-false e
-
-at-most-six : (m : ℕ) → any no-size (num (pos (suc m)) ∷ []) ≡ false → suc m ≤ 6
-unfolding any
-at-most-six m e = ltb-false 6 (suc m) (none-or _ _ (none-or _ _ e .0) .0)
-
-pub one-size : (es : List E) → length es ≡ 1 → (s : List ℕ) → checked size es s ≡ got es s → (m : ℕ) × (es ≡ num (pos (suc m)) ∷ []) × (suc m ≤ 6)
-one-size [] h s g = absurd (let e : ⊥ = omega arith in e)
-one-size (a ∷ b ∷ es) h s g = absurd (let e : ⊥ = omega arith in e)
-one-size (absent ∷ []) h s g = absurd (not-absent (size-good (absent ∷ []) s g .0))
-one-size (num (negsuc n) ∷ []) h s g = absurd (not-negative n (size-good (num (negsuc n) ∷ []) s g .1))
-one-size (num (pos zero) ∷ []) h s g = absurd (not-zero (size-good (num (pos zero) ∷ []) s g .1))
-one-size (num (pos (suc m)) ∷ []) h s g = (m, refl, at-most-six m (size-good (num (pos (suc m)) ∷ []) s g .1))
 
 -- ---- a row without entries
 word-near : (e : E) → out-of-range e ≡ false → word e ≡ 0 → absent? e ≡ true
@@ -183,13 +138,6 @@ module _ (rs : List Row) (d : Row) (lines n : ℕ) (t : List (List E)) (six : li
       ap not (row-full (getD t k []) j (λ x. f (word-there k j h l ∙ x))))
 
 -- ---- the due marks, all present
-pub row-present : (es : List E) (j : ℕ) → any absent? es ≡ false → j < length es → row es j ≡ num (val (row es j))
-unfolding any row val
-row-present [] j g h = let x : ⊥ = omega arith in absurd x
-row-present (absent ∷ es) j g h = absurd (true-not-false g)
-row-present (num z ∷ es) zero g h = refl
-row-present (num z ∷ es) (suc j) g h = row-present es j g (omega arith)
-
 pub row-past : (es : List E) (j : ℕ) → length es ≤ j → row es j ≡ absent
 unfolding row
 row-past [] j h = refl
@@ -205,10 +153,6 @@ due-words es n h g = strip-eq _ _ (λ j. go j (decLt j n))
     go j (no q) = rw (le-ltb j n (omega arith)) (row-past es j (omega arith))
 
 -- ---- the parts of a sheet, one after the other
-abbrev pub sheet-of : ℕ → ℕ → List (List E) → List E → List E → List (List E) → Sheet
-sheet-of m n lag floor due after =
-    record { panels = m; triggers = n; lag = table lag; floor = row floor; due = λ j. val (row due j); after = table after }
-
 module _ (m n : ℕ) (x : List ℕ) where
   pub tables-lag : (k : ℕ) → rows (bytes "lag=") entry m n x ≡ refused k → tables m n x ≡ refused k
   unfolding tables

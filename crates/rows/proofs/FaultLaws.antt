@@ -16,6 +16,7 @@ use Rattle.maxplus.specs.Finite.{In, mapL}
 use Rattle.words.specs.Words.{bias, word}
 use Rattle.sheet.specs.Sheet as sheet
 use Rattle.sheet.specs.Sheet.{got, refused, limit, absent?, no-size, out-of-range, any, checked, row}
+use Rattle.sheet.proofs.LineLaws.{none-or}
 use Rattle.rows.specs.Grid.{strip}
 use Rattle.rows.specs.Inner.{clip, verdict, earlier-of, words-of, fault-of, FaultIs}
 use Rattle.rows.proofs.PlaceLaws.{strip-at}
@@ -198,10 +199,6 @@ module _ {r : sheet.Rule} {ws : List ℕ} {count : ℕ} where
         checked-least r es s ∙ ap (λ n. verdict n es s) (sym e)
 
 -- the entries of a line without fault
-pub none-or : (t u : Bool) → t || u ≡ false → (t ≡ false) × (u ≡ false)
-none-or true u e = (e, cc)
-none-or false u e = (refl, e)
-
 kind-none : (t : Bool) (k n : ℕ) → cond t (suc k) n ≡ 0 → t ≡ false
 kind-none true k n e = absurd (omega arith)
 kind-none false k n e = refl

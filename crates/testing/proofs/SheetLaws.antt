@@ -7,10 +7,10 @@ use Rattle.cue.specs.Meaning.{Tables}
 use Rattle.cue.specs.Method.{least}
 use Rattle.words.specs.Words.{entry}
 use Rattle.reading.specs.declared.Sheet.{Sheet}
-use Rattle.marks.proofs.Results.{lags-close, floors-close, dues-close}
-use Rattle.measuring.specs.Deviation.{SheetClose}
-use Rattle.measuring.specs.Test.{SheetWords}
-use Rattle.marks.specs.Marked.{Fit}
+use Rattle.preparing.proofs.Results.{lags-close, floors-close, dues-close}
+use Rattle.timing.specs.Deviation.{SheetClose}
+use Rattle.timing.specs.Test.{SheetWords}
+use Rattle.preparing.specs.Marked.{Fit}
 
 module _ {P : Tables} {t : Sheet} {afters lags stars throughs : List (List ℕ)} (F : Fit P t afters lags stars throughs) where
   pub sheet-close : SheetClose (t .panels) (t .triggers) lags (t .floor) (t .due)

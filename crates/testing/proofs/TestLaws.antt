@@ -13,7 +13,7 @@ use Rattle.cue.specs.Meaning.{Tightest}
 use Rattle.sheet.specs.Sheet.{Got, got, Sheet, read}
 use Rattle.sheet.specs.Sheet as spec
 use Rattle.reading.proofs.Refusals.{refusal-known}
-use Rattle.known.specs.Cue.{tables-of}
+use Rattle.sheet.specs.Cue.{tables-of}
 use Rattle.tables.specs.Held.{Says}
 use Rattle.timing.specs.Times.{some-beyond}
 use Rattle.testing.specs.Testing.{TestOutcome, answer, refused, Exactly, Tests, Testing, test-answer}

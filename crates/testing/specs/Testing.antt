@@ -8,7 +8,7 @@ use lib.IntN.{ℤ}
 use Rattle.maxplus.proofs.StarLaws.{no-gain?}
 use Rattle.cue.specs.Meaning.{Tightest}
 use Rattle.sheet.specs.Sheet.{Got, got, Sheet, read}
-use Rattle.known.specs.Cue.{tables-of}
+use Rattle.sheet.specs.Cue.{tables-of}
 use Rattle.timing.specs.Times.{some-beyond}
 use Rattle.testing.specs.declared.Tested.{Tested}
 use Rattle.testing.specs.declared.Tested.the-variants.{Yes, No, Refused}

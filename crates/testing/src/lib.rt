@@ -5,7 +5,7 @@ ghost use Rattle.cue.specs.Meaning.{Tables, Tightest};
 ghost use Rattle.tables.specs.Held.{Says};
 ghost use Rattle.timing.specs.Times.{component, some-beyond};
 ghost use Rattle.testing.specs.Testing.{Testing, test-answer};
-ghost use Rattle.marks.specs.Marked.{Fit};
+ghost use Rattle.preparing.specs.Marked.{Fit};
 use reading::Sheet;
 use timing::Timing;
 
@@ -36,7 +36,7 @@ pub fn test_timing(bytes: &[u8], timing: Timing) -> Tested
     let mut lag = [blank; 6];
     let mut star = [blank; 6];
     let mut through = [blank; 6];
-    if !orderly::ordered_tables(t, &mut after, &mut lag, &mut star, &mut through) {
+    if !preparing::ordered_tables(t, &mut after, &mut lag, &mut star, &mut through) {
         return Tested::Refused(8);
     }
     if reaches(t, &after, &lag, &star, &through, timing) {
@@ -62,7 +62,7 @@ fn reaches(
     let m = t.panels;
     let floor = t.floor;
     let due = t.due;
-    let pulls = steps::pulls(star, due, n);
-    let least = steps::least(through, pulls, floor, m, n);
-    measuring::tested(after, lag, floor, due, least, timing, m, n)
+    let pulls = thresholds::pulls(star, due, n);
+    let least = thresholds::least(through, pulls, floor, m, n);
+    timing::test::tested(after, lag, floor, due, least, timing, m, n)
 }

@@ -8,10 +8,12 @@ ghost use Rattle.maxplus.specs.Finite.{each};
 ghost use Rattle.maxplus.specs.Line.{Line};
 ghost use Rattle.writing.specs.Texts.{plan-text, kept-text, refusal-text, full-text};
 ghost use Rattle.writing.specs.Writing.{Writes, Stands};
-use text_lines::put_lines;
-use text_lines::put_panels;
+use crate::lines::put_lines;
+use crate::lines::put_panels;
 use writing::natural_field;
 use writing::number_field;
+
+mod lines;
 
 // The places behind a program's two texts: on standard output, and on standard error, where a refusal gets a sentence.
 pub struct Ends {

@@ -1,2 +1,3 @@
 -- Laws of the text that is written.
+pub mod TimesLaws
 pub mod OutputLaws

@@ -1,2 +1,4 @@
 -- What the program writes.
+pub mod Times
+pub mod Inner
 pub mod Output

@@ -21,7 +21,7 @@ use Rattle.words.specs.Words.{word, entry, Close}
 use Rattle.words.proofs.Laws.{entry-word, close-of}
 use Rattle.tables.specs.Held.{meantV}
 use Rattle.tables.proofs.Loops.{Filled, filled-none, filled-more}
-use Rattle.rows.proofs.FaultLaws.{none-or}
+use Rattle.sheet.proofs.LineLaws.{none-or}
 use Rattle.timing.specs.Times.{far-limit, beyond, some-beyond, TimingWords}
 use Rattle.timing.proofs.LimitLaws.{clash, none-at, read}
 

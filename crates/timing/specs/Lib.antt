@@ -1,2 +1,4 @@
 -- The components of a timing and their limit.
 pub mod Times
+pub mod Deviation
+pub mod Test

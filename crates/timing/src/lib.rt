@@ -1,5 +1,8 @@
 // A timing, its limit, and its components as words.
+mod deviation;
 pub mod limit;
+mod order;
+pub mod test;
 pub mod times;
 
 // A timing with its own count of triggers. Components are wider than 32 bits, so that those beyond the limit are values too.

@@ -8,9 +8,9 @@ use mir.Val.{toZ, ofZ}
 use mir.Facts.{toZ-ofZ}
 use Rattle.maxplus.proofs.EntryLaws.{num-inj}
 use Rattle.sheet.specs.Sheet as spec
-use Rattle.known.specs.Cue.{tables-of}
-use Rattle.marks.specs.Marked.{MarkedAs}
-use Rattle.orderly.specs.Orderly.{orderly}
+use Rattle.sheet.specs.Cue.{tables-of}
+use Rattle.preparing.specs.Marked.{MarkedAs}
+use Rattle.preparing.specs.Orderly.{orderly}
 use Rattle.keeping.specs.Keeping.{kept-answer}
 use Rattle.keeping.proofs.KeptLaws.{walked-answer, keeping-of}
 use Rattle.keeping.proofs.kept_table.Statement.{statement}

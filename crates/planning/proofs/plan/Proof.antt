@@ -8,11 +8,11 @@ use mir.Val.{toZ, ofZ}
 use mir.Facts.{toZ-ofZ}
 use Rattle.maxplus.proofs.EntryLaws.{num-inj}
 use Rattle.sheet.specs.Sheet as spec
-use Rattle.known.specs.Cue.{tables-of}
-use Rattle.marks.specs.Marked.{MarkedAs}
+use Rattle.sheet.specs.Cue.{tables-of}
+use Rattle.preparing.specs.Marked.{MarkedAs}
 use Rattle.walk.proofs.Follows.{counts-follow}
 use Rattle.lines.specs.Listing.{Answers}
-use Rattle.orderly.specs.Orderly.{orderly}
+use Rattle.preparing.specs.Orderly.{orderly}
 use Rattle.planning.proofs.PlanLaws.{does-refused, does-lines, does-full}
 use Rattle.planning.proofs.plan.Statement.{statement}
 use Rattle.planning.proofs.plan.Tie as tie

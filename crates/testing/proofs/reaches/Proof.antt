@@ -1,6 +1,6 @@
 -- `testing::reaches` meets its contract: the words are those of the sheet's tables and of their least deviation. Assumes nothing.
-use Rattle.marks.proofs.Laws.{pulls-ask, least-ask, deviation-is}
-use Rattle.marks.proofs.Results.{afters-close}
+use Rattle.preparing.proofs.Laws.{pulls-ask, least-ask, deviation-is}
+use Rattle.preparing.proofs.Results.{afters-close}
 use Rattle.testing.proofs.SheetLaws.{sheet-close, sheet-words}
 use Rattle.testing.proofs.reaches.Statement.{statement}
 use Rattle.testing.proofs.reaches.Tie as tie

@@ -8,14 +8,14 @@ use lib.IntN.{ℤ}
 use Rattle.cue.specs.Meaning.{Tightest}
 use Rattle.sheet.specs.Sheet as spec
 use Rattle.sheet.specs.Sheet.{got, read}
-use Rattle.known.specs.Cue.{tables-of}
+use Rattle.sheet.specs.Cue.{tables-of}
 use Rattle.tables.specs.Held.{Says}
 use Rattle.tables.proofs.Loops.{says-yes, says-no}
 use Rattle.timing.specs.Times.{component, some-beyond}
 use Rattle.testing.specs.Testing.{Testing}
 use Rattle.testing.specs.Testing as outcome
-use Rattle.orderly.specs.Inner.{Worded}
-use Rattle.orderly.proofs.Preparing.{reading-refused, reading-good, triggers-of}
+use Rattle.preparing.specs.Inner.{Worded}
+use Rattle.preparing.proofs.Preparing.{reading-refused, reading-good, triggers-of}
 use Rattle.testing.proofs.TestLaws.{testing-refused, testing-10, testing-11, testing-8, testing-says}
 use Rattle.testing.proofs.test_timing.Statement.{statement}
 use Rattle.testing.proofs.test_timing.Tie as tie

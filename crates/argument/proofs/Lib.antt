@@ -1,2 +1,0 @@
--- Laws of the argument's numbers.
-pub mod TimesLaws

@@ -1,2 +1,0 @@
--- Laws of words stored from a place on.
-pub mod Storing

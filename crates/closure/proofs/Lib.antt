@@ -1,2 +1,0 @@
--- Laws of the test for extreme.
-pub mod ExtremeLaws

@@ -1,0 +1,182 @@
+// The test for extreme: a line is extreme exactly when the closures of its triggers have a trigger in common. A set is six bits in a byte.
+ghost use mathlib.Core.Path.{_≡_};
+ghost use mathlib.Core.List.{List};
+ghost use Prim.Native.Nat.{ℕ, _+_, _*_, _≤_, _<_};
+ghost use lib.ListN.{getD};
+ghost use Rattle.maxplus.specs.Entry.{_⊗_, inv, Present};
+ghost use Rattle.words.specs.Words.{entry, Close};
+ghost use Rattle.cue.specs.Meaning.{Tables};
+ghost use Rattle.cue.specs.Method.{least};
+ghost use Rattle.cue.proofs.Closure.{Common};
+ghost use Rattle.sheet.specs.Sheet.{limit};
+ghost use Rattle.tables.specs.Held.{meant, meantV, HoldsV, Closely, CloselyV, Says};
+ghost use Rattle.candidates.specs.Bits.{Has, Marked};
+ghost use Rattle.candidates.specs.Lines.{line-of};
+ghost use Rattle.candidates.specs.Steps.{Held, HeldSets, TightSets, Reaching, Inside, Closed};
+ghost use Rattle.candidates.specs.Prepared.{Prepared, Ready};
+use crate::sums::places;
+use crate::sums::reached;
+use candidates::Line;
+use candidates::Marks;
+use candidates::entries::largest;
+
+mod sums;
+
+// In the place of a panel's set where the panel is not tight: six bits never hold it.
+const NEVER: u8 = 64;
+
+// Whether some trigger is in the closure of every trigger of the line.
+pub fn extreme(line: Line, marks: Marks, star: &[[u64; 6]; 6], lag: &[[u64; 6]; 6]) -> bool
+    requires { ⌜ Ready marks (now star) (now lag) × CloselyV (marks .triggers) (52 * limit) (line .at) ⌝ }
+    ensures { λ r. ⌜ ((n : ℕ) (P : Tables) (needs : List (List ℕ)) → Prepared n P marks (now (star .entry)) (now (lag .entry)) needs →
+        Says (Common n P (least n P) (line-of n (line .at))) r) ⌝ }
+{
+    let n = marks.triggers;
+    let at = line.at;
+    let due = marks.due;
+    let asks = marks.asks;
+    let late = lateness(at, due, n);
+    let most = largest(late, n);
+    let held = held_sets(star, at, n);
+    let front = joined(held, late, most, n);
+    let tight = tight_sets(lag, asks, at, most, marks.panels, n);
+    common(at, held, tight, front, marks.panels, n) != 0
+}
+
+// c(j) − q(j)
+fn lateness(at: [u64; 6], due: [u64; 6], n: usize) -> [u64; 6]
+    requires { ⌜ (n ≤ 6) × CloselyV n (52 * limit) at × CloselyV n limit due ⌝ }
+    ensures is { λ r. ⌜ HoldsV n (λ j. meantV at j ⊗ inv (meantV due j)) r ⌝ }
+    ensures close { λ r. ⌜ CloselyV n (53 * limit) r ⌝ }
+{
+    let mut r = [0u64; 6];
+    let mut j: usize = 0;
+    while j < n && j < 6 {
+        r[j] = words::minus(at[j], due[j]);
+        j += 1;
+    }
+    r
+}
+
+// A(k) for each trigger k.
+fn held_sets(star: &[[u64; 6]; 6], at: [u64; 6], n: usize) -> [u8; 6]
+    requires { ⌜ (n ≤ 6) × Closely n n (5 * limit) (now star) × CloselyV n (52 * limit) at ⌝ }
+    ensures { λ r. ⌜ HeldSets n (meant (now (star .entry))) (meantV at) r ⌝ }
+{
+    let mut r = [0u8; 6];
+    let mut k: usize = 0;
+    while k < n && k < 6 {
+        r[k] = held_by(star, k, at, n);
+        k += 1;
+    }
+    r
+}
+
+// A(k): the j with M*(k,j) + c(j) = c(k). No closure asks for that of an absent c(k).
+fn held_by(star: &[[u64; 6]; 6], k: usize, at: [u64; 6], n: usize) -> u8
+    requires { ⌜ (n ≤ 6) × (k < n) × Closely n n (5 * limit) (now star) × CloselyV n (52 * limit) at ⌝ }
+    ensures { λ r. ⌜ Marked (λ j. Held n (meant (now (star .entry))) (meantV at) k j) r ⌝ }
+{
+    let word = at[k];
+    if !words::present(word) {
+        return 0;
+    }
+    places(star, k, at, word, n)
+}
+
+// A(R): what is held by the triggers that reach the largest lateness.
+fn joined(held: [u8; 6], late: [u64; 6], most: u64, n: usize) -> u8
+    requires { ⌜ (n ≤ 6) × ((l : ℕ) → l < n → getD held l 0 < 64) ⌝ }
+    ensures { λ r. ⌜ Marked (λ j. (l : ℕ) × (l < n) × ((getD late l 0 ≡ most) × Has (getD held l 0) j)) r ⌝ }
+{
+    let mut set: u8 = 0;
+    let mut l: usize = 0;
+    while l < n && l < 6 {
+        if late[l] == most {
+            set = set | held[l];
+        }
+        l += 1;
+    }
+    set
+}
+
+// For each panel that is tight the triggers that reach its landing, else NEVER.
+fn tight_sets(
+    lag: &[[u64; 6]; 6],
+    asks: [u64; 6],
+    at: [u64; 6],
+    most: u64,
+    panels: usize,
+    n: usize,
+) -> [u8; 6]
+    requires { ⌜ (n ≤ 6) × (panels ≤ 6) × Closely panels n limit (now lag) × CloselyV panels (9 * limit) asks × CloselyV n (52 * limit) at
+        × Close (53 * limit) most ⌝ }
+    ensures { λ r. ⌜ TightSets panels n (meant (now (lag .entry))) (meantV asks) (meantV at) (entry most) r ⌝ }
+{
+    let mut r = [NEVER; 6];
+    let mut i: usize = 0;
+    while i < panels {
+        r[i] = reaching(lag, i, asks[i], at, most, n);
+        i += 1;
+    }
+    r
+}
+
+// A panel with a floor is tight when it lands just where Δ asks.
+fn reaching(lag: &[[u64; 6]; 6], i: usize, ask: u64, at: [u64; 6], most: u64, n: usize) -> u8
+    requires { ⌜ (i < 6) × (n ≤ 6) × Closely (i + 1) n limit (now lag) × Close (9 * limit) ask × CloselyV n (52 * limit) at
+        × Close (53 * limit) most ⌝ }
+    ensures { λ r. ⌜ Reaching n (λ j. meant (now (lag .entry)) i j ⊗ meantV at j) (entry ask) (entry most) r ⌝ }
+{
+    if !words::present(ask) {
+        return NEVER;
+    }
+    let set = reached(lag, i, at, words::plus(ask, most), n);
+    if set == 0 { NEVER } else { set }
+}
+
+// Some tight panel's reaching triggers all lie in the set.
+fn fires(tight: [u8; 6], held: u8, panels: usize) -> bool
+    requires { ⌜ panels ≤ 6 ⌝ }
+    ensures { λ r. ⌜ Says (Inside tight panels held) r ⌝ }
+{
+    let mut i: usize = 0;
+    while i < panels {
+        if tight[i] & held == tight[i] {
+            return true;
+        }
+        i += 1;
+    }
+    false
+}
+
+// cl(k): A(k), with A(R) where some panel fires.
+fn closed(held: u8, tight: [u8; 6], front: u8, panels: usize) -> u8
+    requires { ⌜ (panels ≤ 6) × (held < 64) × (front < 64) ⌝ }
+    ensures { λ r. ⌜ Marked (λ j. Closed tight panels front held j) r ⌝ }
+{
+    if fires(tight, held, panels) {
+        held | front
+    } else {
+        held
+    }
+}
+
+// The triggers in the closure of every present component. An empty set stays empty, so it ends the loop.
+fn common(at: [u64; 6], held: [u8; 6], tight: [u8; 6], front: u8, panels: usize, n: usize) -> u8
+    requires { ⌜ (n ≤ 6) × (panels ≤ 6) × ((k : ℕ) → k < n → getD held k 0 < 64) × (front < 64) ⌝ }
+    ensures { λ r. ⌜ Marked (λ j. (k : ℕ) → k < n → Present (meantV at k) → Closed tight panels front (getD held k 0) j) r ⌝ }
+{
+    let mut all: u8 = 63;
+    let mut k: usize = 0;
+    while k < n && k < 6 {
+        if words::present(at[k]) {
+            all = all & closed(held[k], tight, front, panels);
+            if all == 0 {
+                return 0;
+            }
+        }
+        k += 1;
+    }
+    all
+}

@@ -1,2 +1,0 @@
--- Laws of the shortest list of lines with the same combinations.
-pub mod MinimalLaws

@@ -1,2 +1,0 @@
--- The shortest list of lines with the same combinations.
-pub mod Minimal

@@ -1,2 +1,0 @@
--- What is known of a sheet that was read.
-pub mod Good

@@ -1,2 +1,0 @@
--- A sheet that was read, as a cue.
-pub mod Cue

@@ -1,3 +1,0 @@
--- Laws of an after rule in words, and of the test.
-pub mod OrderLaws
-pub mod TestLaws

@@ -1,0 +1,76 @@
+-- Words stored one after the other make the answers.
+use mathlib.Core.Path.{_≡_, refl, ap, sym, _∙_}
+use mathlib.Core.List.{List, [], _∷_, _++_}
+use Prim.Native.Nat.{ℕ, zero, suc, _+_, _*_}
+use native.Mathlib.Omega.{arith}
+use native.Mathlib.Numerals.{add-one}
+use lib.IntN.{ℤ, pos}
+use lib.ListN.{length, length-append, getD, set}
+use lib.Seq.{sets}
+use mir.Syntax.{w64}
+use mir.Val.{SFits, toZ, ofZ}
+use mir.Facts.{toZ-ofZ}
+use Rattle.maxplus.specs.Finite.{each}
+use borrow.Author.Tests.{eq-eqb, ne-eqb}
+use Rattle.keeping.specs.declared.KeptTable.{KeptTable}
+use Rattle.planning.specs.declared.CuePlan.{CuePlan}
+use Rattle.planner_c.specs.Words.{pairs, plan-words, kept-words, six-times}
+
+-- a word comes back as it was
+pub back : {z t : ℤ} → SFits w64 z → z ≡ t → toZ w64 (ofZ w64 z) ≡ t
+back h e = toZ-ofZ h ∙ e
+
+sets-append : (vs ws l : List ℤ) (i k : ℕ) → i + length vs ≡ k → sets l i (vs ++ ws) ≡ sets (sets l i vs) k ws
+sets-append [] ws l i k e = ap (λ k. sets l k ws) (let q : i ≡ k = omega arith in q)
+sets-append (v ∷ vs) ws l i k e = sets-append vs ws (set l i v) (suc i) k (omega arith)
+
+pairs-long : (m : ℕ) (bytes counts : List ℕ) → length (pairs m bytes counts) ≡ 2 * m
+unfolding pairs each
+pairs-long zero b c = refl
+pairs-long (suc m) b c = omega (arith, pairs-long m b c, length-append (pairs m b c) (pos (getD b m 0) ∷ pos (getD c m 0) ∷ []))
+
+pairs-more : (lent : List ℤ) (m : ℕ) (bytes counts : List ℕ) →
+    set (set (sets lent 4 (pairs m bytes counts)) (4 + 2 * m) (pos (getD bytes m 0))) (5 + 2 * m) (pos (getD counts m 0)) ≡
+    sets lent 4 (pairs (m + 1) bytes counts)
+unfolding pairs each
+pairs-more lent m b c = rw add-one (let e : 5 + 2 * m ≡ suc (4 + 2 * m) = omega arith in
+    rw e (sym (sets-append (pairs m b c) (pos (getD b m 0) ∷ pos (getD c m 0) ∷ []) lent 4 (4 + 2 * m) (omega (arith, pairs-long m b c)))))
+
+-- one panel more
+pub panel-more : (lent : List ℤ) {l a z : List ℤ} {v w : ℤ} (m : ℕ) (bytes counts : List ℕ) → l ≡ sets lent 4 (pairs m bytes counts) →
+    v ≡ pos (getD bytes m 0) → a ≡ set l (4 + 2 * m) v → w ≡ pos (getD counts m 0) → z ≡ set a (5 + 2 * m) w →
+    z ≡ sets lent 4 (pairs (m + 1) bytes counts)
+panel-more lent m bytes counts el ev ea ew ez = ez ∙ rw (ea, ew, el, ev) (pairs-more lent m bytes counts)
+
+-- ---- planning's answer
+module _ (r : CuePlan) (lent : List ℤ) where
+  pub planned-words : {a b c d : List ℤ} {D k l n : ℤ} → r .refusal ≡ 0 → D ≡ r .deviation → a ≡ set lent 0 D → k ≡ pos (r .steps) →
+      b ≡ set a 1 k → l ≡ pos (r .selections) → c ≡ set b 2 l → n ≡ pos (r .count) → d ≡ set c 3 n → d ≡ plan-words r lent
+  unfolding plan-words
+  planned-words h eD ea ek eb el ec en ed = ed ∙ rw (ec, eb, ea, eD, ek, el, en, eq-eqb (r .refusal) 0 h) refl
+
+  pub full-words : {d : List ℤ} {n : ℤ} → ¬ (r .refusal ≡ 0) → r .refusal ≡ 9 → n ≡ pos (r .count) → d ≡ set lent 3 n → d ≡ plan-words r lent
+  unfolding plan-words
+  full-words f h en ed = ed ∙ rw (en, ne-eqb (r .refusal) 0 f, eq-eqb (r .refusal) 9 h) refl
+
+  pub no-words : ¬ (r .refusal ≡ 0) → ¬ (r .refusal ≡ 9) → lent ≡ plan-words r lent
+  unfolding plan-words
+  no-words f g = rw (ne-eqb (r .refusal) 0 f, ne-eqb (r .refusal) 9 g) refl
+
+-- ---- the kept table's
+module _ (r : KeptTable) (lent : List ℤ) where
+  pub table-words : {a b c d e : List ℤ} {D k l m : ℤ} → r .refusal ≡ 0 → D ≡ r .deviation → a ≡ set lent 0 D → k ≡ pos (r .steps) →
+      b ≡ set a 1 k → l ≡ pos (r .selections) → c ≡ set b 2 l → m ≡ pos (r .panels) → d ≡ set c 3 m →
+      e ≡ sets d 4 (pairs 6 (r .kept) (r .counts)) → e ≡ kept-words r lent
+  unfolding kept-words
+  table-words h eD ea ek eb el ec em ed ee = ee ∙ rw (ed, ec, eb, ea, eD, ek, el, em, eq-eqb (r .refusal) 0 h) refl
+
+  pub no-table : ¬ (r .refusal ≡ 0) → lent ≡ kept-words r lent
+  unfolding kept-words
+  no-table f = rw (ne-eqb (r .refusal) 0 f) refl
+
+-- ---- six times
+pub six-listed : (lent : List ℤ) {a b c d e f : ℤ} → a ≡ getD lent 0 (pos 0) → b ≡ getD lent 1 (pos 0) → c ≡ getD lent 2 (pos 0) →
+    d ≡ getD lent 3 (pos 0) → e ≡ getD lent 4 (pos 0) → f ≡ getD lent 5 (pos 0) → a ∷ b ∷ c ∷ d ∷ e ∷ f ∷ [] ≡ six-times lent
+unfolding six-times each
+six-listed lent ea eb ec ed ee ef = rw (ea, eb, ec, ed, ee, ef) refl

@@ -1,0 +1,93 @@
+-- `c_words::put_panels` meets its contract: after i turns the words of i panels are stored. Assumes nothing.
+use mathlib.Core.Path.{_≡_, refl, ap, _∙_}
+use Prim.Native.Nat.{_-_, _≤_}
+use native.Mathlib.Omega.{arith}
+use borrow.Author.Needs.{needs}
+use lib.IntN.{ℤ}
+use lib.ListN.{length}
+use lib.Seq.{sets, length-sets}
+use Rattle.maxplus.specs.Finite.{each}
+use Rattle.planner_c.specs.Words.{pairs}
+use Rattle.planner_c.proofs.Storing.{back, panel-more}
+use Rattle.planner_c.proofs.answers.put_panels.Statement.{statement}
+use Rattle.planner_c.proofs.answers.put_panels.Tie as tie
+
+abbrev Inv-loop : tie.InvT-loop
+Inv-loop lent₀ kept counts i₀ lent i = (i ≤ 6) × (lent ≡ sets lent₀ 4 (pairs i kept counts))
+
+abbrev μ-loop : tie.MeasureT-loop
+μ-loop lent₀ kept counts i₀ lent i = 6 - i
+
+loop-holds : tie.Need-loop-holds Inv-loop μ-loop
+unfolding pairs each
+loop-holds c = (omega arith, refl)
+
+mul-put : tie.Need-mul-put Inv-loop μ-loop
+mul-put c = record { fits = omega arith }
+
+add-put : tie.Need-add-put Inv-loop μ-loop
+add-put c = record { fits = omega arith }
+
+array-read-byte-word : tie.Need-array-read-byte-word Inv-loop μ-loop
+array-read-byte-word c = omega arith
+
+byte-word-requires : tie.Need-byte-word-requires Inv-loop μ-loop
+byte-word-requires c κs = search needs
+
+put-requires : tie.Need-put-requires Inv-loop μ-loop
+put-requires c κs = search needs
+
+mul-put-2 : tie.Need-mul-put-2 Inv-loop μ-loop
+mul-put-2 c = record { fits = omega arith }
+
+add-put-2 : tie.Need-add-put-2 Inv-loop μ-loop
+add-put-2 c = record { fits = omega arith }
+
+array-read-byte-word-2 : tie.Need-array-read-byte-word-2 Inv-loop μ-loop
+array-read-byte-word-2 c = omega arith
+
+byte-word-requires-2 : tie.Need-byte-word-requires-2 Inv-loop μ-loop
+byte-word-requires-2 c κs = search needs
+
+put-requires-2 : tie.Need-put-requires-2 Inv-loop μ-loop
+put-requires-2 c κs = search needs
+
+add-i : tie.Need-add-i Inv-loop μ-loop
+add-i c = record { fits = omega arith }
+
+loop-less : tie.Need-loop-less Inv-loop μ-loop
+loop-less c = omega arith
+
+loop-again : tie.Need-loop-again Inv-loop μ-loop
+loop-again c =
+    let k = c .before .before .before .before .before .before .before .before .before in
+    (omega arith, panel-more _ (k .loop .i) _ _ (k .loop .inv .1) (back (record { sfits = c .before .before .before .before .before .before .byte-word .ok }) (c .before .before .before .before .before .before .byte-word .ensures)) (c .before .before .before .before .before .put .ensures) (back (record { sfits = c .before .before .byte-word2 .ok }) (c .before .before .byte-word2 .ensures)) (c .before .put2 .ensures))
+
+same-length : tie.Need-same-length Inv-loop μ-loop
+same-length c = ap length (c .before .loop .inv .1) ∙ length-sets {A = ℤ} (c .before .before .args .lent .now) 4 (pairs (c .before .loop .i) (c .before .before .args .t2) (c .before .before .args .t3))
+
+returns : tie.Need-returns Inv-loop μ-loop
+returns c = let e : c .before .loop .i ≡ 6 = omega arith in rw e at (c .before .loop .inv .1)
+
+pub put-panels-spec : {M : Type 1} → statement M
+put-panels-spec =
+    tie.close
+    (tie.spec
+    Inv-loop
+    μ-loop
+    loop-holds
+    mul-put
+    add-put
+    array-read-byte-word
+    byte-word-requires
+    put-requires
+    mul-put-2
+    add-put-2
+    array-read-byte-word-2
+    byte-word-requires-2
+    put-requires-2
+    add-i
+    loop-less
+    loop-again
+    same-length
+    returns)

@@ -1,0 +1,94 @@
+// Answers as words at the front of those lent.
+ghost use mathlib.Core.Path.{_≡_};
+ghost use Prim.Native.Nat.{_≤_};
+ghost use lib.IntN.{pos};
+ghost use lib.ListN.{getD, set};
+ghost use lib.Seq.{sets};
+ghost use Rattle.planner_c.specs.Words.{pairs, plan-words, kept-words, six-times};
+use keeping::KeptTable;
+use planning::CuePlan;
+
+fn byte_word(b: u8) -> i64
+    ensures { λ r. ⌜ r ≡ pos b ⌝ }
+{
+    b as i64
+}
+
+fn word(k: u32) -> i64
+    ensures { λ r. ⌜ r ≡ pos k ⌝ }
+{
+    k as i64
+}
+
+// A word past the end is dropped, so that no caller can be wrong about a length.
+fn put(lent: &mut [i64], at: usize, v: i64)
+    ensures { λ _. ⌜ now (lent .exit) ≡ set (now (lent .entry)) at v ⌝ }
+{
+    if at < lent.len() {
+        lent[at] = v;
+    }
+}
+
+// There are at most 6 · 6⁶ lines, so that their count is a word of 64 bits with a sign.
+pub fn write_plan(lent: &mut [i64], r: CuePlan)
+    requires { ⌜ r .count ≤ 279936 ⌝ }
+    ensures { λ _. ⌜ now (lent .exit) ≡ plan-words r (now (lent .entry)) ⌝ }
+{
+    let count = r.count as i64;
+    if r.refusal == 0 {
+        put(lent, 0, r.deviation);
+        put(lent, 1, word(r.steps));
+        put(lent, 2, word(r.selections));
+        put(lent, 3, count);
+    } else if r.refusal == 9 {
+        put(lent, 3, count);
+    }
+}
+
+pub fn write_kept(lent: &mut [i64], r: KeptTable)
+    requires { ⌜ r .panels ≤ 6 ⌝ }
+    ensures { λ _. ⌜ now (lent .exit) ≡ kept-words r (now (lent .entry)) ⌝ }
+{
+    if r.refusal == 0 {
+        put(lent, 0, r.deviation);
+        put(lent, 1, word(r.steps));
+        put(lent, 2, word(r.selections));
+        put(lent, 3, r.panels as i64);
+        let kept = r.kept;
+        let counts = r.counts;
+        put_panels(lent, kept, counts);
+    }
+}
+
+// Byte and count for each of six panels, behind the four other words.
+fn put_panels(lent: &mut [i64], kept: [u8; 6], counts: [u8; 6])
+    ensures { λ _. ⌜ now (lent .exit) ≡ sets (now (lent .entry)) 4 (pairs 6 kept counts) ⌝ }
+{
+    let mut i: usize = 0;
+    while i < 6 {
+        put(lent, 4 + 2 * i, byte_word(kept[i]));
+        put(lent, 5 + 2 * i, byte_word(counts[i]));
+        i += 1;
+    }
+}
+
+// The time at a place, 0 where none is lent.
+fn time(lent: &[i64], j: usize) -> i64
+    ensures { λ r. ⌜ r ≡ getD (now (lent .entry)) j (pos 0) ⌝ }
+{
+    if j < lent.len() { lent[j] } else { 0 }
+}
+
+// A timing's six components.
+pub fn six_times(lent: &[i64]) -> [i64; 6]
+    ensures { λ r. ⌜ r ≡ six-times (now (lent .entry)) ⌝ }
+{
+    [
+        time(lent, 0),
+        time(lent, 1),
+        time(lent, 2),
+        time(lent, 3),
+        time(lent, 4),
+        time(lent, 5),
+    ]
+}

@@ -1,0 +1,3 @@
+-- What is true of every sheet that reading gives.
+pub mod LineLaws
+pub mod Good

@@ -1,0 +1,82 @@
+-- `text_lines::put_items` meets its contract. The loop's invariant: the first `j` items are put. Assumes nothing.
+use mathlib.Core.Path.{_≡_, ap, _∙_}
+use Prim.Native.Nat.{_+_, _-_, _≤_}
+use native.Mathlib.Omega.{arith}
+use lib.IntN.{ℤ, pos}
+use lib.ListN.{getD}
+use mir.Syntax.{w32}
+use mir.Val.{SFits}
+use Rattle.writing.specs.Writing.{next-item, line-at}
+use Rattle.writing.proofs.PutLaws.{put-as}
+use Rattle.writing.proofs.SignedLaws.{item-back}
+use Rattle.writing.proofs.TextLaws.{Grown, grown-none, grown-more, first-items, items-none, items-more, item-of}
+use Rattle.text.proofs.lines.put_items.Statement.{statement}
+use Rattle.text.proofs.lines.put_items.Tie as tie
+
+abbrev Inv-loop : tie.InvT-loop
+Inv-loop out₀ at words from n end₀ j₀ out end j = (j ≤ n) × Grown (first-items n (line-at n words from)) 12 out₀ out at end j
+
+abbrev μ-loop : tie.MeasureT-loop
+μ-loop out₀ at words from n end₀ j₀ out end j = n - j
+
+loop-holds : tie.Need-loop-holds Inv-loop μ-loop
+loop-holds c = (omega arith, grown-none _ 12 _ _ (items-none _) (omega arith))
+
+add-put-next-item : tie.Need-add-put-next-item Inv-loop μ-loop
+add-put-next-item c = omega arith
+
+add-put-next-item-2 : tie.Need-add-put-next-item-2 Inv-loop μ-loop
+add-put-next-item-2 c = omega arith
+
+mul-put-next-item : tie.Need-mul-put-next-item Inv-loop μ-loop
+mul-put-next-item c = omega arith
+
+shared-slice-copy-out-put-next-item : tie.Need-shared-slice-copy-out-put-next-item Inv-loop μ-loop
+shared-slice-copy-out-put-next-item c = omega arith
+
+put-next-item-requires : tie.Need-put-next-item-requires Inv-loop μ-loop
+put-next-item-requires c κs = omega arith
+
+add-j : tie.Need-add-j Inv-loop μ-loop
+add-j c = omega arith
+
+loop-less : tie.Need-loop-less Inv-loop μ-loop
+loop-less c = omega arith
+
+loop-again : tie.Need-loop-again Inv-loop μ-loop
+loop-again c =
+    let k = c .before .before .before .before .before in
+    let a = k .before .before .before .args in
+    let p = c .before .before .put-next-item .ensures in
+    let l = k .before .loop in
+    let word : ℤ = getD (a .words .now) (a .from + 1 + l .j) (pos 0) in
+    let f : SFits w32 word = record { sfits = c .before .before .before .put-next-item-arg2 .given } in
+    let e = item-back f ∙ item-of (a .n) (a .words .now) (a .from) (l .j) (k .loop-test .taken) in
+    (omega arith, grown-more _ 12 (items-more _ _) (l .inv .1) (put-as (ap (next-item (l .j)) e) (p .0)) (p .1))
+
+same-length : tie.Need-same-length Inv-loop μ-loop
+same-length c = c .before .loop .inv .1 .puts .same-length
+
+returns : tie.Need-returns Inv-loop μ-loop
+returns c =
+    let g = c .before .loop .inv .1 in
+    let e : c .before .loop .j ≡ c .before .before .before .args .n = omega arith in
+    (rw e at (g .puts), omega (arith, g .short))
+
+pub put-items-spec : {M : Type 1} → statement M
+put-items-spec =
+    tie.close
+    (tie.spec
+    Inv-loop
+    μ-loop
+    loop-holds
+    add-put-next-item
+    add-put-next-item-2
+    mul-put-next-item
+    shared-slice-copy-out-put-next-item
+    put-next-item-requires
+    add-j
+    loop-less
+    loop-again
+    same-length
+    returns)

@@ -1,0 +1,64 @@
+-- `text_lines::put_panel` meets its contract. Assumes nothing.
+use native.Mathlib.Omega.{arith}
+use borrow.Author.Needs.{needs}
+use Rattle.sheet.specs.Text.{bytes}
+use Rattle.writing.proofs.PutLaws.{then, put-as, put-short}
+use Rattle.writing.proofs.NumeralLaws.{natural-8}
+use Rattle.writing.proofs.TextLaws.{panel-text, panel-length}
+use Rattle.text.proofs.lines.put_panel.Statement.{statement}
+use Rattle.text.proofs.lines.put_panel.Tie as tie
+
+-- the entry, seen from behind the byte and from behind the count
+abbrev entered : tie.After-put-natural → tie.Start
+entered c = c .before .before .before .before .before .before .before .before
+
+abbrev first : tie.After-put-natural2 → tie.After-put-natural
+first c = c .before .before .before .before .before .before .before .before
+
+slice-aggregate-put-bytes : tie.Need-slice-aggregate-put-bytes
+slice-aggregate-put-bytes c = search needs
+
+put-bytes-requires : tie.Need-put-bytes-requires
+put-bytes-requires c κs = search needs
+
+put-natural-requires : tie.Need-put-natural-requires
+put-natural-requires c κs = search needs
+
+put-byte-requires : tie.Need-put-byte-requires
+put-byte-requires c κs = omega (arith, natural-8 _ (entered (c .before .before .before) .fits .kept .fits))
+
+put-natural-requires-2 : tie.Need-put-natural-requires-2
+put-natural-requires-2 c κs =
+    omega (arith, natural-8 _ (entered (c .before .before .before .before .before .before .before) .fits .kept .fits))
+
+put-byte-requires-2 : tie.Need-put-byte-requires-2
+put-byte-requires-2 c κs =
+    let f = entered (first (c .before .before .before)) .fits in
+    omega (arith, natural-8 _ (f .kept .fits), natural-8 _ (f .count .fits))
+
+same-length : tie.Need-same-length
+same-length c = search needs
+
+returns : tie.Need-returns
+unfolding bytes
+returns c =
+    let d = c .before .before .before .before .before .before in
+    let b = first d in
+    let f = entered b .fits in
+    let key = b .before .before .before .before .put-bytes .ensures in
+    let pair = then (then (then key (b .put-natural .ensures)) (d .before .before .before .before .put-byte .ensures)) (d .put-natural2 .ensures) in
+    put-short (panel-length _ _ (natural-8 _ (f .kept .fits)) (natural-8 _ (f .count .fits)))
+    (put-as (panel-text _ _) (then pair (c .before .before .put-byte2 .ensures)))
+
+pub put-panel-spec : {M : Type 1} → statement M
+put-panel-spec =
+    tie.close
+    (tie.spec
+    slice-aggregate-put-bytes
+    put-bytes-requires
+    put-natural-requires
+    put-byte-requires
+    put-natural-requires-2
+    put-byte-requires-2
+    same-length
+    returns)
