@@ -13,7 +13,7 @@ use Rattle.maxplus.proofs.SupLaws.{sup-ext}
 use Rattle.words.specs.Words.{word, entry, far, Close}
 use Rattle.words.proofs.Laws.{entry-word, close-minus}
 use Rattle.sheet.specs.Sheet.{limit}
-use Rattle.cue.specs.Meaning.{Tables}
+use Rattle.cue.specs.Cue.{Cue}
 use Rattle.cue.specs.Method.{through, least, floor-panels}
 use Rattle.cue.proofs.Walk.{floor-panels-in, floor-panels-few}
 use Rattle.cue.proofs.Candidates.{line-from, ray-split}
@@ -42,8 +42,8 @@ pub drawn-line : {n d : ℕ} (S : Mat) (u : Vec) (w y : List ℕ) (t : ℕ) (r :
 unfolding ray-of
 drawn-line S u w y t r h e = written-line (e .written) ∙ normal-same (λ i hi. ap (λ a. S i t ⊕ u t ⊗ a) (h .at i hi))
 
-module _ {n : ℕ} {P : Tables} {M : Marks} {stars lags needs : List (List ℕ)} (p : Prepared n P M stars lags needs) where
-  open Tables P using (panels, lag, floor, due, after)
+module _ {n : ℕ} {P : Cue} {M : Marks} {stars lags needs : List (List ℕ)} (p : Prepared n P M stars lags needs) where
+  open Cue P using (panels, lag, floor, due, order)
 
   -- ---- close words
   pub levels-few : M .levels ≤ 6

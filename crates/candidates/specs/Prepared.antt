@@ -8,7 +8,7 @@ use lib.ListN.{length, getD}
 use Rattle.maxplus.specs.Entry.{num, _⊗_, inv}
 use Rattle.maxplus.specs.Tables.{star, NoGain}
 use Rattle.sheet.specs.Sheet.{limit}
-use Rattle.cue.specs.Meaning.{Tables, Readable}
+use Rattle.cue.specs.Cue.{Cue, Readable}
 use Rattle.cue.specs.Method.{through, pull, least, floor-panels, kept, ask}
 use Rattle.cue.proofs.Bounds.{Limited}
 use Rattle.tables.specs.Held.{meant, Holds, HoldsV, Closely, CloselyV}
@@ -16,7 +16,7 @@ use Rattle.thresholds.specs.Steps.{bit}
 use Rattle.candidates.specs.declared.Marks.{Marks}
 
 -- the tables of P, and the marks, as words: row l of needs has p(i) − Δ − d(i,j) for the l-th panel i with a floor
-pub record Prepared (n : ℕ) (P : Tables) (M : Marks) (stars lags needs : List (List ℕ)) : Type 0 where
+pub record Prepared (n : ℕ) (P : Cue) (M : Marks) (stars lags needs : List (List ℕ)) : Type 0 where
   pub some : 0 < n
   pub few : n ≤ 6
   pub few-panels : P .panels ≤ 6
@@ -25,8 +25,8 @@ pub record Prepared (n : ℕ) (P : Tables) (M : Marks) (stars lags needs : List 
   pub levels : M .levels ≡ length (floor-panels n P)
   pub readable : Readable n P
   pub limited : Limited n limit P
-  pub order : NoGain n (P .after)
-  pub starred : Holds n n (star n (P .after)) stars
+  pub order : NoGain n (P .order)
+  pub starred : Holds n n (star n (P .order)) stars
   pub lagged : Holds (P .panels) n (P .lag) lags
   pub pulled : HoldsV n (λ j. num (pull n P j)) (M .pulls)
   pub due : HoldsV n (λ j. num (P .due j)) (M .due)

@@ -28,20 +28,22 @@ use Rattle.maxplus.proofs.LineLaws.{ltE-cmp, ltL-cmp, strict, same?}
 use Rattle.maxplus.proofs.CombinationLaws.{under-dec, met?, asked?, combination?}
 use Rattle.maxplus.proofs.StarLaws.{gain-or, no-gain?}
 use Rattle.cue.specs.Minimal.{others, needed?, minimal}
-use Rattle.cue.specs.Meaning.{Tables, Tightest, Keeps, overdue, shortfall, deviation, Readable}
+use Rattle.cue.specs.Cue.{Tightest, Keeps, overdue, shortfall, deviation, Readable}
 use Rattle.cue.specs.Method.{through, pullE, pull, leastE, least, floor-panels, serves-as-well, cut, walk, fixings, kept, kept-byte, kept-count}
 use Rattle.cue.specs.Method.{selections, steps, need, seed, ray, candidate, candidates, lines}
 use Rattle.cue.proofs.Order.{keeps?}
 use Rattle.cue.proofs.Deviation.{tightest?}
 use Rattle.sheet.specs.Text.{bytes}
-use Rattle.sheet.specs.Sheet.{literal, value, behind, signed, item, ended, items, any, checked, rows, row, table, tables, read}
+use Rattle.sheet.specs.Sheet.{literal, value, behind, signed, item, ended, items, any, checked, rows, row, table, tables, read, Sheet}
+use Rattle.sheet.specs.Cue.{cue-of, Orderly, orderly?}
+use Rattle.sheet.proofs.Seam.{tightest-cue}
 use Rattle.sheet.specs.Sheet as sheet
 use Rattle.cue.specs.Written.{line-words, list-words}
 use Rattle.timing.specs.Times.{component}
 use Rattle.timing.specs.declared.Timing.{Timing}
 use Rattle.writing.specs.Numerals.{digits}
 use Rattle.writing.specs.Texts.{joined, line-texts, plan-text, refusal-text, full-text}
-use Rattle.preparing.specs.Orderly.{orderly}
+use Rattle.sheet.specs.Ordered.{ordered}
 use Rattle.planning.specs.Planning.{planning, space-after, plan-answer}
 use Rattle.keeping.specs.Keeping.{keeping, kept-answer}
 use Rattle.testing.specs.Testing.{Testing, test-answer}
@@ -117,8 +119,8 @@ two a b = pos 2 ∷ a ∷ b ∷ replicate 4 absent-word
 abbrev one-by-one : String → String
 one-by-one after = string._++_ "panels=1\ntriggers=1\nlag=5\nfloor=0\ndue=0\nafter=" (string._++_ after "\n")
 
-abbrev ordered : String
-ordered = "panels=1\ntriggers=2\nlag=0,0\nfloor=0\ndue=0,0\nafter=-,-\nafter=1,-\n"
+abbrev ordered-by : String
+ordered-by = "panels=1\ntriggers=2\nlag=0,0\nfloor=0\ndue=0,0\nafter=-,-\nafter=1,-\n"
 
 abbrev one-floor : String
 one-floor = "panels=2\ntriggers=2\nlag=0,-\nlag=-,0\nfloor=0,-\ndue=0,0\nafter=-,-\nafter=-,-\n"
@@ -133,7 +135,7 @@ cases =
     plans (one-by-one "0") (old 7) (planned 1 (negsuc 4) 1 1 1) (one (pos 0)) ∷
     plans (one-by-one "1") (old 7) (no-plan 8) (old 7) ∷
     plans (one-by-one "-1") (old 7) (planned 1 (negsuc 4) 1 1 1) (one (pos 0)) ∷
-    plans ordered (old 14) (planned 2 (pos 0) 2 2 2) (two absent-word (pos 0) ++ two (negsuc 0) (pos 0)) ∷
+    plans ordered-by (old 14) (planned 2 (pos 0) 2 2 2) (two absent-word (pos 0) ++ two (negsuc 0) (pos 0)) ∷
     plans one-floor (old 15) (planned 2 (pos 0) 1 1 2) (two (pos 0) absent-word ++ two (pos 0) (pos 0) ++ old 1) ∷
     plans whole-case (old 14) (planned 2 (pos 2) 2 1 2) (two (negsuc 0) (pos 0) ++ two (pos 0) absent-word) ∷
     plans whole-case (old 7) (full 2) (old 7) ∷
@@ -142,7 +144,7 @@ cases =
     keeps (one-by-one "0") (kept-triggers (negsuc 4) 1 1 (1 ∷ []) (1 ∷ [])) ∷
     keeps (one-by-one "1") (no-table 8) ∷
     keeps (one-by-one "-1") (kept-triggers (negsuc 4) 1 1 (1 ∷ []) (1 ∷ [])) ∷
-    keeps ordered (kept-triggers (pos 0) 2 2 (3 ∷ []) (2 ∷ [])) ∷
+    keeps ordered-by (kept-triggers (pos 0) 2 2 (3 ∷ []) (2 ∷ [])) ∷
     keeps one-floor (kept-triggers (pos 0) 1 1 (1 ∷ 0 ∷ []) (1 ∷ 0 ∷ [])) ∷
     keeps whole-case (kept-triggers (pos 2) 2 1 (1 ∷ 3 ∷ []) (1 ∷ 2 ∷ [])) ∷
     tests whole-case (pos 0 ∷ pos 0 ∷ []) Yes ∷
@@ -173,17 +175,18 @@ all-hold done = done
 all-hold (_then_ {c} h k) = holds c h then all-hold k
 
 -- ---- "in the whole case, times 0,0 and 0,1 are tightest; 0,2 is not"
-abbrev whole : Tables
+abbrev whole : Sheet
 whole =
     record {
       panels = 2;
+      triggers = 2;
       lag = table ((num (pos 2) ∷ num (pos 0) ∷ []) ∷ (num (pos 4) ∷ num (pos 1) ∷ []) ∷ []);
       floor = row (num (pos 5) ∷ num (pos 2) ∷ []);
       due = λ j. val (row (num (pos 1) ∷ num (pos 2) ∷ []) j);
       after = table ((absent ∷ absent ∷ []) ∷ (absent ∷ absent ∷ []) ∷ []);
     }
 
-whole-readable : Readable 2 whole
+whole-readable : Readable 2 (cue-of whole)
 unfolding row table
 whole-readable =
     record {
@@ -197,28 +200,28 @@ whole-readable =
     lagged (nat.suc nat.zero) h = (0, lit< tt, (pos 4, refl))
     lagged (nat.suc (nat.suc i)) h = absurd (let e : ⊥ = omega arith in e)
 
-whole-ordered : NoGain 2 (whole .after)
-unfolding row table no-gain? gain-or mm mv power idm sup supL _⊗_ _⊕_ ≼-dec all-or all-dec decide
-whole-ordered = decide-yes (no-gain? 2 (whole .after)) tt
+whole-ordered : Orderly whole
+unfolding row table orderly? no-gain? gain-or mm mv power idm sup supL _⊗_ _⊕_ ≼-dec all-or all-dec decide
+whole-ordered = decide-yes (orderly? whole) tt
 
 -- ---- the whole table
 pub cases-hold : Every Holds cases
-unfolding planning space-after keeping kept-byte kept-count Testing tightest? keeps? Keeps same-entry? deviation shortfall orderly line-words list-words read sheet.lines sheet.line rows tables checked any ended items item signed value behind literal row table bytes least leastE steps selections lines minimal needed? others combination? asked? met? under-dec fixings walk kept cut serves-as-well floor-panels through pull pullE overdue need seed ray candidate candidates no-gain? gain-or mm mv star power idm normal sup supL at line put sift each mapL sum val inv _⊗_ _⊕_ maxz _+z_ neg decLe z-dec ≼-dec present-dec all-or all-dec any-dec dec-× dec-¬ dec-→ ltE-cmp ltL-cmp strict same? decide
+unfolding planning space-after keeping kept-byte kept-count Testing tightest? keeps? Keeps same-entry? deviation shortfall ordered orderly? line-words list-words read sheet.lines sheet.line rows tables checked any ended items item signed value behind literal row table bytes least leastE steps selections lines minimal needed? others combination? asked? met? under-dec fixings walk kept cut serves-as-well floor-panels through pull pullE overdue need seed ray candidate candidates no-gain? gain-or mm mv star power idm normal sup supL at line put sift each mapL sum val inv _⊗_ _⊕_ maxz _+z_ neg decLe z-dec ≼-dec present-dec all-or all-dec any-dec dec-× dec-¬ dec-→ ltE-cmp ltL-cmp strict same? decide
 cases-hold =
     all-hold
     ((refl, refl) then (refl, refl) then (refl, refl) then (refl, refl) then (refl, refl) then (refl, refl) then (refl, refl) then (refl, refl) then (refl, refl) then
     refl then refl then refl then refl then refl then refl then refl then
-    (λ rest. decide-yes (asked 0 rest) tt) then
-    (λ rest. decide-yes (asked 1 rest) tt) then
-    (λ rest t. decide-of (asked 2 rest) t) then
+    (λ rest. tightest-cue whole _ .1 (decide-yes (asked 0 rest) tt)) then
+    (λ rest. tightest-cue whole _ .1 (decide-yes (asked 1 rest) tt)) then
+    (λ rest t. decide-of (asked 2 rest) (tightest-cue whole _ .0 t)) then
     done)
   where
-    asked : (b : ℕ) (rest : List ℤ) → Dec (Tightest 2 whole (component (pos 0 ∷ pos b ∷ rest)))
-    asked b rest = tightest? 2 whole whole-readable whole-ordered (component (pos 0 ∷ pos b ∷ rest))
+    asked : (b : ℕ) (rest : List ℤ) → Dec (Tightest 2 (cue-of whole) (component (pos 0 ∷ pos b ∷ rest)))
+    asked b rest = tightest? 2 (cue-of whole) whole-readable whole-ordered (component (pos 0 ∷ pos b ∷ rest))
 
 -- ---- "writes", for the whole case, for a refusal and for 9
 pub texts-hold : mapL program-text (bytes whole-case ∷ bytes (one-by-one "1") ∷ bytes "" ∷ []) ++ text (outcome.full 2) ∷ [] ≡
     bytes "deviation=2\nsteps=2\nselections=1\ncount=2\nline=-1,0\nline=0,-\n" ∷ bytes "refused=8\n" ∷ bytes "refused=2\n" ∷
     bytes "refused=9\ncount=2\n" ∷ []
-unfolding program-text text plan-text refusal-text full-text line-texts joined digits orderly line-words list-words read sheet.lines sheet.line rows tables checked any ended items item signed value behind literal row table bytes least leastE steps selections lines minimal needed? others combination? asked? met? under-dec fixings walk kept cut serves-as-well floor-panels through pull pullE overdue need seed ray candidate candidates no-gain? gain-or mm mv star power idm normal sup supL at line put sift each mapL sum val inv _⊗_ _⊕_ maxz _+z_ neg decLe z-dec ≼-dec present-dec all-or all-dec any-dec dec-× dec-¬ dec-→ ltE-cmp ltL-cmp strict same?
+unfolding program-text text plan-text refusal-text full-text line-texts joined digits ordered orderly? line-words list-words read sheet.lines sheet.line rows tables checked any ended items item signed value behind literal row table bytes least leastE shortfall steps selections lines minimal needed? others combination? asked? met? under-dec fixings walk kept cut serves-as-well floor-panels through pull pullE overdue need seed ray candidate candidates no-gain? gain-or mm mv star power idm normal sup supL at line put sift each mapL sum val inv _⊗_ _⊕_ maxz _+z_ neg decLe z-dec ≼-dec present-dec all-or all-dec any-dec dec-× dec-¬ dec-→ ltE-cmp ltL-cmp strict same?
 texts-hold = refl

@@ -21,17 +21,17 @@ use Rattle.cue.specs.Method.{lines}
 use Rattle.sheet.specs.Sheet.{Got, got, Sheet, read}
 use Rattle.sheet.specs.Sheet as sheet
 use Rattle.reading.proofs.Refusals.{refusal-numbered}
-use Rattle.sheet.specs.Cue.{tables-of}
+use Rattle.sheet.specs.Cue.{cue-of, Orderly, orderly?}
 use Rattle.tables.specs.Held.{Says}
 use Rattle.planning.specs.Planning.{Outcome, planned, full, refused, plan-of, planning, space-after, plan-answer}
-use Rattle.preparing.specs.Orderly.{orderly}
+use Rattle.sheet.specs.Ordered.{ordered}
 use Rattle.comparing.specs.Inner.{Refuses}
 use Rattle.planning.specs.Demands.{Planned, count-of}
 use Rattle.comparing.specs.Comparing.{Comparison, answer, unlike, first-refused, second-refused, Alike, Likens, Compares, Comparing, compared-space}
 use Rattle.planning.specs.declared.CuePlan.{CuePlan}
 use Rattle.comparing.specs.declared.Refusal.{Refusal}
 use Rattle.planning.proofs.Demands.{known, demand-3}
-use Rattle.preparing.proofs.OrderlyLaws.{ordered, orderly-refused}
+use Rattle.sheet.proofs.OrderedLaws.{ordered-by, ordered-refused}
 use Rattle.planning.proofs.PlanLaws.{planning-refused}
 use Rattle.maxplus.proofs.FiniteLaws.{equal, unequal}
 
@@ -91,7 +91,7 @@ module _ (g : Got Sheet) (p : CuePlan) (e : p ≡ plan-answer (plan-of 0 g)) (ro
           Refuses (record { number = 0; count = p .count }) (plan-answer (plan-of room g))
       go (sheet.refused k) e h f = let x : ⊥ = omega (arith, ap (λ (p : CuePlan). p .count) e) in absurd x
       go (got t r) e h f =
-          let L = lines (t .triggers) (tables-of t) in
+          let L = lines (t .triggers) (cue-of t) in
           let c = ap (λ (p : CuePlan). p .count) e ∙ counted (t .triggers) _ _ _ L 0 in
           record { number = sym (room-for (t .triggers) _ _ _ L room (omega arith)); count = c ∙ sym (counted (t .triggers) _ _ _ L room) }
 
@@ -102,7 +102,7 @@ module _ (g : Got Sheet) (p : CuePlan) (e : p ≡ plan-answer (plan-of 0 g)) (ro
           Refuses (record { number = p .refusal; count = p .count }) (plan-answer (plan-of room g))
       go (sheet.refused k) e f = record { number = ap (λ (p : CuePlan). p .refusal) e; count = ap (λ (p : CuePlan). p .count) e }
       go (got t r) e f =
-          let L = lines (t .triggers) (tables-of t) in
+          let L = lines (t .triggers) (cue-of t) in
           let c = ap (λ (p : CuePlan). p .count) e ∙ counted (t .triggers) _ _ _ L 0 in
           record {
             number = ap (λ (p : CuePlan). p .refusal) e ∙ elim (decLt 0 (length L)) [
@@ -114,19 +114,19 @@ module _ (g : Got Sheet) (p : CuePlan) (e : p ≡ plan-answer (plan-of 0 g)) (ro
 
 module _ (s : List ℕ) (none : List ℤ) (few : length none / 7 ≡ 0) (p : CuePlan) (e : p ≡ plan-answer (planning s none)) (words : ℕ)
     (space : List ℤ) (same : length space ≡ words) where
-  at-none : p ≡ plan-answer (plan-of 0 (orderly s))
+  at-none : p ≡ plan-answer (plan-of 0 (ordered s))
   unfolding planning
-  at-none = e ∙ ap (λ k. plan-answer (plan-of k (orderly s))) few
+  at-none = e ∙ ap (λ k. plan-answer (plan-of k (ordered s))) few
 
-  at-space : (k : ℕ) → Found (orderly s) p at-none (words / 7) k → Refuses (record { number = k; count = p .count }) (plan-answer (planning s space))
+  at-space : (k : ℕ) → Found (ordered s) p at-none (words / 7) k → Refuses (record { number = k; count = p .count }) (plan-answer (planning s space))
   unfolding planning
-  at-space k = subst (λ w. Refuses (record { number = k; count = p .count }) (plan-answer (plan-of (w / 7) (orderly s)))) (sym same)
+  at-space k = subst (λ w. Refuses (record { number = k; count = p .count }) (plan-answer (plan-of (w / 7) (ordered s)))) (sym same)
 
   pub refused-enough : 0 < p .count → p .count ≤ words / 7 → Refuses (record { number = 0; count = p .count }) (plan-answer (planning s space))
-  refused-enough h f = at-space 0 (found-enough (orderly s) p at-none (words / 7) h f)
+  refused-enough h f = at-space 0 (found-enough (ordered s) p at-none (words / 7) h f)
 
   pub refused-short : (0 < p .count → words / 7 < p .count) → Refuses (record { number = p .refusal; count = p .count }) (plan-answer (planning s space))
-  refused-short f = at-space (p .refusal) (found-short (orderly s) p at-none (words / 7) f)
+  refused-short f = at-space (p .refusal) (found-short (ordered s) p at-none (words / 7) f)
 
 -- ---- two sheets of which each is planned
 pub planned-read : (s : List ℕ) (space : List ℤ) → Planned (planning s space) → (t : Sheet) × (r : List ℕ) × (read s ≡ got t r)
@@ -138,7 +138,7 @@ planned-read s space h = go (read s) refl
 
 pub front-fits : (s : List ℕ) (space : List ℤ) → Planned (planning s space) → 7 * plan-answer (planning s space) .count ≤ length space
 unfolding planning
-front-fits s space = go (orderly s)
+front-fits s space = go (ordered s)
   where
     whole : (n : ℕ) (D : ℤ) (k l : ℕ) (L : List (Line n)) (b : Bool) → (b ≡ true → length L ≤ length space / 7) →
         Planned (cond b (planned n D k l L) (full (length L))) → 7 * plan-answer (cond b (planned n D k l L) (full (length L))) .count ≤ length space
@@ -147,8 +147,8 @@ front-fits s space = go (orderly s)
 
     go : (g : Got Sheet) → Planned (plan-of (length space / 7) g) → 7 * plan-answer (plan-of (length space / 7) g) .count ≤ length space
     go (sheet.refused k) h = absurd h
-    go (got t r) h = whole _ _ _ _ (lines (t .triggers) (tables-of t)) (leb (length (lines (t .triggers) (tables-of t))) (length space / 7))
-        (leb-true (length (lines (t .triggers) (tables-of t))) (length space / 7)) h
+    go (got t r) h = whole _ _ _ _ (lines (t .triggers) (cue-of t)) (leb (length (lines (t .triggers) (cue-of t))) (length space / 7))
+        (leb-true (length (lines (t .triggers) (cue-of t))) (length space / 7)) h
 
 accepted : (o : Outcome) → Planned o → plan-answer o .refusal ≡ 0
 accepted (planned n D k l L) h = refl
@@ -207,29 +207,29 @@ module _ (s₁ s₂ : List ℕ) (left right : List ℤ) (h₁ : Planned (plannin
     different-answer = judged false
 
 -- ---- a refusal, or none
-orderly-numbered : (s : List ℕ) (k : ℕ) → orderly s ≡ sheet.refused k → 1 ≤ k
+orderly-numbered : (s : List ℕ) (k : ℕ) → ordered s ≡ sheet.refused k → 1 ≤ k
 orderly-numbered s k e = go (read s) refl
   where
     go : (g : Got Sheet) → read s ≡ g → 1 ≤ k
-    go (sheet.refused j) r = refusal-numbered s k (r ∙ sym (orderly-refused s j r) ∙ e)
-    go (got t m) r = other (no-gain? (t .triggers) (t .after)) (sym (ordered s t m r) ∙ e)
+    go (sheet.refused j) r = refusal-numbered s k (r ∙ sym (ordered-refused s j r) ∙ e)
+    go (got t m) r = other (orderly? t) (sym (ordered-by s t m r) ∙ e)
       where
-        other : (d : Dec (NoGain (t .triggers) (t .after))) → _≡_ {A = Got Sheet} (elim d [ yes h ↦ got t m | no h ↦ sheet.refused 8 ]) (sheet.refused k) → 1 ≤ k
+        other : (d : Dec (Orderly t)) → _≡_ {A = Got Sheet} (elim d [ yes h ↦ got t m | no h ↦ sheet.refused 8 ]) (sheet.refused k) → 1 ≤ k
         other (yes h) q = let z : _≡_ {A = ℕ} 0 1 = cc in let x : ⊥ = omega arith in absurd x
         other (no h) q = let z : k ≡ 8 = cc in omega arith
 
 pub none-refused : (s : List ℕ) (space : List ℤ) → plan-answer (planning s space) .refusal ≡ 0 → Planned (planning s space)
 unfolding planning
-none-refused s space = go (orderly s) refl
+none-refused s space = go (ordered s) refl
   where
     whole : (n : ℕ) (D : ℤ) (k l : ℕ) (L : List (Line n)) (b : Bool) → plan-answer (cond b (planned n D k l L) (full (length L))) .refusal ≡ 0 →
         Planned (cond b (planned n D k l L) (full (length L)))
     whole n D k l L true h = tt
     whole n D k l L false h = let x : ⊥ = omega arith in absurd x
 
-    go : (g : Got Sheet) → orderly s ≡ g → plan-answer (plan-of (length space / 7) g) .refusal ≡ 0 → Planned (plan-of (length space / 7) g)
+    go : (g : Got Sheet) → ordered s ≡ g → plan-answer (plan-of (length space / 7) g) .refusal ≡ 0 → Planned (plan-of (length space / 7) g)
     go (sheet.refused k) e h = let x : ⊥ = omega (arith, orderly-numbered s k e) in absurd x
-    go (got t r) e h = whole _ _ _ _ (lines (t .triggers) (tables-of t)) (leb (length (lines (t .triggers) (tables-of t))) (length space / 7)) h
+    go (got t r) e h = whole _ _ _ _ (lines (t .triggers) (cue-of t)) (leb (length (lines (t .triggers) (cue-of t))) (length space / 7)) h
 
 module _ (o p : Outcome) (space : List ℤ) where
   -- the space of a refused sheet, and the one beside it

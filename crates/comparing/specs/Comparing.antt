@@ -8,10 +8,9 @@ use mathlib.Core.Bool.{Bool, true, false, cond, not}
 use Prim.Native.Nat.{ℕ}
 use lib.Dec.{eqb}
 use lib.IntN.{ℤ}
-use Rattle.cue.specs.Meaning.{Tightest}
+use Rattle.sheet.specs.Meaning.{Timing, Tightest}
 use Rattle.sheet.specs.Sheet.{Got, got, Sheet, read}
 use Rattle.sheet.specs.Sheet as sheet
-use Rattle.sheet.specs.Cue.{tables-of}
 use Rattle.planning.specs.Planning.{Outcome, planned, full, refused, planning, space-after, plan-answer}
 use Rattle.planning.specs.declared.CuePlan.{CuePlan}
 use Rattle.comparing.specs.declared.Compared.{Compared}
@@ -35,7 +34,7 @@ compare-answer (SecondRefused k c) = second-refused k c
 
 -- "every timing is tightest on both sheets or on neither"
 abbrev pub Alike : Sheet → Sheet → Type 0
-Alike t u = (X : ℕ → ℤ) → Tightest (t .triggers) (tables-of t) X ↔ Tightest (u .triggers) (tables-of u) X
+Alike t u = (X : Timing) → Tightest t X ↔ Tightest u X
 
 -- yes exactly when they are alike, with c and d lines (reading refuses no sheet that was planned)
 abbrev pub Likens : Got Sheet → Got Sheet → ℕ → ℕ → Comparison → Type 0

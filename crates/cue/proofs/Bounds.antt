@@ -18,7 +18,7 @@ use Rattle.maxplus.proofs.EntryLaws.{_▸_, ≼-anti, ≼-of, ≼-back, ⊕-or,
 use Rattle.maxplus.proofs.SupLaws.{sup-ub, sup-at, supL-ub, supL-at}
 use Rattle.maxplus.proofs.TableLaws.{idm-or}
 use Rattle.maxplus.proofs.LineLaws.{at-line}
-use Rattle.cue.specs.Meaning.{Tables, timing, overdue}
+use Rattle.cue.specs.Cue.{Cue, timing, overdue, shortfall}
 use Rattle.cue.specs.Method.{Selection, through, pullE, pull, mark, leastE, least, ask, selections, need, seed, ray, candidate}
 use Rattle.cue.specs.Method.{candidates, lines}
 use Rattle.cue.proofs.Deviation.{overdue-at, pull-is, due-pull, mv-through, mark-keeps}
@@ -120,29 +120,29 @@ times-le : (k m L : ℕ) → k ≤ m → k * L ≤ m * L
 times-le k m L h = mul-le-mul-right L h
 
 -- every entry that is there lies from −L to L
-pub record Limited (n : ℕ) (L : ℕ) (P : Tables) : Type 0 where
+pub record Limited (n : ℕ) (L : ℕ) (P : Cue) : Type 0 where
   pub lags : (i j : ℕ) → i < P .panels → j < n → Within L L (P .lag i j)
   pub floors : (i : ℕ) → i < P .panels → Within L L (P .floor i)
   pub dues : (j : ℕ) → j < n → Within L L (num (P .due j))
-  pub afters : (i j : ℕ) → i < n → j < n → Within L L (P .after i j)
+  pub afters : (i j : ℕ) → i < n → j < n → Within L L (P .order i j)
 
 -- at most m + 1 triggers; N below is m + 1
-module _ (n m L : ℕ) (P : Tables) (l : Limited n L P) (few : n ≤ suc m) where
-  open Tables P using (panels, lag, floor, due, after)
+module _ (n m L : ℕ) (P : Cue) (l : Limited n L P) (few : n ≤ suc m) where
+  open Cue P using (panels, lag, floor, due, order)
 
   -- before any check of circles: a power adds up that many entries
-  pub power-within : (k i j : ℕ) → i < n → j < n → Within (k * L) (k * L) (power n after k i j)
+  pub power-within : (k i j : ℕ) → i < n → j < n → Within (k * L) (k * L) (power n order k i j)
   unfolding power mm
   power-within zero i j hi hj = record { low = above-more (omega arith) (idm-above i j); high = below-more (omega arith) (idm-below i j) }
   power-within (suc k) i j hi hj =
       record {
         low = above-sup n _ (λ h hh. above-more (omega arith)
-            (above-⊗ (after i h) (power n after k h j) (l .afters i h hi hh .low) (power-within k h j hh hj .low)));
+            (above-⊗ (order i h) (power n order k h j) (l .afters i h hi hh .low) (power-within k h j hh hj .low)));
         high = below-sup n _ (λ h hh. below-more (omega arith)
-            (below-⊗ (after i h) (power n after k h j) (l .afters i h hi hh .high) (power-within k h j hh hj .high)));
+            (below-⊗ (order i h) (power n order k h j) (l .afters i h hi hh .high) (power-within k h j hh hj .high)));
       }
 
-  pub star-within : (i j : ℕ) → i < n → j < n → Within (m * L) (m * L) (star n after i j)
+  pub star-within : (i j : ℕ) → i < n → j < n → Within (m * L) (m * L) (star n order i j)
   unfolding star
   star-within i j hi hj =
       record {
@@ -155,9 +155,9 @@ module _ (n m L : ℕ) (P : Tables) (l : Limited n L P) (few : n ≤ suc m) wher
   through-within i j hi hj =
       record {
         low = above-sup n _ (λ k hk. above-more (omega arith)
-            (above-⊗ (lag i k) (star n after k j) (l .lags i k hi hk .low) (star-within k j hk hj .low)));
+            (above-⊗ (lag i k) (star n order k j) (l .lags i k hi hk .low) (star-within k j hk hj .low)));
         high = below-sup n _ (λ k hk. below-more (omega arith)
-            (below-⊗ (lag i k) (star n after k j) (l .lags i k hi hk .high) (star-within k j hk hj .high)));
+            (below-⊗ (lag i k) (star n order k j) (l .lags i k hi hk .high) (star-within k j hk hj .high)));
       }
 
   -- r = −pull, from −NL to L
@@ -166,11 +166,11 @@ module _ (n m L : ℕ) (P : Tables) (l : Limited n L P) (few : n ≤ suc m) wher
       record {
         low = above-≼ (num (pull n P j)) (due-pull n P j hj) (above-neg (due j) (l .dues j hj .high));
         high = subst (λ a. Below (m * L + L) a) (pull-is n P j hj)
-            (unfold pullE overdue in below-sup n _
-            (λ i hi. below-⊗ (star n after i j) (num (neg (due i))) (star-within i j hi hj .high) (below-neg (due i) (l .dues i hi .low))));
+            (unfold pullE overdue inv in below-sup n _
+            (λ i hi. below-⊗ (star n order i j) (num (neg (due i))) (star-within i j hi hj .high) (below-neg (due i) (l .dues i hi .low))));
       }
 
-  module _ (np : NoGain n after) where
+  module _ (np : NoGain n order) where
     mark-landing : (i : ℕ) → i < panels → Within (m * L + 2 * L) (2 * L) (mv n (through n P) (timing (mark n P)) i)
     mark-landing i hi = rw (← mv-through n P (timing (mark n P)) (mark-keeps n P np) i) (unfold mv in (
         record {
@@ -182,7 +182,7 @@ module _ (n m L : ℕ) (P : Tables) (l : Limited n L P) (few : n ≤ suc m) wher
 
     -- Δ, from −3L to (N + 2)L
     pub least-within : Within (3 * L) (m * L + 3 * L) (num (least n P))
-    unfolding least leastE
+    unfolding least leastE shortfall
     least-within =
         record {
           low = above-val _ (above-sup panels _
@@ -232,9 +232,9 @@ module _ (n m L : ℕ) (P : Tables) (l : Limited n L P) (few : n ≤ suc m) wher
           record {
             low = unfold ray mv in above-sup n _
                 (λ j hj. above-more (omega arith)
-                (above-⊗ (star n after i j) (seed n P D s t j) (star-within i j hi hj .low) (seed-above j hj)));
+                (above-⊗ (star n order i j) (seed n P D s t j) (star-within i j hi hj .low) (seed-above j hj)));
             high = up-to (ray n P D s t i) (due i) (overdue-at n due (ray n P D s t) i hi ▸
-                ≼-of (ap (overdue n due) (ray-is-from n P D s t)) ▸ ray-overdue n P D (need n P D s) (selection-serving n P D s hs) t) (l .dues i hi .high) (pull-within t ht .high);
+                ≼-of (ap (overdue n (timing due)) (ray-is-from n P D s t)) ▸ ray-overdue n P D (need n P D s) (selection-serving n P D s hs) t) (l .dues i hi .high) (pull-within t ht .high);
           }
         where
           seed-above : (j : ℕ) → j < n → Above (2 * (m * L) + 6 * L) (seed n P D s t j)
@@ -272,10 +272,10 @@ module _ (n m L : ℕ) (P : Tables) (l : Limited n L P) (few : n ≤ suc m) wher
 within-more : {k l k' l' : ℕ} {a : E} → k ≤ k' → l ≤ l' → Within k l a → Within k' l' a
 within-more h i w = record { low = above-more h (w .low); high = below-more i (w .high) }
 
-module _ (n L : ℕ) (P : Tables) (l : Limited n L P) (six : n ≤ 6) where
-  open Tables P using (panels, lag, floor, due, after)
+module _ (n L : ℕ) (P : Cue) (l : Limited n L P) (six : n ≤ 6) where
+  open Cue P using (panels, lag, floor, due, order)
 
-  pub star-six : (i j : ℕ) → i < n → j < n → Within (5 * L) (5 * L) (star n after i j)
+  pub star-six : (i j : ℕ) → i < n → j < n → Within (5 * L) (5 * L) (star n order i j)
   star-six = star-within n 5 L P l six
 
   pub through-six : (i j : ℕ) → i < panels → j < n → Within (6 * L) (6 * L) (through n P i j)
@@ -287,7 +287,7 @@ module _ (n L : ℕ) (P : Tables) (l : Limited n L P) (six : n ≤ 6) where
   pub mark-six : (j : ℕ) → j < n → Within (6 * L) (1 * L) (num (mark n P j))
   mark-six j hj = let w = pull-six j hj in record { low = above-neg (pull n P j) (w .high); high = below-neg (pull n P j) (w .low) }
 
-  module _ (np : NoGain n after) where
+  module _ (np : NoGain n order) where
     pub least-six : Within (3 * L) (8 * L) (num (least n P))
     least-six = within-more (omega arith) (omega arith) (least-within n 5 L P l six np)
 
@@ -302,9 +302,9 @@ module _ (n L : ℕ) (P : Tables) (l : Limited n L P) (six : n ≤ 6) where
     line-six c hc i hi = within-more (omega arith) (omega arith) (line-within n 5 L P l six np c hc i hi)
 
 -- each finite result of the method, with how far down and how far up it goes, in limits: K k l a says of a that −k to l holds it
-pub record Results (K : ℕ → ℕ → E → Type 0) (n : ℕ) (P : Tables) : Type 0 where
-  pub powers : (k i j : ℕ) → k ≤ 6 → i < n → j < n → K k k (power n (P .after) k i j)
-  pub stars : (i j : ℕ) → i < n → j < n → K 5 5 (star n (P .after) i j)
+pub record Results (K : ℕ → ℕ → E → Type 0) (n : ℕ) (P : Cue) : Type 0 where
+  pub powers : (k i j : ℕ) → k ≤ 6 → i < n → j < n → K k k (power n (P .order) k i j)
+  pub stars : (i j : ℕ) → i < n → j < n → K 5 5 (star n (P .order) i j)
   pub throughs : (i j : ℕ) → i < P .panels → j < n → K 6 6 (through n P i j)
   pub marks : (j : ℕ) → j < n → K 6 1 (num (mark n P j))
   pub deviation : K 3 8 (num (least n P))
@@ -315,7 +315,7 @@ pub record Results (K : ℕ → ℕ → E → Type 0) (n : ℕ) (P : Tables) : T
 abbrev pub Limits : ℕ → ℕ → ℕ → E → Type 0
 Limits L k l a = Within (k * L) (l * L) a
 
-pub results-six : (n : ℕ) (P : Tables) → NoGain n (P .after) → (L : ℕ) → Limited n L P → n ≤ 6 → Results (Limits L) n P
+pub results-six : (n : ℕ) (P : Cue) → NoGain n (P .order) → (L : ℕ) → Limited n L P → n ≤ 6 → Results (Limits L) n P
 results-six n P np L l six =
     record {
       powers = λ k i j hk hi hj. power-within n 5 L P l six k i j hi hj;
@@ -339,7 +339,7 @@ signed32 k l {a} hk hl w = record { fits = λ z e. go z (w .low .above z e) (w .
     go (pos z) h i = (omega arith, omega arith)
     go (negsuc z) h i = (omega arith, omega arith)
 
-pub results-32 : (n : ℕ) (P : Tables) → NoGain n (P .after) → Limited n 100000 P → n ≤ 6 → Results (λ k l. Signed32) n P
+pub results-32 : (n : ℕ) (P : Cue) → NoGain n (P .order) → Limited n 100000 P → n ≤ 6 → Results (λ k l. Signed32) n P
 results-32 n P np l six =
     let r = results-six n P np 100000 l six in
     record {

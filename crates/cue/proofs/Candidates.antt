@@ -19,7 +19,7 @@ use Rattle.maxplus.proofs.TableLaws.{mv-mm, idm-same, idm-in, mv-mono, mv-shift
 use Rattle.maxplus.proofs.LineLaws.{at-line, normal-line, normal-present}
 use Rattle.maxplus.proofs.CombinationLaws.{Under, Met, Span}
 use Rattle.maxplus.proofs.StarLaws.{star-diag}
-use Rattle.cue.specs.Meaning.{Tables, Keeps, overdue}
+use Rattle.cue.specs.Cue.{Cue, Keeps, overdue, timing}
 use Rattle.cue.specs.Method.{Selection, through, pull, floor-panels, ask, kept, selections, need, seed, ray, candidate, candidates}
 use Rattle.cue.proofs.Order.{keeps-star, star-keeps}
 use Rattle.cue.proofs.Deviation.{overdue-there, pull-at, pull-overdue}
@@ -57,33 +57,33 @@ reach-E (num d) (num a) r s h =
     omega (arith, up-add a s, up-add a r, up-neg d, up-add a (neg d), up-add (a +z neg d) r, up-add d (a +z neg d +z r))
 
 -- step 6 for any w in the place of a selection's
-module _ (n : ℕ) (P : Tables) where
-  open Tables P using (panels, lag, floor, due, after)
+module _ (n : ℕ) (P : Cue) where
+  open Cue P using (panels, lag, floor, due, order)
 
   unfoldable pub seed-from : Vec → ℕ → Vec
   seed-from w t j = idm t j ⊕ w j ⊗ num (pull n P t)
 
   unfoldable pub ray-from : Vec → ℕ → Vec
-  ray-from w t = mv n (star n after) (seed-from w t)
+  ray-from w t = mv n (star n order) (seed-from w t)
 
   unfoldable pub line-from : Vec → ℕ → Line n
   line-from w t = line n (normal n (ray-from w t))
 
   -- M* was applied, so rays keep the order
-  ray-keeps : NoGain n after → (w : Vec) (t : ℕ) → Keeps n after (ray-from w t)
+  ray-keeps : NoGain n order → (w : Vec) (t : ℕ) → Keeps n order (ray-from w t)
   unfolding ray-from
-  ray-keeps np w t = star-keeps n after np (seed-from w t)
+  ray-keeps np w t = star-keeps n order np (seed-from w t)
 
   -- and have a component at their own trigger
   ray-diag : (w : Vec) (t : ℕ) → t < n → unit ≼ ray-from w t t
   unfolding ray-from seed-from
   ray-diag w t ht =
       ≼-back (⊗-unit unit) ▸
-      (⊗-mono (star-diag n after t ht) (≼-back (idm-same t) ▸ ⊕-l _ _)) ▸
-      mv-at n (star n after) (λ j. idm t j ⊕ w j ⊗ num (pull n P t)) t t ht
+      (⊗-mono (star-diag n order t ht) (≼-back (idm-same t) ▸ ⊕-l _ _)) ▸
+      mv-at n (star n order) (λ j. idm t j ⊕ w j ⊗ num (pull n P t)) t t ht
 
   -- M* is applied to w once: the ray of t is column t of M*, joined with M* w − r(t)
-  pub ray-split : (w : Vec) (t i : ℕ) → t < n → ray-from w t i ≡ star n after i t ⊕ num (pull n P t) ⊗ mv n (star n after) w i
+  pub ray-split : (w : Vec) (t i : ℕ) → t < n → ray-from w t i ≡ star n order i t ⊕ num (pull n P t) ⊗ mv n (star n order) w i
   unfolding ray-from seed-from
   ray-split w t i ht = ≼-anti
       (mv-⊕ n M (idm t) (λ j. w j ⊗ r) i ▸
@@ -92,7 +92,7 @@ module _ (n : ℕ) (P : Tables) where
       (≼-back (mv-shift n M r w i) ▸ mv-mono n M _ _ i (λ j hj. ≼-of (⊗-comm _ _) ▸ ⊕-r _ _)))
     where
       M : Mat
-      M = star n after
+      M = star n order
 
       r : E
       r = num (pull n P t)
@@ -104,8 +104,8 @@ module _ (n : ℕ) (P : Tables) where
   unfolding line-from
   line-from-normal w t ht = normal-line n (ray-from w t) t ht (ray-diag w t ht)
 
-module _ (n : ℕ) (P : Tables) (D : ℤ) where
-  open Tables P using (panels, lag, floor, due, after)
+module _ (n : ℕ) (P : Cue) (D : ℤ) where
+  open Cue P using (panels, lag, floor, due, order)
 
   -- w gives each panel with a floor what it asks for at one of its kept triggers
   abbrev pub Served : Vec → Type 0
@@ -133,28 +133,28 @@ module _ (n : ℕ) (P : Tables) (D : ℤ) where
         ((rw (← ⊗-assoc, ⊗-comm (num (pull n P j))) (⊗-left _ (v .marked j hj))) ▸ ≼-of (⊗-unit _)))
 
     -- a candidate is no further past due than its seed's first part
-    pub ray-overdue : (t : ℕ) → overdue n due (ray-from n P w t) ≼ num (pull n P t)
-    unfolding overdue ray-from mv
-    ray-overdue t = sup-lub n _ (λ i hi. rw sup-⊗r (sup-lub n _ (λ j hj. rw (⊗-comm (star n after i j), ⊗-assoc)
+    pub ray-overdue : (t : ℕ) → overdue n (timing due) (ray-from n P w t) ≼ num (pull n P t)
+    unfolding overdue inv ray-from mv
+    ray-overdue t = sup-lub n _ (λ i hi. rw sup-⊗r (sup-lub n _ (λ j hj. rw (⊗-comm (star n order i j), ⊗-assoc)
         (⊗-right _ (pull-at n P i j hi hj) ▸ seed-pull t j hj))))
 
-    ray-cone : NoGain n after → (t : ℕ) → Cone n P D (ray-from n P w t)
+    ray-cone : NoGain n order → (t : ℕ) → Cone n P D (ray-from n P w t)
     unfolding ray-from
     ray-cone np t =
         record {
-          order = unfold ray-from in ray-keeps n P np w t;
+          ordered = unfold ray-from in ray-keeps n P np w t;
           landed = λ i hi. ⊗-right _ (unfold ray-from in ray-overdue t) ▸ go i hi (present-dec (floor i));
         }
       where
         go : (i : ℕ) → i < panels → Dec (Present (floor i)) →
-            ask n P D i ⊗ num (pull n P t) ≼ mv n lag (mv n (star n after) (seed-from n P w t)) i
+            ask n P D i ⊗ num (pull n P t) ≼ mv n lag (mv n (star n order) (seed-from n P w t)) i
         go i hi (yes p) = let (j, hj, k, b) = v .served i hi p in rw (← mv-mm)
             (reach-E (through n P i j) (ask n P D i) (pull n P t) (pull n P j) (kept-above n P D i j k) ▸
             (⊗-right _ (⊗-left _ b ▸ seed-need t j)) ▸
             (unfold through in mv-at n (through n P) (seed-from n P w t) i j hj))
         go i hi (no p) = rw (absent-of (floor i) p) (rw (⊗-nothing, ⊗-nothing) (≼-absent _))
 
-    pub line-from-cone : NoGain n after → (t : ℕ) → Cone n P D (at n (line-from n P w t))
+    pub line-from-cone : NoGain n order → (t : ℕ) → Cone n P D (at n (line-from n P w t))
     unfolding line-from normal
     line-from-cone np t = cone-ext n P D (normal n y) (at n (line n (normal n y))) (λ i hi. sym (at-line n (normal n y) i hi))
         (cone-⊗ n P D (inv (sup n y)) y (ray-cone np t))
@@ -164,7 +164,7 @@ module _ (n : ℕ) (P : Tables) (D : ℤ) where
 
   -- ---- below a vector of the cone
   -- x keeps the order, is g past due, and w + g lies below x: then x(t) + the ray of w and t lies below x
-  module _ (x : Vec) (g : ℤ) (k : Keeps n after x) (e : overdue n due x ≡ num g)
+  module _ (x : Vec) (g : ℤ) (k : Keeps n order x) (e : overdue n (timing due) x ≡ num g)
       (w : Vec) (b : (t : ℕ) → t < n → w t ⊗ num g ≼ x t) where
     seed-below : (t j : ℕ) → t < n → j < n → x t ⊗ seed-from n P w t j ≼ x j
     unfolding seed-from
@@ -175,7 +175,7 @@ module _ (n : ℕ) (P : Tables) (D : ℤ) where
     ray-below : (t i : ℕ) → t < n → i < n → x t ⊗ ray-from n P w t i ≼ x i
     unfolding ray-from mv
     ray-below t i ht hi = rw sup-⊗
-        (sup-lub n _ (λ j hj. rw ⊗-left-comm (⊗-right _ (seed-below t j ht hj) ▸ keeps-star n after x k i j hi hj)))
+        (sup-lub n _ (λ j hj. rw ⊗-left-comm (⊗-right _ (seed-below t j ht hj) ▸ keeps-star n order x k i j hi hj)))
 
     -- so the line of j, shifted, lies below x and meets it at j
     pub line-from-under : (j : ℕ) → j < n → Present (at n (line-from n P w j) j) × Under n j (line-from n P w j) x
@@ -238,7 +238,7 @@ module _ (n : ℕ) (P : Tables) (D : ℤ) where
       served = λ i hi p. let (j, q) = fixed-panel i hi p in (j, fixed-kept i j q .0, fixed-kept i j q .1, need-at i j q);
     }
 
-  pub candidates-cone : NoGain n after → (c : Line n) → In c (candidates n P D) → Cone n P D (at n c)
+  pub candidates-cone : NoGain n order → (c : Line n) → In c (candidates n P D) → Cone n P D (at n c)
   candidates-cone np c h = let (t, s, ht, hs, e) = candidate-of c h in
       subst (λ c. Cone n P D (at n c)) (sym (e ∙ candidate-from s t)) (line-from-cone (need n P D s) (selection-serving s hs) np t)
 
@@ -251,12 +251,12 @@ module _ (n : ℕ) (P : Tables) (D : ℤ) where
 
   -- at each component that is there, a candidate lies below x and meets it
   pub cone-span : (x : Vec) → Cone n P D x → Span n (candidates n P D) x
-  cone-span x c j hj p = go (val (overdue n due x)) (overdue-there n due x j hj p)
+  cone-span x c j hj p = go (val (overdue n (timing due) x)) (overdue-there n due x j hj p)
     where
-      go : (g : ℤ) → overdue n due x ≡ num g → Met n (candidates n P D) x j
+      go : (g : ℤ) → overdue n (timing due) x ≡ num g → Met n (candidates n P D) x j
       go g e = fin (cone-selection n P D x g c e)
         where
           fin : (s : Selection) × In s (selections n P D) × ((i j : ℕ) → In (i, j) s → Serves n P D x g i j) → Met n (candidates n P D) x j
           fin (s, hs, v) =
-              let (p, u) = line-from-under x g (c .order) e (need n P D s) (λ t ht. need-below x g s v t) j hj in
+              let (p, u) = line-from-under x g (c .ordered) e (need n P D s) (λ t ht. need-below x g s v t) j hj in
               (line-from n P (need n P D s) j, rw (← candidate-from s j) (in-candidates s j hj hs), p, u)

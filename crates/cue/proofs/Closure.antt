@@ -20,7 +20,7 @@ use Rattle.maxplus.proofs.SupLaws.{sup-at, sup-⊗r}
 use Rattle.maxplus.proofs.TableLaws.{idm-eq}
 use Rattle.maxplus.proofs.StarLaws.{star-diag, star-step}
 use Rattle.cue.proofs.MinimalLaws.{Increasing, increasing-equal}
-use Rattle.cue.specs.Meaning.{Tables, overdue, landing}
+use Rattle.cue.specs.Cue.{Cue, overdue, landing, timing}
 use Rattle.cue.specs.Method.{least, ask, candidates, lines}
 use Rattle.cue.proofs.Order.{keeps-rule, keeps-power, keeps-star}
 use Rattle.cue.proofs.Deviation.{overdue-there}
@@ -36,20 +36,20 @@ middle-E (num a) absent y h k = absurd (h .un)
 middle-E (num a) (num x) absent h k = ≼-absent _
 middle-E (num a) (num x) (num y) {z} h k = omega (arith, up-add a x, up-add a y)
 
-module _ (n : ℕ) (P : Tables) (D : ℤ) (c : Vec) where
-  open Tables P using (panels, lag, floor, due, after)
+module _ (n : ℕ) (P : Cue) (D : ℤ) (c : Vec) where
+  open Cue P using (panels, lag, floor, due, order)
 
   -- A(k): M*(k,j) + c(j) = c(k)
   abbrev pub Holds : ℕ → ℕ → Type 0
-  Holds k j = star n after k j ⊗ c j ≡ c k
+  Holds k j = star n order k j ⊗ c j ≡ c k
 
   -- R: the triggers that reach the largest c(j) − q(j)
   abbrev pub Foremost : ℕ → Type 0
-  Foremost j = c j ⊗ num (neg (due j)) ≡ overdue n due c
+  Foremost j = c j ⊗ num (neg (due j)) ≡ overdue n (timing due) c
 
   -- the panel lands just where Δ asks, and all the triggers that reach its landing are in A(k)
   abbrev pub Fires : ℕ → ℕ → Type 0
-  Fires k i = Present (floor i) × ((ask n P D i ⊗ overdue n due c ≡ landing n P c i) × ((j : ℕ) → j < n → lag i j ⊗ c j ≡ landing n P c i →
+  Fires k i = Present (floor i) × ((ask n P D i ⊗ overdue n (timing due) c ≡ landing n P c i) × ((j : ℕ) → j < n → lag i j ⊗ c j ≡ landing n P c i →
       Holds k j))
 
   -- A(k), with A(R) where some panel fires
@@ -65,17 +65,17 @@ module _ (n : ℕ) (P : Tables) (D : ℤ) (c : Vec) where
   closure? k j = dec-⊎ (same-entry? _ _)
       (dec-× (fires? k) (some-dec (λ l. Foremost l × Holds l j) (λ l. dec-× (same-entry? _ _) (same-entry? _ _)) n))
 
-  module _ (np : NoGain n after) (cc : Cone n P D c) (g : ℤ) (eg : overdue n due c ≡ num g) where
+  module _ (np : NoGain n order) (cc : Cone n P D c) (g : ℤ) (eg : overdue n (timing due) c ≡ num g) where
     holds-refl : (j : ℕ) → j < n → Holds j j
-    holds-refl j hj = ≼-anti (keeps-star n after c (cc .order) j j hj hj) (≼-back (⊗-unit (c j)) ▸ ⊗-left _ (star-diag n after j hj))
+    holds-refl j hj = ≼-anti (keeps-star n order c (cc .ordered) j j hj hj) (≼-back (⊗-unit (c j)) ▸ ⊗-left _ (star-diag n order j hj))
 
     -- order rules close in one round
-    holds-step : (k i l : ℕ) → k < n → i < n → l < n → Holds k i → after i l ⊗ c l ≡ c i → Holds k l
-    holds-step k i l hk hi hl h e = ≼-anti (keeps-star n after c (cc .order) k l hk hl)
-        (≼-of (sym h ∙ ap (λ a. star n after k i ⊗ a) (sym e) ∙ sym (⊗-assoc _ _ _)) ▸ ⊗-left _ (star-step n after np k i l hk hi hl))
+    holds-step : (k i l : ℕ) → k < n → i < n → l < n → Holds k i → order i l ⊗ c l ≡ c i → Holds k l
+    holds-step k i l hk hi hl h e = ≼-anti (keeps-star n order c (cc .ordered) k l hk hl)
+        (≼-of (sym h ∙ ap (λ a. star n order k i ⊗ a) (sym e) ∙ sym (⊗-assoc _ _ _)) ▸ ⊗-left _ (star-step n order np k i l hk hi hl))
 
     holds-present : (k j : ℕ) → Present (c k) → Holds k j → Present (c j)
-    holds-present k j (z, ez) h = let (x, y, ex, ey, l) = ⊗-nums (star n after k j) (c j) (≼-of (sym ez ∙ sym h)) in (y, ey)
+    holds-present k j (z, ez) h = let (x, y, ex, ey, l) = ⊗-nums (star n order k j) (c j) (≼-of (sym ez ∙ sym h)) in (y, ey)
 
     foremost-present : (j : ℕ) → Foremost j → Present (c j)
     foremost-present j h = let (x, y, ex, ey, l) = ⊗-nums (c j) (num (neg (due j))) (≼-of (sym eg ∙ sym h)) in (x, ex)
@@ -91,17 +91,17 @@ module _ (n : ℕ) (P : Tables) (D : ℤ) (c : Vec) where
     closure-allowed : (k : ℕ) → k < n → Allowed n P D c (least-set k)
     closure-allowed k hk =
         record {
-          order = λ i l hi hl e t. decide-of (closure? k l) (order i l hi hl e (decide-yes (closure? k i) t));
+          ordered = λ i l hi hl e t. decide-of (closure? k l) (ordered i l hi hl e (decide-yes (closure? k i) t));
           landed = λ i hi p e a j hj r. decide-of (closure? k j)
               (inr (landed i hi p e (λ j hj q. decide-yes (closure? k j) (a j hj q)) (fires? k), (j, hj, (r, holds-refl j hj))));
         }
       where
-        order : (i l : ℕ) → i < n → l < n → after i l ⊗ c l ≡ c i → Closure k i → Closure k l
-        order i l hi hl e (inl h) = inl (holds-step k i l hk hi hl h e)
-        order i l hi hl e (inr (t, (m, hm, (f, h)))) = inr (t, (m, hm, (f, holds-step m i l hm hi hl h e)))
+        ordered : (i l : ℕ) → i < n → l < n → order i l ⊗ c l ≡ c i → Closure k i → Closure k l
+        ordered i l hi hl e (inl h) = inl (holds-step k i l hk hi hl h e)
+        ordered i l hi hl e (inr (t, (m, hm, (f, h)))) = inr (t, (m, hm, (f, holds-step m i l hm hi hl h e)))
 
         -- if no panel fires the set is A(k), and this panel fires
-        landed : (i : ℕ) → i < panels → Present (floor i) → ask n P D i ⊗ overdue n due c ≡ landing n P c i →
+        landed : (i : ℕ) → i < panels → Present (floor i) → ask n P D i ⊗ overdue n (timing due) c ≡ landing n P c i →
             ((j : ℕ) → j < n → lag i j ⊗ c j ≡ landing n P c i → Closure k j) → Dec ((i : ℕ) × (i < panels) × Fires k i) →
             (i : ℕ) × (i < panels) × Fires k i
         landed i hi p e a (yes t) = t
@@ -109,32 +109,32 @@ module _ (n : ℕ) (P : Tables) (D : ℤ) (c : Vec) where
 
     -- and least
     module _ (S : Triggers) (a : Allowed n P D c S) where
-      along-power : (m k j : ℕ) → k < n → j < n → Present (c k) → power n after m k j ⊗ c j ≡ c k → T (S k) → T (S j)
+      along-power : (m k j : ℕ) → k < n → j < n → Present (c k) → power n order m k j ⊗ c j ≡ c k → T (S k) → T (S j)
       unfolding power mm
       along-power zero k j hk hj (z, ez) e t = let (x, y, ex, ey, l) = ⊗-nums (idm k j) (c j) (≼-of (sym ez ∙ sym e)) in
           rw (← idm-eq k j (≼-back ex)) t
       along-power (suc m) k j hk hj (z, ez) e t =
-          let (i, hi, h) = sup-at n _ (≼-of (sym ez ∙ sym e) ▸ ≼-of (sup-⊗r n (c j) (λ i. after k i ⊗ power n after m i j))) in
-          let h' : num z ≼ after k i ⊗ (power n after m i j ⊗ c j) = h ▸ ≼-of (⊗-assoc _ _ _) in
-          let low : power n after m i j ⊗ c j ≼ c i = keeps-power n after c (cc .order) m i j hi hj in
-          let up-to : after k i ⊗ c i ≼ num z = keeps-rule n after c (cc .order) k i hk hi ▸ ≼-of ez in
-          let reach : num z ≼ after k i ⊗ c i = h' ▸ ⊗-right _ low in
-          let (x, y, ex, ey, l) = ⊗-nums (after k i) (c i) reach in
-          along-power m i j hi hj (y, ey) (≼-anti low (middle-E (after k i) (power n after m i j ⊗ c j) (c i) h' up-to))
-          (a .order k i hk hi (≼-anti up-to reach ∙ sym ez) t)
+          let (i, hi, h) = sup-at n _ (≼-of (sym ez ∙ sym e) ▸ ≼-of (sup-⊗r n (c j) (λ i. order k i ⊗ power n order m i j))) in
+          let h' : num z ≼ order k i ⊗ (power n order m i j ⊗ c j) = h ▸ ≼-of (⊗-assoc _ _ _) in
+          let low : power n order m i j ⊗ c j ≼ c i = keeps-power n order c (cc .ordered) m i j hi hj in
+          let up-to : order k i ⊗ c i ≼ num z = keeps-rule n order c (cc .ordered) k i hk hi ▸ ≼-of ez in
+          let reach : num z ≼ order k i ⊗ c i = h' ▸ ⊗-right _ low in
+          let (x, y, ex, ey, l) = ⊗-nums (order k i) (c i) reach in
+          along-power m i j hi hj (y, ey) (≼-anti low (middle-E (order k i) (power n order m i j ⊗ c j) (c i) h' up-to))
+          (a .ordered k i hk hi (≼-anti up-to reach ∙ sym ez) t)
 
       along-star : (k j : ℕ) → k < n → j < n → Present (c k) → Holds k j → T (S k) → T (S j)
       unfolding star
       along-star k j hk hj (z, ez) e t =
-          let (m, hm, h) = sup-at n _ (≼-of (sym ez ∙ sym e) ▸ ≼-of (sup-⊗r n (c j) (λ m. power n after m k j))) in
-          along-power m k j hk hj (z, ez) (≼-anti (keeps-power n after c (cc .order) m k j hk hj) (≼-of ez ▸ h)) t
+          let (m, hm, h) = sup-at n _ (≼-of (sym ez ∙ sym e) ▸ ≼-of (sup-⊗r n (c j) (λ m. power n order m k j))) in
+          along-power m k j hk hj (z, ez) (≼-anti (keeps-power n order c (cc .ordered) m k j hk hj) (≼-of ez ▸ h)) t
 
       closure-least : (k j : ℕ) → k < n → j < n → Present (c k) → T (S k) → Closure k j → T (S j)
       closure-least k j hk hj p t (inl h) = along-star k j hk hj p h t
       closure-least k j hk hj p t (inr ((i, hi, (f, (e, q))), (l, hl, (r, h)))) =
           along-star l j hl hj (foremost-present l r) h (a .landed i hi f e (λ j hj o. along-star k j hk hj p (q j hj o) t) l hl r)
 
-module _ (n : ℕ) (P : Tables) (D : ℤ) where
+module _ (n : ℕ) (P : Cue) (D : ℤ) where
   -- the closures of c's triggers have one in common
   abbrev pub Common : Line n → Type 0
   Common c = (j : ℕ) × (j < n) × ((k : ℕ) → k < n → Present (at n c k) → Closure n P D (at n c) k j)
@@ -145,7 +145,7 @@ module _ (n : ℕ) (P : Tables) (D : ℤ) where
       (λ k. dec-→ (present-dec (at n c k)) (closure? n P D (at n c) k j)) n) n
 
 -- c is extreme exactly when some trigger is in the closure of every trigger of c
-module _ (n : ℕ) (P : Tables) (D : ℤ) (np : NoGain n (P .after)) where
+module _ (n : ℕ) (P : Cue) (D : ℤ) (np : NoGain n (P .order)) where
   pub extreme-closure : (c : Line n) → Cone n P D (at n c) → Normal n c →
       Extreme n P D c ↔ Common n P D c
   extreme-closure c cc nc = (to, from)
@@ -154,12 +154,12 @@ module _ (n : ℕ) (P : Tables) (D : ℤ) (np : NoGain n (P .after)) where
       x = at n c
 
       g : ℤ
-      g = val (overdue n (P .due) x)
+      g = val (overdue n (timing (P .due)) x)
 
       top : Present (x (nc .top))
       top = (pos 0, nc .zero-there)
 
-      eg : overdue n (P .due) x ≡ num g
+      eg : overdue n (timing (P .due)) x ≡ num g
       eg = overdue-there n (P .due) x (nc .top) (nc .here) top
 
       to : Extreme n P D c → (j : ℕ) × (j < n) × ((k : ℕ) → k < n → Present (x k) → Closure n P D x k j)
@@ -182,7 +182,7 @@ module _ (n : ℕ) (P : Tables) (D : ℤ) (np : NoGain n (P .after)) where
             closure-least n P D x np cc g eg S a i j hi hj (s .within i hi t) t (f i hi (s .within i hi t)),
       )
 
-module _ (n : ℕ) (P : Tables) (np : NoGain n (P .after)) where
+module _ (n : ℕ) (P : Cue) (np : NoGain n (P .order)) where
   -- the lines are the candidates that pass the test
   pub lines-common : (c : Line n) → In c (lines n P) ↔ (In c (candidates n P (least n P)) × Common n P (least n P) c)
   lines-common c = (

@@ -16,7 +16,7 @@ use Rattle.maxplus.proofs.EntryLaws.{≼-refl, _▸_, ≼-anti, ≼-absent, ≼
 use Rattle.maxplus.proofs.EntryLaws.{⊗-nothing, distrib, val-of, num-⊗, ⊗-left-comm, absent-not}
 use Rattle.maxplus.proofs.SupLaws.{sup-lub}
 use Rattle.maxplus.proofs.TableLaws.{mv-mono, mv-shift, mv-⊕}
-use Rattle.cue.specs.Meaning.{Tables, timing, Keeps, overdue, landing, shortfall, deviation, Tightest, Readable}
+use Rattle.cue.specs.Cue.{Cue, timing, Keeps, overdue, landing, shortfall, deviation, Tightest, Readable}
 use Rattle.cue.specs.Method.{mark, least, ask}
 use Rattle.cue.proofs.Deviation.{overdue-⊕, overdue-shift, overdue-mono, mark-keeps, shortfall-at, lands, timing-overdue}
 use Rattle.cue.proofs.Deviation.{shortfall-there, at-least, reached, tightest-least}
@@ -39,19 +39,19 @@ sum-E : (D g : ℤ) → num g ⊗ num (D +z neg g) ≼ num D
 unfolding _⊗_
 sum-E D g = omega (arith, up-neg g, up-add D (neg g), up-add g (D +z neg g))
 
-module _ (n : ℕ) (P : Tables) (D : ℤ) where
-  open Tables P using (panels, lag, floor, due, after)
+module _ (n : ℕ) (P : Cue) (D : ℤ) where
+  open Cue P using (panels, lag, floor, due, order)
 
   pub record Cone (x : Vec) : Type 0 where
-    pub order : Keeps n after x
-    pub landed : (i : ℕ) → i < panels → ask n P D i ⊗ overdue n due x ≼ landing n P x i
+    pub ordered : Keeps n order x
+    pub landed : (i : ℕ) → i < panels → ask n P D i ⊗ overdue n (timing due) x ≼ landing n P x i
 
   -- ---- closed under the larger of two, under shifts, and so under combinations
   pub cone-⊕ : (x y : Vec) → Cone x → Cone y → Cone (λ j. x j ⊕ y j)
   unfolding Keeps
   cone-⊕ x y gx gy =
       record {
-        order = λ i j hi hj. rw distrib (⊕-lub (gx .order i j hi hj ▸ ⊕-l _ _) (gy .order i j hi hj ▸ ⊕-r _ _));
+        ordered = λ i j hi hj. rw distrib (⊕-lub (gx .ordered i j hi hj ▸ ⊕-l _ _) (gy .ordered i j hi hj ▸ ⊕-r _ _));
         landed = λ i hi. ⊗-right _ (overdue-⊕ n due x y) ▸ (rw distrib
             (⊕-lub (gx .landed i hi ▸ mv-mono n lag x _ i (λ j h. ⊕-l _ _)) (gy .landed i hi ▸ mv-mono n lag y _ i (λ j h. ⊕-r _ _))));
       }
@@ -60,7 +60,7 @@ module _ (n : ℕ) (P : Tables) (D : ℤ) where
   unfolding Keeps
   cone-⊗ a x g =
       record {
-        order = λ i j hi hj. rw (⊗-left-comm (after i j) a (x j)) (⊗-right _ (g .order i j hi hj));
+        ordered = λ i j hi hj. rw (⊗-left-comm (order i j) a (x j)) (⊗-right _ (g .ordered i j hi hj));
         landed = λ i hi. rw (overdue-shift n due a x, mv-shift n lag a x i, ⊗-left-comm) (⊗-right _ (g .landed i hi));
       }
 
@@ -68,7 +68,7 @@ module _ (n : ℕ) (P : Tables) (D : ℤ) where
   unfolding Keeps
   cone-ext x y e g =
       record {
-        order = λ i j hi hj. rw (← e i hi, ← e j hj) (g .order i j hi hj);
+        ordered = λ i j hi hj. rw (← e i hi, ← e j hj) (g .ordered i j hi hj);
         landed = λ i hi. ⊗-right _ (overdue-mono n due y x (λ j hj. ≼-back (e j hj))) ▸ g .landed i hi ▸
             mv-mono n lag x y i (λ j hj. ≼-of (e j hj));
       }
@@ -76,7 +76,7 @@ module _ (n : ℕ) (P : Tables) (D : ℤ) where
   pub cone-absent : Cone (λ i. absent)
   unfolding Keeps overdue
   cone-absent = record {
-    order = λ i j hi hj. rw ⊗-absent (≼-absent _);
+    ordered = λ i j hi hj. rw ⊗-absent (≼-absent _);
     landed = λ i hi. ⊗-right _ (sup-lub n _ {c = absent} (λ j hj. ≼-of (⊗-nothing _))) ▸
         (rw ⊗-absent (≼-absent _));
   }
@@ -89,8 +89,8 @@ module _ (n : ℕ) (P : Tables) (D : ℤ) where
       (cone-combination C (λ d h. g d (inr h)) w)
 
 -- ---- the timings in it are the tightest ones
-module _ (n : ℕ) (P : Tables) (R : Readable n P) (np : NoGain n (P .after)) where
-  open Tables P using (panels, lag, floor, due, after)
+module _ (n : ℕ) (P : Cue) (R : Readable n P) (np : NoGain n (P .order)) where
+  open Cue P using (panels, lag, floor, due, order)
 
   pub tightest-cone : (X : ℕ → ℤ) → Tightest n P X ↔ Cone n P (least n P) (timing X)
   tightest-cone X = (to, from)
@@ -99,32 +99,32 @@ module _ (n : ℕ) (P : Tables) (R : Readable n P) (np : NoGain n (P .after)) wh
       x = timing X
 
       g : ℤ
-      g = val (overdue n due x)
+      g = val (overdue n (timing due) x)
 
       s : ℤ
-      s = val (shortfall n P x)
+      s = val (shortfall panels n lag floor x)
 
       parts : deviation n P x ≡ num (g +z s)
-      parts = unfold deviation in (ap (λ e. e ⊗ shortfall n P x) (timing-overdue n P R X) ∙ ap (λ e. num g ⊗ e) (shortfall-there n P R X) ∙
+      parts = unfold deviation in (ap (λ e. e ⊗ shortfall panels n lag floor x) (timing-overdue n P R X) ∙ ap (λ e. num g ⊗ e) (shortfall-there n P R X) ∙
           num-⊗ g s)
 
       to : Tightest n P X → Cone n P (least n P) x
       to t = let h : g +z s ≤z least n P = (≼-back parts ▸ ≼-of (tightest-least n P R np X .0 t .1)) .un in
           record {
-            order = t .keeps;
+            ordered = t .keeps;
             landed = λ i hi. rw (timing-overdue n P R X) (floor-E (landing n P x i) (floor i) (least n P) g s (lands n P R X i hi)
                 (shortfall-at n P x i hi ▸ ≼-of (shortfall-there n P R X)) h);
           }
 
-      low : Cone n P (least n P) x → shortfall n P x ≼ num (least n P +z neg g)
+      low : Cone n P (least n P) x → shortfall panels n lag floor x ≼ num (least n P +z neg g)
       low c = unfold shortfall in sup-lub panels _
           (λ i hi. unfloor-E (landing n P x i) (floor i) (least n P) g (rw (timing-overdue n P R X) at (c .landed i hi)))
 
       from : Cone n P (least n P) x → Tightest n P X
       from c = tightest-least n P R np X .1 (
-        c .order,
+        c .ordered,
         ≼-anti
-            (unfold deviation in ⊗-mono (≼-of (timing-overdue n P R X)) (low c) ▸ sum-E (least n P) g) (at-least n P R np X (c .order)),
+            (unfold deviation in ⊗-mono (≼-of (timing-overdue n P R X)) (low c) ▸ sum-E (least n P) g) (at-least n P R np X (c .ordered)),
       )
 
   pub mark-tightest : Tightest n P (mark n P)
@@ -150,13 +150,13 @@ limit (num a) b (num g) h = go (⊕-or b (num (neg k) ⊗ num g))
     go (inl e) = h k ▸ ≼-of e
     go (inr e) = absurd (no-way (h k ▸ ≼-of e))
 
-module _ (n : ℕ) (P Q : Tables) (D F : ℤ) where
+module _ (n : ℕ) (P Q : Cue) (D F : ℤ) where
   pub timings-determine : (G : ℕ → ℤ) → Cone n P D (timing G) → ((X : ℕ → ℤ) → Cone n P D (timing X) → Cone n Q F (timing X)) → (v : Vec) →
       Cone n P D v → Cone n Q F v
   unfolding Keeps
   timings-determine G cG f v cv =
       record {
-        order = λ i j hi hj. limit _ _ (num (G i)) (λ k. ⊗-right _ (⊕-l _ _) ▸ cy k .order i j hi hj);
+        ordered = λ i j hi hj. limit _ _ (num (G i)) (λ k. ⊗-right _ (⊕-l _ _) ▸ cy k .ordered i j hi hj);
         landed = λ i hi. limit _ _ (landing n Q (timing G) i) (λ k. ⊗-right _ (overdue-mono n (Q .due) v (y k) (λ j hj. ⊕-l _ _)) ▸
             cy k .landed i hi ▸
             mv-⊕ n (Q .lag) v (λ i. num (neg k) ⊗ num (G i)) i ▸

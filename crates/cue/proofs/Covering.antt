@@ -13,7 +13,7 @@ use Rattle.maxplus.specs.Line.{Line, at, Normal}
 use Rattle.maxplus.proofs.WholeLaws.{up-add, up-neg}
 use Rattle.maxplus.proofs.EntryLaws.{≼-absent}
 use Rattle.maxplus.proofs.CombinationLaws.{Under}
-use Rattle.cue.specs.Meaning.{Tables, overdue}
+use Rattle.cue.specs.Cue.{Cue, overdue, timing}
 use Rattle.cue.specs.Method.{through, least, ask, lines}
 use Rattle.cue.proofs.Deviation.{overdue-there}
 use Rattle.cue.proofs.Cone.{Cone}
@@ -35,8 +35,8 @@ unshift-E absent x g h = ≼-absent _
 unshift-E (num w) absent g h = absurd (h .un)
 unshift-E (num w) (num x) g h = omega (arith, up-neg g, up-add x (neg g), up-add w g)
 
-module _ (n : ℕ) (P : Tables) where
-  open Tables P using (panels, floor, due, after)
+module _ (n : ℕ) (P : Cue) where
+  open Cue P using (panels, floor, due, order)
 
   pub record Covering (C : List (Line n)) : Type 0 where
     pub sound : (c : Line n) → In c C → Cone n P (least n P) (at n c) × Normal n c
@@ -44,12 +44,12 @@ module _ (n : ℕ) (P : Tables) where
         (w : Vec) × ((t : ℕ) → t < n → w t ≼ b t) × ((t : ℕ) → t < n → In (line-from n P w t) C)
 
   -- a vector of the cone, less what it is past due, serves
-  cone-serves : (x : Vec) (g : ℤ) → Cone n P (least n P) x → overdue n due x ≡ num g → Served n P (least n P) (λ j. x j ⊗ num (neg g))
+  cone-serves : (x : Vec) (g : ℤ) → Cone n P (least n P) x → overdue n (timing due) x ≡ num g → Served n P (least n P) (λ j. x j ⊗ num (neg g))
   cone-serves x g c e i hi p = let (j, hj, k, v) = cone-trigger n P (least n P) x g c e i hi p in
       (j, hj, k, unshift-E _ (x j) g (need-E (through n P i j) (x j) (ask n P (least n P) i) g (v .1)))
 
   -- the list is the extreme ones among them: an extreme line is met by a line from a w below it, and that is the line itself
-  pub lines-covered : NoGain n after → (C : List (Line n)) → Covering C → (c : Line n) →
+  pub lines-covered : NoGain n order → (C : List (Line n)) → Covering C → (c : Line n) →
       In c (lines n P) ↔ (In c C × Common n P (least n P) c)
   lines-covered np C v c = (to, from)
     where
@@ -66,9 +66,9 @@ module _ (n : ℕ) (P : Tables) where
           j = x .where-at
 
           g : ℤ
-          g = val (overdue n due (at n c))
+          g = val (overdue n (timing due) (at n c))
 
-          e : overdue n due (at n c) ≡ num g
+          e : overdue n (timing due) (at n c) ≡ num g
           e = overdue-there n due (at n c) j (x .in-range) (x .there)
 
           b : (w : Vec) × ((t : ℕ) → t < n → w t ≼ at n c t ⊗ num (neg g)) × ((t : ℕ) → t < n → In (line-from n P w t) C)
@@ -81,7 +81,7 @@ module _ (n : ℕ) (P : Tables) where
           s = v .sound d (b .2 j (x .in-range))
 
           u : Present (at n d j) × Under n j d (at n c)
-          u = line-from-under n P (least n P) (at n c) g (x .inside .order) e (b .0) (λ t ht. shift-E (b .0 t) (at n c t) g (b .1 t ht)) j (x .in-range)
+          u = line-from-under n P (least n P) (at n c) g (x .inside .ordered) e (b .0) (λ t ht. shift-E (b .0 t) (at n c t) g (b .1 t ht)) j (x .in-range)
 
       from : In c C × Common n P (least n P) c → In c (lines n P)
       from (i, k) = let (cc, nc) = v .sound c i in lines-extreme n P np c .1 (extreme-closure n P (least n P) np c cc nc .1 k)

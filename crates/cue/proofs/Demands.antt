@@ -15,7 +15,7 @@ use Rattle.maxplus.specs.Sorted.{Sorted}
 use Rattle.maxplus.specs.Combination.{Weighed, Combination}
 use Rattle.maxplus.proofs.LineLaws.{strict}
 use Rattle.cue.specs.Minimal.{others}
-use Rattle.cue.specs.Meaning.{Tables, timing, Keeps, deviation, Tightest, Readable}
+use Rattle.cue.specs.Cue.{Cue, timing, Keeps, deviation, Tightest, Readable}
 use Rattle.cue.specs.Method.{Entries, Selection, least, floor-panels, walk, steps, candidates, lines}
 use Rattle.cue.proofs.Order.{keeps-iff-unchanged}
 use Rattle.cue.proofs.Deviation.{at-least, least-reached, tightest-least, order-possible}
@@ -28,23 +28,23 @@ use Rattle.cue.proofs.Weights.{tightest-weighed}
 use Rattle.cue.proofs.TwoSheets.{lists-equal, written, TightestOf, written-lists-equal}
 
 -- ---- "Timings that keep the order exist exactly when no diagonal entry of powers 1 to n is above 0."
-pub order-kept : (n : ℕ) (P : Tables) → ((X : ℕ → ℤ) × Keeps n (P .after) (timing X)) ↔ NoGain n (P .after)
+pub order-kept : (n : ℕ) (P : Cue) → ((X : ℕ → ℤ) × Keeps n (P .order) (timing X)) ↔ NoGain n (P .order)
 order-kept = order-possible
 
-module _ (n : ℕ) (P : Tables) (R : Readable n P) (np : NoGain n (P .after)) where
+module _ (n : ℕ) (P : Cue) (R : Readable n P) (np : NoGain n (P .order)) where
   -- where they exist, what keeps the order, absent components allowed, is what M* leaves unchanged
-  pub order-unchanged : (x : Vec) → Keeps n (P .after) x ↔ ((i : ℕ) → i < n → mv n (star n (P .after)) x i ≡ x i)
-  order-unchanged = keeps-iff-unchanged n (P .after) np
+  pub order-unchanged : (x : Vec) → Keeps n (P .order) x ↔ ((i : ℕ) → i < n → mv n (star n (P .order)) x i ≡ x i)
+  order-unchanged = keeps-iff-unchanged n (P .order) np
 
   -- ---- "The least deviation Δ": no timing that keeps the order deviates by less, and one deviates by Δ
-  pub deviation-at-least : (X : ℕ → ℤ) → Keeps n (P .after) (timing X) → num (least n P) ≼ deviation n P (timing X)
+  pub deviation-at-least : (X : ℕ → ℤ) → Keeps n (P .order) (timing X) → num (least n P) ≼ deviation n P (timing X)
   deviation-at-least = at-least n P R np
 
-  pub deviation-reached : (X : ℕ → ℤ) × Keeps n (P .after) (timing X) × (deviation n P (timing X) ≡ num (least n P))
+  pub deviation-reached : (X : ℕ → ℤ) × Keeps n (P .order) (timing X) × (deviation n P (timing X) ≡ num (least n P))
   deviation-reached = least-reached n P R np
 
   -- "those that keep the order and reach the least deviation are the tightest ones"
-  pub tightest-test : (X : ℕ → ℤ) → Tightest n P X ↔ (Keeps n (P .after) (timing X) × (deviation n P (timing X) ≡ num (least n P)))
+  pub tightest-test : (X : ℕ → ℤ) → Tightest n P X ↔ (Keeps n (P .order) (timing X) × (deviation n P (timing X) ≡ num (least n P)))
   tightest-test = tightest-least n P R np
 
   -- ---- "A selection is complete when each panel with a floor has its trigger": whatever was fixed, each panel still to come has a
@@ -98,11 +98,11 @@ module _ (n : ℕ) (P : Tables) (R : Readable n P) (np : NoGain n (P .after)) wh
   sizes-32 = results-32 n P np
 
 -- ---- demand 3: "every timing is tightest on both sheets or on neither" exactly when the lists are the same
-pub demand-3 : (n : ℕ) (P Q : Tables) → Readable n P → Readable n Q → NoGain n (P .after) → NoGain n (Q .after) →
+pub demand-3 : (n : ℕ) (P Q : Cue) → Readable n P → Readable n Q → NoGain n (P .order) → NoGain n (Q .order) →
     (lines n P ≡ lines n Q) ↔ ((X : ℕ → ℤ) → Tightest n P X ↔ Tightest n Q X)
 demand-3 = lists-equal
 
 -- "both lines carry the same count of triggers and the same six components, absent matching only absent": for two counts of triggers
-pub demand-3-written : (n k : ℕ) (P Q : Tables) → n ≤ 6 → k ≤ 6 → Readable n P → Readable k Q → NoGain n (P .after) → NoGain k (Q .after) →
+pub demand-3-written : (n k : ℕ) (P Q : Cue) → n ≤ 6 → k ≤ 6 → Readable n P → Readable k Q → NoGain n (P .order) → NoGain k (Q .order) →
     (written n (lines n P) ≡ written k (lines k Q)) ↔ ((l : ℕ) (X : ℕ → ℤ) → TightestOf n P l X ↔ TightestOf k Q l X)
 demand-3-written = written-lists-equal

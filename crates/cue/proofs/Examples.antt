@@ -17,7 +17,7 @@ use Rattle.maxplus.proofs.FiniteLaws.{all-or, all-dec, any-dec, dec-×, dec-¬,
 use Rattle.maxplus.proofs.LineLaws.{ltE-cmp, ltL-cmp, strict, same?}
 use Rattle.maxplus.proofs.CombinationLaws.{under-dec, met?, asked?, combination?}
 use Rattle.cue.specs.Minimal.{others, needed?, minimal}
-use Rattle.cue.specs.Meaning.{Tables, overdue}
+use Rattle.cue.specs.Cue.{Cue, overdue, shortfall}
 use Rattle.cue.specs.Method.{through, pullE, pull, leastE, least, floor-panels, serves-as-well, cut, walk, fixings, kept, kept-byte}
 use Rattle.cue.specs.Method.{selections, steps, need, seed, ray, candidate, candidates, lines}
 
@@ -33,14 +33,14 @@ table (r ∷ t) zero = row r
 table (r ∷ t) (suc i) = table t i
 
 -- lags, floors and after rules; every due mark is 0
-abbrev sheet : List (List E) → List E → List (List E) → Tables
-sheet a p b = record { panels = length a; lag = table a; floor = row p; due = λ j. pos 0; after = table b }
+abbrev sheet : List (List E) → List E → List (List E) → Cue
+sheet a p b = record { panels = length a; lag = table a; floor = row p; due = λ j. pos 0; order = table b }
 
 -- Δ, each panel's kept triggers, steps, the number of selections, the lines
 abbrev Shown : ℕ → Type 0
 Shown n = ℤ × List ℕ × ℕ × ℕ × List (Line n)
 
-abbrev shown : (n : ℕ) → Tables → Shown n
+abbrev shown : (n : ℕ) → Cue → Shown n
 shown n P = (
   least n P,
   each (P .panels) (λ i. kept-byte n P (least n P) i ∷ []),
@@ -53,21 +53,21 @@ abbrev zero-lag : E
 zero-lag = num (pos 0)
 
 -- two panels that ask the same of two equal triggers: a trigger that serves the second as well as the first is taken for both
-abbrev alike : Tables
+abbrev alike : Cue
 alike = sheet ((zero-lag ∷ zero-lag ∷ []) ∷ (zero-lag ∷ zero-lag ∷ []) ∷ []) (zero-lag ∷ zero-lag ∷ []) []
 
 -- panel 2 has no floor
-abbrev one-floor : Tables
+abbrev one-floor : Cue
 one-floor = sheet ((zero-lag ∷ absent ∷ []) ∷ (absent ∷ zero-lag ∷ []) ∷ []) (zero-lag ∷ absent ∷ []) []
 
 -- trigger 1 comes 1 after trigger 2, and only trigger 2 reaches the panel: the rays of both triggers are one line
-abbrev followed : Tables
+abbrev followed : Cue
 followed = sheet ((absent ∷ zero-lag ∷ []) ∷ []) (zero-lag ∷ []) ((absent ∷ num (pos 1) ∷ []) ∷ [])
 
 computed : (shown 2 alike ≡ (pos 0, 3 ∷ 3 ∷ [], 4, 2, (absent, (unit, tt)) ∷ (unit, (absent, tt)) ∷ [])) ×
     (shown 2 one-floor ≡ (pos 0, 1 ∷ 0 ∷ [], 1, 1, (unit, (absent, tt)) ∷ (unit, (unit, tt)) ∷ [])) ×
     (shown 2 followed ≡ (pos 1, 2 ∷ [], 1, 1, (unit, (num (negsuc 0), tt)) ∷ []))
-unfolding least leastE through pull pullE overdue kept kept-byte floor-panels serves-as-well cut walk fixings selections steps need seed ray
+unfolding least leastE shortfall through pull pullE overdue kept kept-byte floor-panels serves-as-well cut walk fixings selections steps need seed ray
     candidate candidates lines minimal needed? others combination? asked? met? under-dec normal star power idm mm mv sup supL each mapL sum
     at line put sift strict same? ltE-cmp ltL-cmp ≼-dec z-dec present-dec all-or all-dec any-dec dec-× dec-→ dec-¬ decLe _⊗_ _⊕_ inv val
     maxz _+z_ neg

@@ -15,7 +15,7 @@ use Rattle.maxplus.proofs.WholeLaws.{up-add, up-neg}
 use Rattle.maxplus.proofs.EntryLaws.{_▸_, ≼-anti, ≼-absent, ≼-back, ⊗-left, ⊗-right, absent-not, cancel-r}
 use Rattle.maxplus.proofs.CombinationLaws.{weight-fits, weight-meets, Under, under-anti, Span, span-combination}
 use Rattle.cue.proofs.MinimalLaws.{Needed, in-minimal, Increasing, minimal-increasing, needed-alone, alone-needed, needed-meet}
-use Rattle.cue.specs.Meaning.{Tables, timing, Readable}
+use Rattle.cue.specs.Cue.{Cue, timing, Readable}
 use Rattle.cue.specs.Method.{mark, least, candidates, lines}
 use Rattle.cue.proofs.Cone.{Cone, cone-⊗, cone-ext, cone-combination, mark-cone}
 use Rattle.cue.proofs.Candidates.{candidates-normal, candidates-cone, cone-span}
@@ -28,8 +28,8 @@ unshift-E absent (num dj) xi (num xj) p e = rw (← e) (≼-absent _)
 unshift-E (num di) (num dj) xi (num xj) p e =
     rw (← e) (omega (arith, up-neg dj, up-add xj (neg dj), up-add (xj +z neg dj) di, up-add (xj +z neg dj +z di) dj, up-add di xj))
 
-module _ (n : ℕ) (P : Tables) (D : ℤ) where
-  open Tables P using (panels, lag, floor, due, after)
+module _ (n : ℕ) (P : Cue) (D : ℤ) where
+  open Cue P using (panels, lag, floor, due, order)
 
   -- every vector of the cone that lies below c and meets it at j is c
   abbrev pub Alone : Vec → ℕ → Type 0
@@ -61,7 +61,7 @@ module _ (n : ℕ) (P : Tables) (D : ℤ) where
 
   -- a candidate is no combination of the other ones exactly when it is extreme; and every extreme line is a candidate. A vector of the
   -- cone is met at j by a candidate below it; if it lies below c and meets c at j, that candidate is c, where c is needed at j.
-  pub needed-extreme : NoGain n after → (c : Line n) → Needed n (candidates n P D) c ↔ Extreme c
+  pub needed-extreme : NoGain n order → (c : Line n) → Needed n (candidates n P D) c ↔ Extreme c
   needed-extreme np c = (to, from)
     where
       C : List (Line n)
@@ -96,7 +96,7 @@ module _ (n : ℕ) (P : Tables) (D : ℤ) where
                   let l : Under n j c v = subst (λ d. Under n j d v) e ld in
                   cancel-r (at n c i) (v i) z (subst (λ e. at n c i ⊗ e ≼ v i ⊗ e) ez (⊗-right _ (≼-back ev) ▸ l i hi))
 
-module _ (n : ℕ) (P : Tables) where
+module _ (n : ℕ) (P : Cue) where
   pub in-lines : (c : Line n) → In c (lines n P) ↔ Needed n (candidates n P (least n P)) c
   unfolding lines
   in-lines c = in-minimal n (candidates n P (least n P)) c
@@ -108,7 +108,7 @@ module _ (n : ℕ) (P : Tables) where
   pub lines-normal : (c : Line n) → In c (lines n P) → Normal n c
   lines-normal c h = candidates-normal n P (least n P) c (in-lines c .0 h .0)
 
-module _ (n : ℕ) (P : Tables) (np : NoGain n (P .after)) where
+module _ (n : ℕ) (P : Cue) (np : NoGain n (P .order)) where
   -- the list is the extreme lines of the cone, in increasing order
   pub lines-extreme : (c : Line n) → In c (lines n P) ↔ Extreme n P (least n P) c
   lines-extreme c = (
@@ -131,12 +131,12 @@ module _ (n : ℕ) (P : Tables) (np : NoGain n (P .after)) where
   )
 
 -- the list is never empty
-module _ (n : ℕ) (P : Tables) (R : Readable n P) (np : NoGain n (P .after)) where
+module _ (n : ℕ) (P : Cue) (R : Readable n P) (np : NoGain n (P .order)) where
   pub some-line : (c : Line n) × In c (lines n P)
   some-line = let (c, hc, pc, lc) = lines-meet n P np (timing (mark n P)) (mark-cone n P R np) 0 (R .trigger) (mark n P 0, refl) in (c, hc)
 
 -- the extremes depend on the cone alone
-module _ (n : ℕ) (P Q : Tables) (D F : ℤ) where
+module _ (n : ℕ) (P Q : Cue) (D F : ℤ) where
   pub extreme-same : ((v : Vec) → Cone n P D v ↔ Cone n Q F v) → (c : Line n) → Extreme n P D c → Extreme n Q F c
   extreme-same e c x =
       record {

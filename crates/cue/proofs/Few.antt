@@ -11,7 +11,7 @@ use Rattle.maxplus.proofs.EachLaws.{map-length}
 use Rattle.maxplus.proofs.LineLaws.{strict}
 use Rattle.maxplus.proofs.SortedLaws.{sift-few}
 use Rattle.cue.specs.Minimal.{minimal, needed?}
-use Rattle.cue.specs.Meaning.{Tables}
+use Rattle.cue.specs.Cue.{Cue}
 use Rattle.cue.specs.Method.{least, selections, candidate, candidates, lines, floor-panels}
 use Rattle.cue.proofs.Walk.{selections-bound, floor-panels-few}
 
@@ -23,7 +23,7 @@ each-few (suc n) f h = omega (arith, length-append (each n f) (f n), each-few n 
 abbrev pub most : ℕ
 most = 279936
 
-module _ (n : ℕ) (P : Tables) (hn : n ≤ 6) (hm : P .panels ≤ 6) where
+module _ (n : ℕ) (P : Cue) (hn : n ≤ 6) (hm : P .panels ≤ 6) where
   selections-few : length (selections n P (least n P)) ≤ 46656
   selections-few =
       le-trans (selections-bound n P (least n P))

@@ -8,7 +8,7 @@ use Prim.Native.Nat.{ℕ, _<_}
 use lib.Dec.{T, T-not}
 use lib.IntN.{ℤ, pos}
 use Rattle.maxplus.specs.Whole.{neg}
-use Rattle.maxplus.specs.Entry.{E, absent, num, _≼_, leqE, _⊗_, _⊕_, Present, val}
+use Rattle.maxplus.specs.Entry.{E, absent, num, _≼_, leqE, _⊗_, _⊕_, Present, val, inv}
 use Rattle.maxplus.specs.Tables.{sup, Vec, mv}
 use Rattle.maxplus.specs.Line.{Line, at, Normal}
 use Rattle.maxplus.proofs.EntryLaws.{≼-refl, _▸_, ≼-anti, ≼-absent, ≼-of, ≼-back, ⊕-l, ⊕-r, ⊕-lub, ⊗-left, ⊗-right, ⊗-comm, ⊗-assoc}
@@ -16,7 +16,7 @@ use Rattle.maxplus.proofs.EntryLaws.{⊗-absent, ⊗-nothing, val-of, num-⊗, 
 use Rattle.maxplus.proofs.EntryLaws.{minus-one, equal-or-less, not-less, less-below}
 use Rattle.maxplus.proofs.FiniteLaws.{all-or, all-dec, dec-→}
 use Rattle.maxplus.proofs.SupLaws.{sup-ub, sup-lub, sup-at, sup-ext}
-use Rattle.cue.specs.Meaning.{Tables, Keeps, overdue, landing}
+use Rattle.cue.specs.Cue.{Cue, Keeps, overdue, landing, timing}
 use Rattle.cue.specs.Method.{ask}
 use Rattle.cue.proofs.Order.{keeps-rule}
 use Rattle.cue.proofs.Deviation.{overdue-mono, overdue-there}
@@ -111,8 +111,8 @@ sup-drop n f z S e = go (all-dec (λ j. f j ≡ num z → T (S j)) (λ j. dec-�
                 stays true r = absurd (k (λ q. rw r tt))
                 stays false r = elim (same-entry? (f j) (num z)) [ yes q ↦ ≼-back q | no q ↦ absurd (k (λ q'. absurd (q q'))) ]
 
-module _ (n : ℕ) (P : Tables) (D : ℤ) where
-  open Tables P using (panels, lag, floor, due, after)
+module _ (n : ℕ) (P : Cue) (D : ℤ) where
+  open Cue P using (panels, lag, floor, due, order)
 
   -- a set of triggers of c, with one in it
   pub record TriggerSet (c : Vec) (S : Triggers) : Type 0 where
@@ -178,12 +178,12 @@ module _ (n : ℕ) (P : Tables) (D : ℤ) where
   -- b(i,k) + c(k) = c(i): i in S asks k in S. A panel that lands just where Δ asks: all the triggers that reach its
   -- landing in S ask all that reach the largest c(j) − q(j) in S.
   pub record Allowed (c : Vec) (S : Triggers) : Type 0 where
-    pub order : (i k : ℕ) → i < n → k < n → after i k ⊗ c k ≡ c i → T (S i) → T (S k)
-    pub landed : (i : ℕ) → i < panels → Present (floor i) → ask n P D i ⊗ overdue n due c ≡ landing n P c i →
-        ((j : ℕ) → j < n → lag i j ⊗ c j ≡ landing n P c i → T (S j)) → (j : ℕ) → j < n → c j ⊗ num (neg (due j)) ≡ overdue n due c →
+    pub ordered : (i k : ℕ) → i < n → k < n → order i k ⊗ c k ≡ c i → T (S i) → T (S k)
+    pub landed : (i : ℕ) → i < panels → Present (floor i) → ask n P D i ⊗ overdue n (timing due) c ≡ landing n P c i →
+        ((j : ℕ) → j < n → lag i j ⊗ c j ≡ landing n P c i → T (S j)) → (j : ℕ) → j < n → c j ⊗ num (neg (due j)) ≡ overdue n (timing due) c →
         T (S j)
 
-  module _ (c : Vec) (cc : Cone n P D c) (g : ℤ) (eg : overdue n due c ≡ num g) (S : Triggers) (s : (i : ℕ) → i < n → T (S i) → Present (c i)) where
+  module _ (c : Vec) (cc : Cone n P D c) (g : ℤ) (eg : overdue n (timing due) c ≡ num g) (S : Triggers) (s : (i : ℕ) → i < n → T (S i) → Present (c i)) where
     -- c(j) − q(j), and a(i,j) + c(j)
     abbrev lateness : Vec
     lateness j = c j ⊗ num (neg (due j))
@@ -191,16 +191,16 @@ module _ (n : ℕ) (P : Tables) (D : ℤ) where
     abbrev arrival : ℕ → Vec
     arrival i j = lag i j ⊗ c j
 
-    overdue-drop : sup n (λ j. drop (S j) (c j ⊗ num (neg (due j)))) ≡ overdue n due (lower c S)
-    unfolding overdue
+    overdue-drop : sup n (λ j. drop (S j) (c j ⊗ num (neg (due j)))) ≡ overdue n (timing due) (lower c S)
+    unfolding overdue inv
     overdue-drop = sup-ext n (λ j hj. sym (drop-⊗r (S j) (c j) (num (neg (due j)))))
 
     landing-drop : (i : ℕ) → sup n (λ j. drop (S j) (lag i j ⊗ c j)) ≡ landing n P (lower c S) i
     unfolding mv
     landing-drop i = sup-ext n (λ j hj. sym (drop-⊗l (S j) (lag i j) (c j)))
 
-    overdue-lowered : Lowered n lateness g S (overdue n due (lower c S))
-    overdue-lowered = subst (Lowered n lateness g S) overdue-drop (sup-drop n lateness g S (unfold overdue in eg))
+    overdue-lowered : Lowered n lateness g S (overdue n (timing due) (lower c S))
+    overdue-lowered = subst (Lowered n lateness g S) overdue-drop (sup-drop n lateness g S (unfold overdue inv in eg))
 
     landing-lowered : (i : ℕ) (y : ℤ) → landing n P c i ≡ num y → Lowered n (arrival i) y S (landing n P (lower c S) i)
     landing-lowered i y e = subst (Lowered n (arrival i) y S) (landing-drop i) (sup-drop n (arrival i) y S (unfold mv in e))
@@ -213,22 +213,22 @@ module _ (n : ℕ) (P : Tables) (D : ℤ) where
     cone-allowed : Cone n P D (lower c S) → Allowed c S
     cone-allowed k =
         record {
-          order = λ i l hi hl e t. order i l hi hl e (S i) refl (S l) refl t;
+          ordered = λ i l hi hl e t. ordered i l hi hl e (S i) refl (S l) refl t;
           landed = λ i hi p e a j hj r. landed i hi p e a j hj r (landing-lowered i _ (landing-there i hi p)) overdue-lowered;
         }
       where
-        order : (i l : ℕ) → i < n → l < n → after i l ⊗ c l ≡ c i → (b : Bool) → S i ≡ b → (b' : Bool) → S l ≡ b' → T (S i) → T (S l)
-        order i l hi hl e b r true r' t = rw r' tt
-        order i l hi hl e false r false r' t = absurd (rw r at t)
-        order i l hi hl e true r false r' t = let (z, ez) = s i hi t in
-            absurd (not-less z (subst (λ a. a ≼ a ⊗ minus-one) ez (≼-of (sym e ∙ ap (λ b. after i l ⊗ drop b (c l)) (sym r')) ▸
-            keeps-rule n after (lower c S) (k .order) i l hi hl ▸ ≼-of (ap (λ b. drop b (c i)) r))))
+        ordered : (i l : ℕ) → i < n → l < n → order i l ⊗ c l ≡ c i → (b : Bool) → S i ≡ b → (b' : Bool) → S l ≡ b' → T (S i) → T (S l)
+        ordered i l hi hl e b r true r' t = rw r' tt
+        ordered i l hi hl e false r false r' t = absurd (rw r at t)
+        ordered i l hi hl e true r false r' t = let (z, ez) = s i hi t in
+            absurd (not-less z (subst (λ a. a ≼ a ⊗ minus-one) ez (≼-of (sym e ∙ ap (λ b. order i l ⊗ drop b (c l)) (sym r')) ▸
+            keeps-rule n order (lower c S) (k .ordered) i l hi hl ▸ ≼-of (ap (λ b. drop b (c i)) r))))
 
-        landed : (i : ℕ) → i < panels → Present (floor i) → ask n P D i ⊗ overdue n due c ≡ landing n P c i →
+        landed : (i : ℕ) → i < panels → Present (floor i) → ask n P D i ⊗ overdue n (timing due) c ≡ landing n P c i →
             ((j : ℕ) → j < n → lag i j ⊗ c j ≡ landing n P c i → T (S j)) →
-            (j : ℕ) → j < n → c j ⊗ num (neg (due j)) ≡ overdue n due c →
+            (j : ℕ) → j < n → c j ⊗ num (neg (due j)) ≡ overdue n (timing due) c →
             Lowered n (arrival i) (val (landing n P c i)) S (landing n P (lower c S) i) →
-            Lowered n lateness g S (overdue n due (lower c S)) → T (S j)
+            Lowered n lateness g S (overdue n (timing due) (lower c S)) → T (S j)
         landed i hi p e a j hj r (inr t) o = absurd (t .0 (λ j hj q. a j hj (q ∙ sym (landing-there i hi p))))
         landed i hi p e a j hj r (inl t) (inl o) = o .0 j hj (r ∙ eg)
         landed i hi p e a j hj r (inl t) (inr o) = absurd (not-less (val (landing n P c i))
@@ -237,24 +237,24 @@ module _ (n : ℕ) (P : Tables) (D : ℤ) where
     allowed-cone : Allowed c S → Cone n P D (lower c S)
     allowed-cone a =
         record {
-          order = unfold Keeps in (λ i l hi hl. order i l hi hl (S i) refl (S l) refl);
+          ordered = unfold Keeps in (λ i l hi hl. ordered i l hi hl (S i) refl (S l) refl);
           landed = λ i hi. landed i hi (present-dec (floor i));
         }
       where
-        order : (i l : ℕ) → i < n → l < n → (b : Bool) → S i ≡ b → (b' : Bool) → S l ≡ b' → after i l ⊗ drop (S l) (c l) ≼ drop (S i) (c i)
-        order i l hi hl false r b' r' = rw r (⊗-right _ (drop-below (S l) (c l)) ▸ keeps-rule n after c (cc .order) i l hi hl)
-        order i l hi hl true r true r' = rw (r, r') (≼-back (⊗-assoc _ _ _) ▸ ⊗-left _ (keeps-rule n after c (cc .order) i l hi hl))
-        order i l hi hl true r false r' =
-            rw (r, r') (tight (equal-or-less (after i l ⊗ c l) (c i) (keeps-rule n after c (cc .order) i l hi hl)))
+        ordered : (i l : ℕ) → i < n → l < n → (b : Bool) → S i ≡ b → (b' : Bool) → S l ≡ b' → order i l ⊗ drop (S l) (c l) ≼ drop (S i) (c i)
+        ordered i l hi hl false r b' r' = rw r (⊗-right _ (drop-below (S l) (c l)) ▸ keeps-rule n order c (cc .ordered) i l hi hl)
+        ordered i l hi hl true r true r' = rw (r, r') (≼-back (⊗-assoc _ _ _) ▸ ⊗-left _ (keeps-rule n order c (cc .ordered) i l hi hl))
+        ordered i l hi hl true r false r' =
+            rw (r, r') (tight (equal-or-less (order i l ⊗ c l) (c i) (keeps-rule n order c (cc .ordered) i l hi hl)))
           where
-            tight : (after i l ⊗ c l ≡ c i) ⊎ (after i l ⊗ c l ≼ c i ⊗ minus-one) → after i l ⊗ c l ≼ c i ⊗ minus-one
-            tight (inl e) = absurd (let t : T (S l) = a .order i l hi hl e (rw r tt) in rw r' at t)
+            tight : (order i l ⊗ c l ≡ c i) ⊎ (order i l ⊗ c l ≼ c i ⊗ minus-one) → order i l ⊗ c l ≼ c i ⊗ minus-one
+            tight (inl e) = absurd (let t : T (S l) = a .ordered i l hi hl e (rw r tt) in rw r' at t)
             tight (inr e) = e
 
-        overdue-low : overdue n due (lower c S) ≼ overdue n due c
+        overdue-low : overdue n (timing due) (lower c S) ≼ overdue n (timing due) c
         overdue-low = overdue-mono n due (lower c S) c (λ j hj. drop-below (S j) (c j))
 
-        landed : (i : ℕ) → i < panels → Dec (Present (floor i)) → ask n P D i ⊗ overdue n due (lower c S) ≼ landing n P (lower c S) i
+        landed : (i : ℕ) → i < panels → Dec (Present (floor i)) → ask n P D i ⊗ overdue n (timing due) (lower c S) ≼ landing n P (lower c S) i
         landed i hi (no p) = rw (absent-of (floor i) p) (rw (⊗-nothing, ⊗-nothing) (≼-absent _))
         landed i hi (yes p) = go (landing-lowered i y ey)
           where
@@ -264,15 +264,15 @@ module _ (n : ℕ) (P : Tables) (D : ℤ) where
             ey : landing n P c i ≡ num y
             ey = landing-there i hi p
 
-            at-most : ask n P D i ⊗ overdue n due c ≼ num y
+            at-most : ask n P D i ⊗ overdue n (timing due) c ≼ num y
             at-most = cc .landed i hi ▸ ≼-of ey
 
-            go : Lowered n (arrival i) y S (landing n P (lower c S) i) → ask n P D i ⊗ overdue n due (lower c S) ≼ landing n P (lower c S) i
+            go : Lowered n (arrival i) y S (landing n P (lower c S) i) → ask n P D i ⊗ overdue n (timing due) (lower c S) ≼ landing n P (lower c S) i
             go (inr t) = ⊗-right _ overdue-low ▸ at-most ▸ ≼-back (t .1)
             go (inl t) = rw (t .1) (tight (equal-or-less _ _ at-most) overdue-lowered)
               where
-                tight : (ask n P D i ⊗ overdue n due c ≡ num y) ⊎ (ask n P D i ⊗ overdue n due c ≼ num y ⊗ minus-one) →
-                    Lowered n lateness g S (overdue n due (lower c S)) → ask n P D i ⊗ overdue n due (lower c S) ≼ num y ⊗ minus-one
+                tight : (ask n P D i ⊗ overdue n (timing due) c ≡ num y) ⊎ (ask n P D i ⊗ overdue n (timing due) c ≼ num y ⊗ minus-one) →
+                    Lowered n lateness g S (overdue n (timing due) (lower c S)) → ask n P D i ⊗ overdue n (timing due) (lower c S) ≼ num y ⊗ minus-one
                 tight (inr e) o = ⊗-right _ overdue-low ▸ e
                 tight (inl e) (inl o) = ≼-of (ap (λ a. ask n P D i ⊗ a) (o .1 ∙ ap (λ a. a ⊗ minus-one) (sym eg)) ∙ sym (⊗-assoc _ _ _)) ▸
                     ⊗-left _ (≼-of e)
@@ -288,7 +288,7 @@ module _ (n : ℕ) (P : Tables) (D : ℤ) where
   )
     where
       g : ℤ
-      g = val (overdue n due (at n c))
+      g = val (overdue n (timing due) (at n c))
 
-      eg : overdue n due (at n c) ≡ num g
+      eg : overdue n (timing due) (at n c) ≡ num g
       eg = overdue-there n due (at n c) (nc .top) (nc .here) (pos 0, nc .zero-there)

@@ -14,13 +14,13 @@ use Rattle.maxplus.specs.Combination.{Weighed}
 use Rattle.maxplus.proofs.FiniteLaws.{in-map, map-in}
 use Rattle.maxplus.proofs.LineLaws.{line-ext, at-line}
 use Rattle.cue.proofs.MinimalLaws.{increasing-equal}
-use Rattle.cue.specs.Meaning.{Tables, Tightest, Readable}
+use Rattle.cue.specs.Cue.{Cue, Tightest, Readable}
 use Rattle.cue.specs.Method.{mark, least, lines}
 use Rattle.cue.proofs.Cone.{Cone, tightest-cone, mark-tightest, mark-cone, timings-determine}
 use Rattle.cue.proofs.Extreme.{lines-increasing, lines-extreme, some-line, extreme-same}
 use Rattle.cue.proofs.Weights.{tightest-weighed}
 
-module _ (n : ℕ) (P Q : Tables) (R : Readable n P) (S : Readable n Q) (np : NoGain n (P .after)) (nq : NoGain n (Q .after)) where
+module _ (n : ℕ) (P Q : Cue) (R : Readable n P) (S : Readable n Q) (np : NoGain n (P .order)) (nq : NoGain n (Q .order)) where
   -- the same timings, so the same cone, so the same extreme lines
   pub lists-equal : (lines n P ≡ lines n Q) ↔ ((X : ℕ → ℤ) → Tightest n P X ↔ Tightest n Q X)
   lists-equal = (there, back)
@@ -56,7 +56,7 @@ unfoldable pub written : (n : ℕ) → List (Line n) → List Written
 written n L = mapL (write n) L
 
 -- k whole numbers are tightest on a sheet of n triggers
-abbrev pub TightestOf : ℕ → Tables → ℕ → (ℕ → ℤ) → Type 0
+abbrev pub TightestOf : ℕ → Cue → ℕ → (ℕ → ℤ) → Type 0
 TightestOf n P k X = (k ≡ n) × Tightest n P X
 
 write-one : (n : ℕ) → n ≤ 6 → (c d : Line n) → write n c ≡ write n d → c ≡ d
@@ -83,12 +83,12 @@ count-in : (n k : ℕ) (c : Line n) (L : List (Line k)) → In (write n c) (writ
 unfolding written write
 count-in n k c L h = let (d, hd, e) = map-in (write k) L (write n c) h in ap (λ w. w .0) e
 
-abbrev Equal-when-tightest-agree : ℕ → Tables → ℕ → Tables → Type 0
+abbrev Equal-when-tightest-agree : ℕ → Cue → ℕ → Cue → Type 0
 Equal-when-tightest-agree n P k Q =
     (written n (lines n P) ≡ written k (lines k Q)) ↔ ((l : ℕ) (X : ℕ → ℤ) → TightestOf n P l X ↔ TightestOf k Q l X)
 
-module _ (n : ℕ) (P : Tables) (hn : n ≤ 6) (R : Readable n P) (np : NoGain n (P .after)) where
-  same-count : (Q : Tables) → Readable n Q → NoGain n (Q .after) → Equal-when-tightest-agree n P n Q
+module _ (n : ℕ) (P : Cue) (hn : n ≤ 6) (R : Readable n P) (np : NoGain n (P .order)) where
+  same-count : (Q : Cue) → Readable n Q → NoGain n (Q .order) → Equal-when-tightest-agree n P n Q
   same-count Q S nq = (
     λ e l X. let t = lists-equal n P Q R S np nq .0 (written-one n hn (lines n P) (lines n Q) e) X in
         (λ h. (h .0, t .0 (h .1)), λ h. (h .0, t .1 (h .1))),
@@ -96,19 +96,19 @@ module _ (n : ℕ) (P : Tables) (hn : n ≤ 6) (R : Readable n P) (np : NoGain n
   )
 
   -- another count: neither side holds, since lists are never empty and some timing is tightest
-  other-count : (k : ℕ) (Q : Tables) → ¬ (n ≡ k) → Equal-when-tightest-agree n P k Q
+  other-count : (k : ℕ) (Q : Cue) → ¬ (n ≡ k) → Equal-when-tightest-agree n P k Q
   other-count k Q d = (λ e. absurd (d (from-lists e)), λ f. absurd (d (f n (mark n P) .0 (refl, mark-tightest n P R np) .0)))
     where
       from-lists : written n (lines n P) ≡ written k (lines k Q) → n ≡ k
       from-lists e = let (c, hc) = some-line n P R np in
           count-in n k c (lines k Q) (subst (λ L. In (write n c) L) e (in-written n (lines n P) c hc))
 
-pub written-lists-equal : (n k : ℕ) (P Q : Tables) → n ≤ 6 → k ≤ 6 → Readable n P → Readable k Q → NoGain n (P .after) →
-    NoGain k (Q .after) →
+pub written-lists-equal : (n k : ℕ) (P Q : Cue) → n ≤ 6 → k ≤ 6 → Readable n P → Readable k Q → NoGain n (P .order) →
+    NoGain k (Q .order) →
     (written n (lines n P) ≡ written k (lines k Q)) ↔ ((l : ℕ) (X : ℕ → ℤ) → TightestOf n P l X ↔ TightestOf k Q l X)
 written-lists-equal n k P Q hn hk R S np nq = go (ℕ-discrete n k)
   where
     go : Dec (n ≡ k) → Equal-when-tightest-agree n P k Q
-    go (yes e) = subst (λ k. (Q : Tables) → Readable k Q → NoGain k (Q .after) → Equal-when-tightest-agree n P k Q) e
+    go (yes e) = subst (λ k. (Q : Cue) → Readable k Q → NoGain k (Q .order) → Equal-when-tightest-agree n P k Q) e
         (same-count n P hn R np) Q S nq
     go (no d) = other-count n P hn R np k Q d

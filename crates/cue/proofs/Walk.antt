@@ -19,7 +19,7 @@ use Rattle.maxplus.proofs.EntryLaws.{_▸_, ≼-absent, ≼-of, ≼-back, num-�
 use Rattle.maxplus.proofs.FiniteLaws.{in-each, each-in, in-map, map-in}
 use Rattle.maxplus.proofs.SupLaws.{sup-at}
 use Rattle.maxplus.proofs.EachLaws.{map-length}
-use Rattle.cue.specs.Meaning.{Tables, timing, overdue, Readable}
+use Rattle.cue.specs.Cue.{Cue, timing, overdue, Readable}
 use Rattle.cue.specs.Method.{Entries, Selection, through, pull, mark, least, floor-panels, serves-as-well, cut, walk, fixings, ask}
 use Rattle.cue.specs.Method.{kept, selections, steps}
 use Rattle.cue.proofs.Deviation.{pull-overdue, mv-through, timing-overdue}
@@ -106,8 +106,8 @@ unfolding sum
 sum-below zero c f h = omega arith
 sum-below (suc n) c f h = let a = sum-below n c f h in let b = h n in omega arith
 
-module _ (n : ℕ) (P : Tables) where
-  open Tables P using (panels, lag, floor, due, after)
+module _ (n : ℕ) (P : Cue) where
+  open Cue P using (panels, lag, floor, due, order)
 
   -- the panels walked are those with a floor
   pub floor-panels-in : (i : ℕ) → In i (floor-panels n P) → (i < panels) × Present (floor i)
@@ -303,7 +303,7 @@ module _ (n : ℕ) (P : Tables) where
     serves-carried i j k t v = carry-E (through n P i j) (x j) (through n P k j) (floor i) (floor k) D g (serves-as-well-iff i j k .0 t) v
 
     -- the trigger that lands x furthest serves, and it is kept, because x is nowhere past r by more than g
-    cone-kept : Cone n P D x → overdue n due x ≡ num g → (i : ℕ) → In i (floor-panels n P) → Left Serves (kept n P D) i
+    cone-kept : Cone n P D x → overdue n (timing due) x ≡ num g → (i : ℕ) → In i (floor-panels n P) → Left Serves (kept n P D) i
     cone-kept c e i q = go (floor-panels-in i q)
       where
         go : (i < panels) × Present (floor i) → Left Serves (kept n P D) i
@@ -311,25 +311,25 @@ module _ (n : ℕ) (P : Tables) where
             let a : num (z +z neg D +z g) ≡ ask n P D i ⊗ num g =
             sym (ap (λ e. e ⊗ num (neg D) ⊗ num g) ez ∙ ap (λ e. e ⊗ num g) (num-⊗ z (neg D)) ∙ num-⊗ _ g) in
             let (j, hj, h) = sup-at n (λ j. through n P i j ⊗ x j) (≼-of a ▸
-            (unfold mv in (rw (e, mv-through n P x (c .order) i) at (c .landed i hi)))) in (
+            (unfold mv in (rw (e, mv-through n P x (c .ordered) i) at (c .landed i hi)))) in (
               j,
               hj,
               kept-of D i j (z, ez)
-                  (kept-E (through n P i j) (x j) (floor i) D g (pull n P j) (≼-back a ▸ h) (pull-overdue n P x (c .order) j hj ▸ ≼-of e)),
+                  (kept-E (through n P i j) (x j) (floor i) D g (pull n P j) (≼-back a ▸ h) (pull-overdue n P x (c .ordered) j hj ▸ ≼-of e)),
               ((z, ez), ≼-back a ▸ h),
             )
 
-    pub cone-trigger : Cone n P D x → overdue n due x ≡ num g → (i : ℕ) → i < panels → Present (floor i) →
+    pub cone-trigger : Cone n P D x → overdue n (timing due) x ≡ num g → (i : ℕ) → i < panels → Present (floor i) →
         (j : ℕ) × (j < n) × T (kept n P D i j) × Serves i j
     cone-trigger c e i hi p = cone-kept c e i (in-floor-panels i hi p)
 
     -- every vector of the cone has a selection whose every fixing serves it
-    pub cone-selection : Cone n P D x → overdue n due x ≡ num g →
+    pub cone-selection : Cone n P D x → overdue n (timing due) x ≡ num g →
         (s : Selection) × In s (selections n P D) × ((i j : ℕ) → In (i, j) s → Serves i j)
     unfolding selections
     cone-selection c e = greedy Serves serves-carried (floor-panels n P) (kept n P D) (cone-kept c e)
 
-  module _ (R : Readable n P) (np : NoGain n after) where
+  module _ (R : Readable n P) (np : NoGain n order) where
     abbrev any : ℕ → ℕ → Type 0
     any i j = Unit {0}
 

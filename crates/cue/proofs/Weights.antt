@@ -16,7 +16,7 @@ use Rattle.maxplus.proofs.WholeLaws.{up-add, up-neg}
 use Rattle.maxplus.proofs.EntryLaws.{_▸_, ≼-anti, ≼-absent, ≼-of, ≼-back, ⊗-unit, val-of}
 use Rattle.maxplus.proofs.SupLaws.{sup-ub, sup-lub, supL-ub, supL-lub}
 use Rattle.maxplus.proofs.CombinationLaws.{Span}
-use Rattle.cue.specs.Meaning.{Tables, timing, Tightest, Readable}
+use Rattle.cue.specs.Cue.{Cue, timing, Tightest, Readable}
 use Rattle.cue.specs.Method.{lines}
 use Rattle.cue.proofs.Cone.{tightest-cone}
 use Rattle.cue.proofs.Extreme.{lines-normal, lines-meet, cone-combination-of-lines}
@@ -61,7 +61,7 @@ module _ (n : ℕ) where
           sup-lub n _ (λ i hi. meets-E (at n c i) (at n c j) (X i) (X j) (lc i hi)))) ▸
           supL-ub L (λ c. num (neg (slack c)) ⊗ at n c j) c hc
 
-module _ (n : ℕ) (P : Tables) (R : Readable n P) (np : NoGain n (P .after)) where
+module _ (n : ℕ) (P : Cue) (R : Readable n P) (np : NoGain n (P .order)) where
   pub tightest-weighed : (X : ℕ → ℤ) → Tightest n P X ↔ Weighed n (lines n P) X
   tightest-weighed X = (
     λ t. weigh n (lines n P) (lines-normal n P) X (lines-meet n P np (timing X) (tightest-cone n P R np X .0 t)),

@@ -10,7 +10,7 @@ use Rattle.maxplus.specs.Finite.{each, onlyIf, mapL, sum, countIf}
 use Rattle.maxplus.specs.Tables.{sup, supL, Vec, Mat, mv, mm, idm, star, normal}
 use Rattle.maxplus.specs.Line.{Line, line}
 use Rattle.cue.specs.Minimal.{minimal}
-use Rattle.cue.specs.Meaning.{Tables, timing, overdue}
+use Rattle.cue.specs.Cue.{Cue, timing, overdue, shortfall}
 
 -- which entries (panel, trigger) the walk still has, and the entries that it fixed, in sheet order
 abbrev pub Entries : Type 0
@@ -19,16 +19,16 @@ Entries = ℕ → ℕ → Bool
 abbrev pub Selection : Type 0
 Selection = List (ℕ × ℕ)
 
-module _ (n : ℕ) (P : Tables) where
-  open Tables P using (panels, lag, floor, due, after)
+module _ (n : ℕ) (P : Cue) where
+  open Cue P using (panels, lag, floor, due, order)
 
   -- step 2: "d is a times M*."
   unfoldable pub through : Mat
-  through = mm n lag (star n after)
+  through = mm n lag (star n order)
 
   -- "The new due mark r(j) is minus the largest of M*(i,j) − q(i)."
   unfoldable pub pullE : Vec
-  pullE j = overdue n due (λ i. star n after i j)
+  pullE j = overdue n (timing due) (λ i. star n order i j)
 
   unfoldable pub pull : ℕ → ℤ
   pull j = val (pullE j)
@@ -38,7 +38,7 @@ module _ (n : ℕ) (P : Tables) where
 
   -- step 3: "The least deviation Δ is the largest, over panels with a floor, of p(i) minus the largest d(i,j) + r(j)."
   unfoldable pub leastE : E
-  leastE = sup panels (λ i. floor i ⊗ inv (mv n through (timing mark) i))
+  leastE = shortfall panels n through floor (timing mark)
 
   unfoldable pub least : ℤ
   least = val leastE
@@ -100,7 +100,7 @@ module _ (n : ℕ) (P : Tables) where
 
     -- "apply M*"
     unfoldable pub ray : Selection → ℕ → Vec
-    ray s t = mv n (star n after) (seed s t)
+    ray s t = mv n (star n order) (seed s t)
 
     -- "and shift so that the greatest component is 0. These are the candidates."
     unfoldable pub candidate : Selection → ℕ → Line n

@@ -7,6 +7,9 @@ use Rattle.maxplus.specs.Finite.{each}
 use Rattle.maxplus.specs.Line.{Line, at}
 
 -- "In the lent space these are seven signed 32-bit words, absent being the least such number"
+abbrev pub line-size : ℕ
+line-size = 7
+
 abbrev pub signed : E → ℤ
 signed absent = negsuc 0x7fff_ffff
 signed (num z) = z

@@ -19,7 +19,7 @@ use Rattle.maxplus.proofs.FiniteLaws.{dec-×, some-dec}
 use Rattle.maxplus.proofs.SupLaws.{sup-ext}
 use Rattle.words.specs.Words.{entry}
 use Rattle.words.proofs.Laws.{entry-inj}
-use Rattle.cue.specs.Meaning.{Tables, overdue, landing}
+use Rattle.cue.specs.Cue.{Cue, timing, overdue, landing}
 use Rattle.cue.specs.Method.{least, ask}
 use Rattle.cue.proofs.Deviation.{overdue-there}
 use Rattle.cue.proofs.Closure as cue
@@ -39,8 +39,8 @@ asked a z = (
   λ p. (p .0 +z z, ap (λ e. e ⊗ num z) (p .1) ∙ num-⊗ (p .0) z),
 )
 
-module _ (n : ℕ) (P : Tables) (M : Marks) (stars lags needs : List (List ℕ)) (p : Prepared n P M stars lags needs) (w : List ℕ) where
-  open Tables P using (panels, lag, floor, due, after)
+module _ (n : ℕ) (P : Cue) (M : Marks) (stars lags needs : List (List ℕ)) (p : Prepared n P M stars lags needs) (w : List ℕ) where
+  open Cue P using (panels, lag, floor, due, order)
 
   abbrev D : ℤ
   D = least n P
@@ -66,8 +66,8 @@ module _ (n : ℕ) (P : Tables) (M : Marks) (stars lags needs : List (List ℕ))
       late-is : (j : ℕ) → j < n → meantV late j ≡ x j ⊗ num (neg (due j))
       late-is j h = hl .at j h ∙ ap₂ _⊗_ (sym (line-at n w j h)) (ap inv (p .due .at j h) ∙ inv-num (due j))
 
-      most-is : entry most ≡ overdue n due x
-      unfolding overdue
+      most-is : entry most ≡ overdue n (timing due) x
+      unfolding overdue inv
       most-is = hm ∙ sup-ext n late-is
 
       foremost-is : (l : ℕ) → l < n → (getD late l 0 ≡ most) ↔ Foremost n P D x l
@@ -95,7 +95,7 @@ module _ (n : ℕ) (P : Tables) (M : Marks) (stars lags needs : List (List ℕ))
         landing-is i hi = sup-ext n (λ j hj. time-is i j hi hj)
 
         tight-is : (i : ℕ) → i < panels →
-            Tight n (times i) (meantV (M .asks) i) (entry most) ↔ (Present (floor i) × (ask n P D i ⊗ overdue n due x ≡ landing n P x i))
+            Tight n (times i) (meantV (M .asks) i) (entry most) ↔ (Present (floor i) × (ask n P D i ⊗ overdue n (timing due) x ≡ landing n P x i))
         tight-is i hi = (
           λ t. (asked (floor i) (neg D) .0 (rw a at (t .0)), ap₂ _⊗_ (sym a) (sym most-is) ∙ t .1 ∙ landing-is i hi),
           λ t. (rw a (asked (floor i) (neg D) .1 (t .0)), ap₂ _⊗_ a most-is ∙ t .1 ∙ sym (landing-is i hi)),
@@ -125,7 +125,7 @@ module _ (n : ℕ) (P : Tables) (M : Marks) (stars lags needs : List (List ℕ))
               ),
             )
 
-            from : (i : ℕ) → i < panels → Present (floor i) → ask n P D i ⊗ overdue n due x ≡ landing n P x i →
+            from : (i : ℕ) → i < panels → Present (floor i) → ask n P D i ⊗ overdue n (timing due) x ≡ landing n P x i →
                 ((j : ℕ) → j < n → lag i j ⊗ x j ≡ landing n P x i → cue.Holds n P D x k j) →
                 bitAnd (getD tight i 0) (getD held k 0) ≡ getD tight i 0
             from i hi q e f = marked-inside (ht .at i (omega (arith, p .panels)) .tight (most-there k hk here) (tight-is i hi .1 (q, e))) (hh .at k hk) .1
@@ -176,7 +176,7 @@ module _ (n : ℕ) (P : Tables) (M : Marks) (stars lags needs : List (List ℕ))
                 go false f g = common-to (g refl)
 
 -- the marks tell n
-pub extreme-own : {n : ℕ} {P : Tables} {M : Marks} {stars lags needs : List (List ℕ)} (w : List ℕ) (r : Bool) →
+pub extreme-own : {n : ℕ} {P : Cue} {M : Marks} {stars lags needs : List (List ℕ)} (w : List ℕ) (r : Bool) →
     (Prepared (M .triggers) P M stars lags needs → Says (Common (M .triggers) P (least (M .triggers) P) (line-of (M .triggers) w)) r) →
     Prepared n P M stars lags needs → Says (Common n P (least n P) (line-of n w)) r
 extreme-own {n} {P} {M} {stars} {lags} {needs} w r f p =

@@ -5,7 +5,7 @@ ghost use Prim.Native.Nat.{ℕ, _+_, _*_, _≤_, _<_};
 ghost use lib.ListN.{getD};
 ghost use Rattle.maxplus.specs.Entry.{_⊗_, inv, Present};
 ghost use Rattle.words.specs.Words.{entry, Close};
-ghost use Rattle.cue.specs.Meaning.{Tables};
+ghost use Rattle.cue.specs.Cue.{Cue};
 ghost use Rattle.cue.specs.Method.{least};
 ghost use Rattle.cue.proofs.Closure.{Common};
 ghost use Rattle.sheet.specs.Sheet.{limit};
@@ -28,7 +28,7 @@ const NEVER: u8 = 64;
 // Whether some trigger is in the closure of every trigger of the line.
 pub fn extreme(line: Line, marks: Marks, star: &[[u64; 6]; 6], lag: &[[u64; 6]; 6]) -> bool
     requires { ⌜ Ready marks (now star) (now lag) × CloselyV (marks .triggers) (52 * limit) (line .at) ⌝ }
-    ensures { λ r. ⌜ ((n : ℕ) (P : Tables) (needs : List (List ℕ)) → Prepared n P marks (now (star .entry)) (now (lag .entry)) needs →
+    ensures { λ r. ⌜ ((n : ℕ) (P : Cue) (needs : List (List ℕ)) → Prepared n P marks (now (star .entry)) (now (lag .entry)) needs →
         Says (Common n P (least n P) (line-of n (line .at))) r) ⌝ }
 {
     let n = marks.triggers;

@@ -16,7 +16,7 @@ use Rattle.maxplus.proofs.LineLaws.{strict}
 use Rattle.maxplus.proofs.SortedLaws.{above, in-above, above-sorted, sorted-eq, sift-sorted, sift-in, in-sift}
 use Rattle.maxplus.proofs.GatherLaws.{sift-last, sift-skip, put-take}
 use Rattle.cue.proofs.MinimalLaws.{Increasing}
-use Rattle.cue.specs.Meaning.{Tables}
+use Rattle.cue.specs.Cue.{Cue}
 use Rattle.cue.specs.Method.{least, lines}
 use Rattle.cue.proofs.Closure.{Common}
 use Rattle.cue.proofs.Covering.{Covering, lines-covered}
@@ -34,7 +34,7 @@ use Rattle.gather.specs.Gathering.{Wanted, wanted?, first, Gathered, dra
 use Rattle.buffer.proofs.ListLaws.{sorted-take}
 use Rattle.buffer.proofs.HeldLaws.{stored-as, stored-ordered, stale-line, fresh-line}
 
-module _ (n : ℕ) (P : Tables) (last : Line n) where
+module _ (n : ℕ) (P : Cue) (last : Line n) where
   first-increasing : (C : List (Line n)) → Increasing n (first n P last C)
   unfolding first
   first-increasing C = sorted-take (ltL n) (strict n) room (sift (ltL n) (strict n) (wanted? n P last) C)
@@ -54,12 +54,12 @@ module _ (n : ℕ) (P : Tables) (last : Line n) where
     first-same : take room (put (ltL n) (strict n) c (first n P last C)) ≡ first n P last C → first n P last (C ++ c ∷ []) ≡ first n P last C
     first-same e = elim (wanted? n P last c) [ yes h ↦ first-put h ∙ e | no h ↦ first-skip h ]
 
-pub gathered-as : {n : ℕ} {P : Tables} {last : List ℕ} {C D : List (Line n)} {len : ℕ} {buf : List (List ℕ)} → Gathered n P last C len buf →
+pub gathered-as : {n : ℕ} {P : Cue} {last : List ℕ} {C D : List (Line n)} {len : ℕ} {buf : List (List ℕ)} → Gathered n P last C len buf →
     C ≡ D → Gathered n P last D len buf
 gathered-as {n} {P} {last} {len = len} {buf} g e = subst (λ C. Gathered n P last C len buf) e g
 
 -- ---- one line more in the buffer, or not
-module _ {n : ℕ} {P : Tables} {last c : List ℕ} {C : List (Line n)} {len : ℕ} {buf : List (List ℕ)}
+module _ {n : ℕ} {P : Cue} {last c : List ℕ} {C : List (Line n)} {len : ℕ} {buf : List (List ℕ)}
     (few : n ≤ 6) (z : Sized n last) (y : Sized n c) (g : Gathered n P last C len buf) where
   kept : first n P (line-of n last) (C ++ line-of n c ∷ []) ≡ first n P (line-of n last) C → Gathered n P last (C ++ line-of n c ∷ []) len buf
   kept e = record { stored = stored-as (g .stored) (sym e) }
@@ -126,7 +126,7 @@ module _ (n : ℕ) (S : Mat) (u : Vec) where
   ]
 
 -- when the lines considered cover the cone, the least lines above last are there
-pub first-all : {n : ℕ} {P : Tables} → NoGain n (P .after) → (C : List (Line n)) → Covering n P C → (last : Line n) →
+pub first-all : {n : ℕ} {P : Cue} → NoGain n (P .order) → (C : List (Line n)) → Covering n P C → (last : Line n) →
     first n P last C ≡ take room (rest n P last)
 unfolding first
 first-all {n} {P} np C v last = ap (take room) (sorted-eq (ltL n) (strict n) (sift (ltL n) (strict n) (wanted? n P last) C)
@@ -145,7 +145,7 @@ first-all {n} {P} np C v last = ap (take room) (sorted-eq (ltL n) (strict n) (si
 pub record Drawing (M : Marks) (stars lags : List (List ℕ)) (last y : List ℕ) (len₀ : ℕ) (buf₀ : List (List ℕ)) (t len : ℕ)
     (buf : List (List ℕ)) : Type 0 where
   pub so-far : t ≤ M .triggers
-  pub gathered : (P : Tables) (needs : List (List ℕ)) (C : List (Line (M .triggers))) (w : List ℕ) →
+  pub gathered : (P : Cue) (needs : List (List ℕ)) (C : List (Line (M .triggers))) (w : List ℕ) →
       Prepared (M .triggers) P M stars lags needs → HoldsV (M .triggers) (mv (M .triggers) (meant stars) (meantV w)) y →
       Gathered (M .triggers) P last C len₀ buf₀ →
       Gathered (M .triggers) P last (C ++ drawn (M .triggers) (meant stars) (meantV (M .pulls)) t w) len buf
@@ -160,7 +160,7 @@ module _ {M : Marks} {stars lags : List (List ℕ)} {last y : List ℕ} {len₀ 
   module _ {t len : ℕ} {buf : List (List ℕ)} (s : Drawing M stars lags last y len₀ buf₀ t len buf) where
     pub drawing-more : t < M .triggers → {r : candidates.Line} {more : ℕ} {after : List (List ℕ)} →
         Drawn (M .triggers) (52 * limit) (normal (M .triggers) (ray-of (meant stars) (meantV (M .pulls)) (meantV y) t)) r →
-        ((P : Tables) (needs : List (List ℕ)) (C : List (Line (M .triggers))) → Prepared (M .triggers) P M stars lags needs →
+        ((P : Cue) (needs : List (List ℕ)) (C : List (Line (M .triggers))) → Prepared (M .triggers) P M stars lags needs →
         Gathered (M .triggers) P last C len buf → Gathered (M .triggers) P last (C ++ line-of (M .triggers) (r .at) ∷ []) more after) →
         Drawing M stars lags last y len₀ buf₀ (t + 1) more after
     drawing-more q {r} e f = record {

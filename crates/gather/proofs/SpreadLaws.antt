@@ -19,7 +19,7 @@ use Rattle.maxplus.proofs.EntryLaws.{_▸_, ≼-absent, ≼-of, ≼-back, ⊕-l
 use Rattle.maxplus.proofs.FiniteLaws.{in-app, in-left, in-right, in-at, in-place}
 use Rattle.words.specs.Words.{entry}
 use Rattle.words.proofs.Laws.{entry-zero, entry-mono, close-none, close-larger}
-use Rattle.cue.specs.Meaning.{Tables}
+use Rattle.cue.specs.Cue.{Cue}
 use Rattle.cue.specs.Method.{through, least, floor-panels, ask, kept}
 use Rattle.cue.proofs.Cone.{Cone}
 use Rattle.cue.proofs.Walk.{and-of, and-r, floor-panels-in, in-floor-panels}
@@ -69,7 +69,7 @@ under-below : {n : ℕ} {a w : List ℕ} {b : Vec} → n ≤ 6 → Under a w →
 unfolding meantV
 under-below {a = a} {w} h u k j hj = entry-mono (getD a j 0) (getD w j 0) (u .at j (omega arith)) ▸ (unfold meantV in k j hj)
 
-module _ {M : Marks} {stars lags needs : List (List ℕ)} {P : Tables} (g : Prepared (M .triggers) P M stars lags needs) where
+module _ {M : Marks} {stars lags needs : List (List ℕ)} {P : Cue} (g : Prepared (M .triggers) P M stars lags needs) where
   abbrev n : ℕ
   n = M .triggers
 
@@ -168,7 +168,7 @@ module _ {M : Marks} {stars lags needs : List (List ℕ)} {P : Tables} (g : Prep
 pub record Drawn-to (M : Marks) (stars lags : List (List ℕ)) (last : List ℕ) (s : List (List ℕ)) (many len₀ : ℕ) (buf₀ : List (List ℕ))
     (k len : ℕ) (buf : List (List ℕ)) : Type 0 where
   pub so-far : k ≤ many
-  pub gathered : (P : Tables) (needs : List (List ℕ)) (C : List (Line (M .triggers))) → Prepared (M .triggers) P M stars lags needs →
+  pub gathered : (P : Cue) (needs : List (List ℕ)) (C : List (Line (M .triggers))) → Prepared (M .triggers) P M stars lags needs →
       Gathered (M .triggers) P last C len₀ buf₀ →
       Gathered (M .triggers) P last (C ++ drawn-all (M .triggers) (meant stars) (meantV (M .pulls)) (take k s)) len buf
 
@@ -181,7 +181,7 @@ module _ {M : Marks} {stars lags : List (List ℕ)} {last : List ℕ} {s : List 
 
   module _ {k len : ℕ} {buf : List (List ℕ)} (d : Drawn-to M stars lags last s many len₀ buf₀ k len buf) where
     pub drawn-to-more : k < many → many ≤ length s → {more : ℕ} {after : List (List ℕ)} →
-        ((P : Tables) (needs : List (List ℕ)) (C : List (Line (M .triggers))) → Prepared (M .triggers) P M stars lags needs →
+        ((P : Cue) (needs : List (List ℕ)) (C : List (Line (M .triggers))) → Prepared (M .triggers) P M stars lags needs →
         Gathered (M .triggers) P last C len buf →
         Gathered (M .triggers) P last (C ++ drawn (M .triggers) (meant stars) (meantV (M .pulls)) (M .triggers) (row s k)) more after) →
         Drawn-to M stars lags last s many len₀ buf₀ (k + 1) more after
@@ -200,7 +200,7 @@ module _ {M : Marks} {stars lags : List (List ℕ)} {last : List ℕ} {s : List 
 module _ {M : Marks} {stars lags needs : List (List ℕ)} {last : List ℕ} {s : List (List ℕ)} {from many level len : ℕ} {buf : List (List ℕ)} where
   -- at the last level the bounds are those of the set
   pub spread-end : {r : ℕ} {after : List (List ℕ)} → many ≤ length s → level ≡ M .levels → Bounds M needs level s many →
-      ((P : Tables) (needs : List (List ℕ)) (C : List (Line (M .triggers))) → Prepared (M .triggers) P M stars lags needs →
+      ((P : Cue) (needs : List (List ℕ)) (C : List (Line (M .triggers))) → Prepared (M .triggers) P M stars lags needs →
       Gathered (M .triggers) P last C len buf →
       Gathered (M .triggers) P last (C ++ drawn-all (M .triggers) (meant stars) (meantV (M .pulls)) (take many s)) r after) →
       Spread M stars lags needs last s from many level len buf r after
@@ -223,7 +223,7 @@ module _ {M : Marks} {stars lags needs : List (List ℕ)} {last : List ℕ} {s :
   }
 
   -- the bounds up to a place with one panel more, and then the others
-  pub spread-more : {to found held r : ℕ} {next mid after : List (List ℕ)} {P : Tables} → Prepared (M .triggers) P M stars lags needs → level < M .levels →
+  pub spread-more : {to found held r : ℕ} {next mid after : List (List ℕ)} {P : Cue} → Prepared (M .triggers) P M stars lags needs → level < M .levels →
       many ≤ places → to ≤ many → Bounds M needs level s many →
       Expanded s from to (getD (M .kept) level 0) (getD needs level []) (M .triggers) next found →
       Spread M stars lags needs last next 0 found (level + 1) len buf held mid →
@@ -267,13 +267,13 @@ none-bounds M needs k h = rw (first-none k h) (record {
   met = λ k h. let e : ⊥ = omega arith in absurd e;
 })
 
-pub none-gathered : (n : ℕ) (P : Tables) (last : List ℕ) (buf : List (List ℕ)) → length buf ≡ room → Gathered n P last [] 0 buf
+pub none-gathered : (n : ℕ) (P : Cue) (last : List ℕ) (buf : List (List ℕ)) → length buf ≡ room → Gathered n P last [] 0 buf
 unfolding first held sift mapL
 none-gathered n P last buf h = record { stored = record { few = omega arith; size = h; sized = λ w i. absurd i; lines = refl } }
 
 module _ {M : Marks} {stars lags needs : List (List ℕ)} {last : List ℕ} where
   pub spread-filled : {buf : List (List ℕ)} {r : ℕ} {after : List (List ℕ)} → length buf ≡ room →
-      Spread M stars lags needs last none 0 1 0 0 buf r after → (P : Tables) → Prepared (M .triggers) P M stars lags needs → Filled (M .triggers) P last r after
+      Spread M stars lags needs last none 0 1 0 0 buf r after → (P : Cue) → Prepared (M .triggers) P M stars lags needs → Filled (M .triggers) P last r after
   unfolding meantV
   spread-filled {buf} z s P g = record {
     stored = stored-as (s .gathered P [] g (none-gathered (M .triggers) P last buf z) .stored)

@@ -10,7 +10,7 @@ use Rattle.maxplus.specs.Sorted.{sift}
 use Rattle.maxplus.proofs.FiniteLaws.{dec-×}
 use Rattle.maxplus.proofs.LineLaws.{strict}
 use Rattle.maxplus.proofs.SortedLaws.{gt?, above}
-use Rattle.cue.specs.Meaning.{Tables}
+use Rattle.cue.specs.Cue.{Cue}
 use Rattle.cue.specs.Method.{least, lines}
 use Rattle.cue.proofs.Closure.{Common, common?}
 use Rattle.sheet.specs.Sheet.{limit}
@@ -22,7 +22,7 @@ use Rattle.candidates.specs.Prepared.{Prepared}
 use Rattle.candidates.specs.declared.Marks.{Marks}
 use Rattle.buffer.specs.Buffer.{room, row, Stored}
 
-module _ (n : ℕ) (P : Tables) (last : Line n) where
+module _ (n : ℕ) (P : Cue) (last : Line n) where
   -- a candidate that comes after last in the list
   abbrev pub Wanted : Line n → Type 0
   Wanted c = ltL n last c × Common n P (least n P) c
@@ -35,7 +35,7 @@ module _ (n : ℕ) (P : Tables) (last : Line n) where
   first C = take room (sift (ltL n) (strict n) wanted? C)
 
 -- the buffer holds the least of those among C
-pub record Gathered (n : ℕ) (P : Tables) (last : List ℕ) (C : List (Line n)) (len : ℕ) (buf : List (List ℕ)) : Type 0 where
+pub record Gathered (n : ℕ) (P : Cue) (last : List ℕ) (C : List (Line n)) (len : ℕ) (buf : List (List ℕ)) : Type 0 where
   pub stored : Stored n len buf (first n P (line-of n last) C)
 
 -- the lines of a bound w for the first k triggers, and those of all triggers for each of many bounds: S is M*, u the pulls −r
@@ -70,16 +70,16 @@ pub record Spread (M : Marks) (stars lags needs : List (List ℕ)) (last : List 
     (len : ℕ) (buf : List (List ℕ)) (r : ℕ) (after : List (List ℕ)) : Type 0 where
   pub used : List (List ℕ)
   pub bounds : (w : List ℕ) → In w used → Bound M needs (M .levels) w
-  pub gathered : (P : Tables) (C : List (Line (M .triggers))) → Prepared (M .triggers) P M stars lags needs →
+  pub gathered : (P : Cue) (C : List (Line (M .triggers))) → Prepared (M .triggers) P M stars lags needs →
       Gathered (M .triggers) P last C len buf →
       Gathered (M .triggers) P last (C ++ drawn-all (M .triggers) (meant stars) (meantV (M .pulls)) used) r after
   pub covers : (b : Vec) → ((l : ℕ) → level ≤ l → l < M .levels → Met M needs l b) →
       (k : ℕ) → from ≤ k → k < many → Below (M .triggers) (row set k) b → (w : List ℕ) × In w used × Below (M .triggers) w b
 
 -- the lines above last
-abbrev pub rest : (n : ℕ) → Tables → Line n → List (Line n)
+abbrev pub rest : (n : ℕ) → Cue → Line n → List (Line n)
 rest n P last = above (ltL n) (strict n) last (lines n P)
 
 -- the buffer holds the least of them, as many as there is room for
-pub record Filled (n : ℕ) (P : Tables) (last : List ℕ) (len : ℕ) (buf : List (List ℕ)) : Type 0 where
+pub record Filled (n : ℕ) (P : Cue) (last : List ℕ) (len : ℕ) (buf : List (List ℕ)) : Type 0 where
   pub stored : Stored n len buf (take room (rest n P (line-of n last)))

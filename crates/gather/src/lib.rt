@@ -4,7 +4,7 @@ ghost use Prim.Native.Nat.{ℕ, _+_, _*_, _≤_, _<_};
 ghost use lib.ListN.{length, take};
 ghost use mathlib.Core.Path.{_≡_};
 ghost use Rattle.maxplus.specs.Line as maxplus;
-ghost use Rattle.cue.specs.Meaning.{Tables};
+ghost use Rattle.cue.specs.Cue.{Cue};
 ghost use Rattle.sheet.specs.Sheet.{limit};
 ghost use Rattle.tables.specs.Held.{meant, meantV, CloselyV};
 ghost use Rattle.candidates.specs.Lines.{Sized, line-of};
@@ -34,10 +34,10 @@ fn consider(
     star: &[[u64; 6]; 6],
     lag: &[[u64; 6]; 6],
 ) -> usize
-    requires { ⌜ ((P : Tables) × (needs : List (List ℕ)) × (C : List (maxplus.Line (marks .triggers)))
+    requires { ⌜ ((P : Cue) × (needs : List (List ℕ)) × (C : List (maxplus.Line (marks .triggers)))
         × Prepared (marks .triggers) P marks (now star) (now lag) needs × Gathered (marks .triggers) P last C len (now buf))
         × Sized (marks .triggers) last × Sized (marks .triggers) (line .at) × CloselyV (marks .triggers) (52 * limit) (line .at) ⌝ }
-    ensures { λ r. ⌜ ((P : Tables) (needs : List (List ℕ)) (C : List (maxplus.Line (marks .triggers))) →
+    ensures { λ r. ⌜ ((P : Cue) (needs : List (List ℕ)) (C : List (maxplus.Line (marks .triggers))) →
         Prepared (marks .triggers) P marks (now (star .entry)) (now (lag .entry)) needs →
         Gathered (marks .triggers) P last C len (now (buf .entry)) →
         Gathered (marks .triggers) P last (C ++ line-of (marks .triggers) (line .at) ∷ []) r (now (buf .exit))) ⌝ }
@@ -66,10 +66,10 @@ fn consider_bound(
     star: &[[u64; 6]; 6],
     lag: &[[u64; 6]; 6],
 ) -> usize
-    requires { ⌜ ((P : Tables) × (needs : List (List ℕ)) × (C : List (maxplus.Line (marks .triggers)))
+    requires { ⌜ ((P : Cue) × (needs : List (List ℕ)) × (C : List (maxplus.Line (marks .triggers)))
         × Prepared (marks .triggers) P marks (now star) (now lag) needs × Gathered (marks .triggers) P last C len (now buf))
         × Sized (marks .triggers) last × CloselyV (marks .triggers) (15 * limit) bound ⌝ }
-    ensures { λ r. ⌜ ((P : Tables) (needs : List (List ℕ)) (C : List (maxplus.Line (marks .triggers))) →
+    ensures { λ r. ⌜ ((P : Cue) (needs : List (List ℕ)) (C : List (maxplus.Line (marks .triggers))) →
         Prepared (marks .triggers) P marks (now (star .entry)) (now (lag .entry)) needs →
         Gathered (marks .triggers) P last C len (now (buf .entry)) → Gathered (marks .triggers) P last
         (C ++ drawn (marks .triggers) (meant (now (star .entry))) (meantV (marks .pulls)) (marks .triggers) bound) r (now (buf .exit))) ⌝ }
@@ -102,11 +102,11 @@ fn consider_bounds(
     star: &[[u64; 6]; 6],
     lag: &[[u64; 6]; 6],
 ) -> usize
-    requires { ⌜ ((P : Tables) × (needs : List (List ℕ)) × (C : List (maxplus.Line (marks .triggers)))
+    requires { ⌜ ((P : Cue) × (needs : List (List ℕ)) × (C : List (maxplus.Line (marks .triggers)))
         × Prepared (marks .triggers) P marks (now star) (now lag) needs × Gathered (marks .triggers) P last C len (now buf))
         × Sized (marks .triggers) last × (many ≤ places) × (length (now set) ≡ places)
         × ((k : ℕ) → k < many → CloselyV (marks .triggers) (15 * limit) (row (now set) k)) ⌝ }
-    ensures { λ r. ⌜ ((P : Tables) (needs : List (List ℕ)) (C : List (maxplus.Line (marks .triggers))) →
+    ensures { λ r. ⌜ ((P : Cue) (needs : List (List ℕ)) (C : List (maxplus.Line (marks .triggers))) →
         Prepared (marks .triggers) P marks (now (star .entry)) (now (lag .entry)) needs →
         Gathered (marks .triggers) P last C len (now (buf .entry)) → Gathered (marks .triggers) P last
         (C ++ drawn-all (marks .triggers) (meant (now (star .entry))) (meantV (marks .pulls)) (take many (now (set .entry)))) r (now (buf .exit))) ⌝ }
@@ -142,7 +142,7 @@ fn spread(
     lag: &[[u64; 6]; 6],
     needs: &[[u64; 6]; 6],
 ) -> usize
-    requires { ⌜ ((P : Tables) × (C : List (maxplus.Line (marks .triggers)))
+    requires { ⌜ ((P : Cue) × (C : List (maxplus.Line (marks .triggers)))
         × Prepared (marks .triggers) P marks (now star) (now lag) (now needs) × Gathered (marks .triggers) P last C len (now buf))
         × Sized (marks .triggers) last × (many ≤ places) × (length (now set) ≡ places) × (level ≤ marks .levels)
         × Bounds marks (now needs) level (now set) many ⌝ }
@@ -205,8 +205,8 @@ pub fn gather(
     lag: &[[u64; 6]; 6],
     needs: &[[u64; 6]; 6],
 ) -> usize
-    requires { ⌜ ((P : Tables) × Prepared (marks .triggers) P marks (now star) (now lag) (now needs)) × Sized (marks .triggers) last × (length (now buf) ≡ room) ⌝ }
-    ensures { λ r. ⌜ ((P : Tables) → Prepared (marks .triggers) P marks (now (star .entry)) (now (lag .entry)) (now (needs .entry)) →
+    requires { ⌜ ((P : Cue) × Prepared (marks .triggers) P marks (now star) (now lag) (now needs)) × Sized (marks .triggers) last × (length (now buf) ≡ room) ⌝ }
+    ensures { λ r. ⌜ ((P : Cue) → Prepared (marks .triggers) P marks (now (star .entry)) (now (lag .entry)) (now (needs .entry)) →
         Filled (marks .triggers) P last r (now (buf .exit))) ⌝ }
 {
     let set = [[0u64; 6]; 64];

@@ -10,20 +10,20 @@ use lib.Seq.{ext-getD}
 use Rattle.maxplus.specs.Finite.{each}
 use Rattle.maxplus.proofs.EachLaws.{length-each, each-at, each-same}
 use lib.IntN.{ℤ}
-use Rattle.cue.specs.Meaning.{Tables}
+use Rattle.cue.specs.Cue.{Cue}
 use Rattle.cue.specs.Method.{least, kept-byte, kept-count, steps, selections}
 use Rattle.sheet.specs.Sheet.{Got, got}
 use Rattle.sheet.specs.Sheet as spec
-use Rattle.sheet.specs.Cue.{tables-of}
+use Rattle.sheet.specs.Cue.{cue-of}
 use Rattle.preparing.proofs.Results.{kept-ones}
 use Rattle.tables.proofs.Loops.{Filled}
 use Rattle.walk.specs.State.{countsOf}
 use Rattle.walk.specs.declared.Counts.{Counts}
 use Rattle.walk.proofs.Follows.{counts-follow}
-use Rattle.preparing.specs.Marked.{MarkedAs}
+use Rattle.preparing.specs.Prepared.{MarkedAs}
 use Rattle.preparing.specs.declared.Marked.{Marked}
 use Rattle.keeping.specs.Keeping.{kept-of, keeping, six, six-counts, kept-answer}
-use Rattle.preparing.specs.Orderly.{orderly}
+use Rattle.sheet.specs.Ordered.{ordered}
 use Rattle.keeping.specs.declared.KeptTable.{KeptTable}
 
 -- the byte and the number of panel i
@@ -81,7 +81,7 @@ same-table : {D E : ℤ} {p q : ℕ} {b c x y : List ℕ} {k l i j : ℕ} → D 
 same-table d p b x k i = cc
 
 pub walked-answer : (s : spec.Sheet) (x : List ℕ) {lags stars gains needs : List (List ℕ)} {r : Marked} →
-    MarkedAs (s .triggers) (tables-of s) lags stars gains needs r → (D : ℤ) → D ≡ least (s .triggers) (tables-of s) →
+    MarkedAs (s .triggers) (cue-of s) lags stars gains needs r → (D : ℤ) → D ≡ least (s .triggers) (cue-of s) →
     (ns : List ℕ) → ns ≡ six-counts (r .kept) → (k : Counts) → k ≡ countsOf (r .marks .kept) gains (r .marks .levels) →
     _≡_ {A = KeptTable}
     (record { refusal = 0; deviation = D; panels = r .marks .panels; kept = r .kept; counts = ns; steps = k .steps; selections = k .selections })
@@ -95,8 +95,8 @@ walked-answer s x {r} M D d ns e k f =
     n : ℕ
     n = s .triggers
 
-    P : Tables
-    P = tables-of s
+    P : Cue
+    P = cue-of s
 
     few : s .panels ≤ 6
     few = M .prepared .few-panels
@@ -105,6 +105,6 @@ walked-answer s x {r} M D d ns e k f =
     counted = f ∙ counts-follow (M .follows)
 
 -- ---- the outcomes
-pub keeping-of : (s : List ℕ) {g : Got spec.Sheet} → orderly s ≡ g → kept-of g ≡ keeping s
+pub keeping-of : (s : List ℕ) {g : Got spec.Sheet} → ordered s ≡ g → kept-of g ≡ keeping s
 unfolding keeping
 keeping-of s e = sym (ap kept-of e)

@@ -7,8 +7,8 @@ use lib.ListN.{length, getD, replicate}
 use Rattle.maxplus.specs.Finite.{each}
 use Rattle.cue.specs.Method.{least, kept-byte, kept-count, steps, selections}
 use Rattle.sheet.specs.Sheet.{Got, got, Sheet}
-use Rattle.sheet.specs.Cue.{tables-of}
-use Rattle.preparing.specs.Orderly.{orderly}
+use Rattle.sheet.specs.Cue.{cue-of}
+use Rattle.sheet.specs.Ordered.{ordered}
 use Rattle.keeping.specs.declared.KeptTable.{KeptTable}
 use Rattle.sheet.specs.Sheet as sheet
 
@@ -21,12 +21,12 @@ abbrev pub kept-of : Got Sheet → KeptOutcome
 kept-of (sheet.refused k) = refused k
 kept-of (got t r) =
     let n = t .triggers in
-    let P = tables-of t in
+    let P = cue-of t in
     let D = least n P in
     kept D (each (t .panels) (λ i. (kept-byte n P D i, kept-count n P D i) ∷ [])) (steps n P D) (length (selections n P D))
 
 unfoldable pub keeping : List ℕ → KeptOutcome
-keeping s = kept-of (orderly s)
+keeping s = kept-of (ordered s)
 
 -- the first six of a list of pairs, part by part, and 0 past its end
 abbrev pub six : (ℕ → ℕ) → List ℕ

@@ -20,15 +20,24 @@ pub fn kept_table(bytes: &[u8]) -> KeptTable
     ensures { λ r. ⌜ r ≡ kept-answer (keeping (now (bytes .entry))) ⌝ }
 {
     let blank = [0u64; 6];
+    let mut order = [blank; 6];
     let mut lag = [blank; 6];
     let mut star = [blank; 6];
     let mut gains = [blank; 6];
     let mut needs = [blank; 6];
-    let ready = preparing::prepare(bytes, &mut lag, &mut star, &mut gains, &mut needs);
-    if ready.refusal != 0 {
-        return no_table(ready.refusal);
+    let reading = reading::read_sheet(bytes);
+    let prepared = preparing::prepare(
+        reading,
+        &mut order,
+        &mut lag,
+        &mut star,
+        &mut gains,
+        &mut needs,
+    );
+    if prepared.refusal != 0 {
+        return no_table(prepared.refusal);
     }
-    let marked = ready.marked;
+    let marked = prepared.marked;
     let marks = marked.marks;
     let f = marks.levels;
     let m = marks.panels;

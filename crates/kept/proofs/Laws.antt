@@ -21,7 +21,8 @@ use Rattle.sheet.proofs.Good.{read-good}
 use Rattle.advice.specs.Advice.{advice}
 use Rattle.writing.specs.Texts.{kept-text, refusal-text}
 use Rattle.keeping.specs.Keeping.{KeptOutcome, kept, refused, kept-of, keeping, six, kept-answer}
-use Rattle.preparing.specs.Orderly.{orderly}
+use Rattle.sheet.specs.Cue.{Orderly, orderly?}
+use Rattle.sheet.specs.Ordered.{ordered}
 use Rattle.keeping.specs.declared.KeptTable.{KeptTable}
 use Rattle.advice.proofs.AdviceLaws.{advised}
 use Rattle.kept.specs.Output.{kept-output, kept-complaint}
@@ -31,19 +32,19 @@ Sound (kept D panels k l) = length panels ≤ 6
 Sound (refused k) = (1 ≤ k) × (k ≤ 8)
 
 -- a sheet that was read, whether or not its order can be kept
-ordered-sound : (s : List ℕ) (t : Sheet) (r : List ℕ) → read s ≡ got t r → (d : Dec (NoGain (t .triggers) (t .after))) →
+ordered-sound : (s : List ℕ) (t : Sheet) (r : List ℕ) → read s ≡ got t r → (d : Dec (Orderly t)) →
     Sound (kept-of (elim d [ yes h ↦ got t r | no h ↦ sheet.refused 8 ]))
 ordered-sound s t r e (yes h) = simp length-each (read-good s t r e .panels-few)
 ordered-sound s t r e (no h) = (omega arith, omega arith)
 
 pub keeping-sound : (s : List ℕ) → Sound (keeping s)
-unfolding keeping orderly
+unfolding keeping ordered
 keeping-sound s = go (read s) refl
   where
     go : (g : Got Sheet) → read s ≡ g →
-        Sound (kept-of (g >>= λ t r. elim (no-gain? (t .triggers) (t .after)) [ yes h ↦ got t r | no h ↦ sheet.refused 8 ]))
+        Sound (kept-of (g >>= λ t r. elim (orderly? t) [ yes h ↦ got t r | no h ↦ sheet.refused 8 ]))
     go (sheet.refused k) e = let n = refusal-known s k e in (n .0, let m = n .1 in omega arith)
-    go (got t r) e = ordered-sound s t r e (no-gain? (t .triggers) (t .after))
+    go (got t r) e = ordered-sound s t r e (orderly? t)
 
 -- the first six pairs, part by part, are the pairs again
 module _ (P : List (ℕ × ℕ)) (few : length P ≤ 6) where

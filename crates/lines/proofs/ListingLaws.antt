@@ -15,7 +15,7 @@ use Rattle.maxplus.specs.Sorted.{Strict, Sorted}
 use Rattle.maxplus.proofs.FiniteLaws.{in-app, in-right, in-map}
 use Rattle.maxplus.proofs.LineLaws.{strict}
 use Rattle.maxplus.proofs.SortedLaws.{above, in-above, above-sorted, sorted-eq}
-use Rattle.cue.specs.Meaning.{Tables}
+use Rattle.cue.specs.Cue.{Cue}
 use Rattle.cue.specs.Method.{lines}
 use Rattle.cue.proofs.Extreme.{lines-increasing, lines-normal}
 use Rattle.cue.proofs.Bounds.{line-six}
@@ -50,7 +50,7 @@ unfolding line-of meantV
 blank-below n c h = below-some n (meantV blank) c (h .top) (h .here)
     (λ k. ap entry (sized-none 0 .past k (omega arith)) ∙ entry-zero) (pos 0, h .zero-there)
 
-pub above-blank : (n : ℕ) (P : Tables) → above (ltL n) (strict n) (line-of n blank) (lines n P) ≡ lines n P
+pub above-blank : (n : ℕ) (P : Cue) → above (ltL n) (strict n) (line-of n blank) (lines n P) ≡ lines n P
 above-blank n P = sorted-eq (ltL n) (strict n) _ (lines n P) (above-sorted (ltL n) (strict n) (line-of n blank) (lines n P)) (lines-increasing n P)
     (λ c h. in-above (ltL n) (strict n) (line-of n blank) (lines n P) c .0 h .0)
     (λ c h. in-above (ltL n) (strict n) (line-of n blank) (lines n P) c .1 (h, blank-below n c (lines-normal n P c h)))
@@ -83,7 +83,7 @@ module _ {A : Type 0} (lt : A → A → Type 0) (S : Strict lt) where
           (in-above lt S a l c .0 (subst (λ r. In c r) (sym e) (in-right k (b ∷ m) c (inr h))) .0, q .1 .0 c h)
 
 -- ---- a buffer that was not filled holds all, and a full one leaves what is above its last line
-module _ {n len : ℕ} {P : Tables} {last : List ℕ} {buf : List (List ℕ)} (few : n ≤ 6) (s : Filled n P last len buf) where
+module _ {n len : ℕ} {P : Cue} {last : List ℕ} {buf : List (List ℕ)} (few : n ≤ 6) (s : Filled n P last len buf) where
   abbrev left : List (Line n)
   left = rest n P (line-of n last)
 
@@ -106,11 +106,11 @@ module _ {n len : ℕ} {P : Tables} {last : List ℕ} {buf : List (List ℕ)} (f
       after = sym (above-after (ltL n) (strict n) (line-of n last) b (lines n P) (take 127 left) (drop room left)
           (split-at left 127 (line-of n last) (omega (arith, filled-few)))) ∙ ap (rest n P) e
 
-pub lines-few : {P : Tables} {M : Marks} {stars lags needs : List (List ℕ)} → Prepared (M .triggers) P M stars lags needs → length (lines (M .triggers) P) ≤ most
+pub lines-few : {P : Cue} {M : Marks} {stars lags needs : List (List ℕ)} → Prepared (M .triggers) P M stars lags needs → length (lines (M .triggers) P) ≤ most
 lines-few {P} {M} g = few.lines-few (M .triggers) P (g .few) (g .few-panels)
 
 -- ---- the words of lines that are held fit
-pub held-close : {n len : ℕ} {P : Tables} {M : Marks} {stars lags needs buf : List (List ℕ)} {last : List ℕ} → Prepared n P M stars lags needs →
+pub held-close : {n len : ℕ} {P : Cue} {M : Marks} {stars lags needs buf : List (List ℕ)} {last : List ℕ} → Prepared n P M stars lags needs →
     Filled n P last len buf → (w : List ℕ) → In w (take len buf) → Sized n w × CloselyV n (28 * limit) w
 unfolding held meantV
 held-close {n} {len} {P} {buf = buf} {last} p s w h = (

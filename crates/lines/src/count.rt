@@ -1,7 +1,7 @@
 // How many lines there are, where one buffer does not hold them: they are gathered one buffer-full after the other.
 ghost use mathlib.Core.Path.{_≡_};
 ghost use lib.ListN.{length};
-ghost use Rattle.cue.specs.Meaning.{Tables};
+ghost use Rattle.cue.specs.Cue.{Cue};
 ghost use Rattle.cue.specs.Method.{lines};
 ghost use Rattle.candidates.specs.Prepared.{Prepared};
 use buffer::ROOM;
@@ -14,8 +14,8 @@ pub fn count_lines(
     lag: &[[u64; 6]; 6],
     needs: &[[u64; 6]; 6],
 ) -> usize
-    requires { ⌜ ((P : Tables) × Prepared (marks .triggers) P marks (now star) (now lag) (now needs)) ⌝ }
-    ensures { λ r. ⌜ ((P : Tables) → Prepared (marks .triggers) P marks (now (star .entry)) (now (lag .entry)) (now (needs .entry)) →
+    requires { ⌜ ((P : Cue) × Prepared (marks .triggers) P marks (now star) (now lag) (now needs)) ⌝ }
+    ensures { λ r. ⌜ ((P : Cue) → Prepared (marks .triggers) P marks (now (star .entry)) (now (lag .entry)) (now (needs .entry)) →
         r ≡ length (lines (marks .triggers) P)) ⌝ }
 {
     let mut buf = [[0u64; 6]; 128];

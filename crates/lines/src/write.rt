@@ -4,7 +4,7 @@ ghost use Prim.Native.Nat.{ℕ, _+_, _*_, _≤_};
 ghost use mathlib.Core.List.{List};
 ghost use lib.ListN.{length, take};
 ghost use Rattle.maxplus.specs.Finite.{In};
-ghost use Rattle.cue.specs.Meaning.{Tables};
+ghost use Rattle.cue.specs.Cue.{Cue};
 ghost use Rattle.cue.specs.Method.{lines};
 ghost use Rattle.cue.specs.Written.{signed, line-words, list-words};
 ghost use Rattle.words.specs.Words.{entry, Close};
@@ -69,9 +69,9 @@ pub fn write_lines(
     lag: &[[u64; 6]; 6],
     needs: &[[u64; 6]; 6],
 )
-    requires { ⌜ ((P : Tables) × Prepared (marks .triggers) P marks (now star) (now lag) (now needs)
+    requires { ⌜ ((P : Cue) × Prepared (marks .triggers) P marks (now star) (now lag) (now needs)
         × (7 * length (lines (marks .triggers) P) ≤ length (now out))) ⌝ }
-    ensures { λ r. ⌜ ((P : Tables) → Prepared (marks .triggers) P marks (now (star .entry)) (now (lag .entry)) (now (needs .entry)) →
+    ensures { λ r. ⌜ ((P : Cue) → Prepared (marks .triggers) P marks (now (star .entry)) (now (lag .entry)) (now (needs .entry)) →
         7 * length (lines (marks .triggers) P) ≤ length (now (out .entry)) →
         now (out .exit) ≡ laid (now (out .entry)) 0 (list-words (marks .triggers) (lines (marks .triggers) P))) ⌝ }
 {

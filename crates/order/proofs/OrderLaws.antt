@@ -14,7 +14,7 @@ use Rattle.maxplus.proofs.SupLaws.{sup-ext}
 use Rattle.words.specs.Words.{word, entry, far}
 use Rattle.words.proofs.Laws.{entry-mono, entry-reflects}
 use Rattle.sheet.specs.Sheet.{limit}
-use Rattle.cue.specs.Meaning.{Tables}
+use Rattle.cue.specs.Cue.{Cue}
 use Rattle.cue.proofs.Bounds.{Limited, power-within}
 use Rattle.tables.specs.Held.{meant, Holds, Closely}
 use Rattle.tables.proofs.Loops.{largest-none}
@@ -28,8 +28,8 @@ mm-held {n} h g e = record { at = λ i j hi hj. e .at i j hi hj ∙ sup-ext n (�
 
 module _ (n : ℕ) (t : List (List ℕ)) where
   -- a sheet that has these after rules and nothing else
-  abbrev alone : Tables
-  alone = record { panels = 0; lag = λ i j. absent; floor = λ i. absent; due = λ j. pos 0; after = meant t }
+  abbrev alone : Cue
+  alone = record { panels = 0; lag = λ i j. absent; floor = λ i. absent; due = λ j. pos 0; order = meant t }
 
   module _ (six : n ≤ 6) (c : Closely n n limit t) where
     alone-limited : Limited n limit alone

@@ -16,20 +16,20 @@ use mir.Val.{SFits, toZ, ofZ}
 use Rattle.maxplus.specs.Line.{Line}
 use Rattle.maxplus.specs.Tables.{NoGain}
 use Rattle.maxplus.proofs.StarLaws.{no-gain?}
-use Rattle.cue.specs.Meaning.{Tables}
+use Rattle.cue.specs.Cue.{Cue}
 use Rattle.cue.specs.Method.{least, steps, selections, lines}
 use Rattle.cue.proofs.Bounds.{results-32}
 use Rattle.cue.proofs.WrittenLaws.{Fitting, list-words-length}
 use Rattle.sheet.specs.Sheet.{Got, got, Sheet, read}
 use Rattle.sheet.specs.Sheet as sheet
 use Rattle.reading.proofs.Refusals.{refusal-known}
-use Rattle.sheet.specs.Cue.{tables-of}
+use Rattle.sheet.specs.Cue.{cue-of, Orderly, orderly?}
 use Rattle.sheet.proofs.Good.{Good, read-good}
 use Rattle.advice.specs.Advice.{advice}
 use Rattle.writing.specs.Texts.{plan-text, refusal-text, full-text}
 use Rattle.writing.specs.Writing.{Stands}
 use Rattle.planning.specs.Planning.{Outcome, planned, full, refused, plan-of, planning, space-after, plan-answer}
-use Rattle.preparing.specs.Orderly.{orderly}
+use Rattle.sheet.specs.Ordered.{ordered}
 use Rattle.planning.specs.Text.{text, program-text}
 use Rattle.planning.specs.Demands.{Planned}
 use Rattle.planning.specs.declared.CuePlan.{CuePlan}
@@ -42,14 +42,14 @@ Sound room (planned n D k l L) = (n ≤ 6) × (length L ≤ room) × Fitting n L
 Sound room (full k) = 1 ≤ k
 Sound room (refused k) = (1 ≤ k) × (k ≤ 8)
 
-listed-sound : (room : ℕ) (t : Sheet) → Good t → NoGain (t .triggers) (t .after) → Sound room (plan-of room (got t []))
+listed-sound : (room : ℕ) (t : Sheet) → Good t → Orderly t → Sound room (plan-of room (got t []))
 listed-sound room t G np = go (leb (length (lines n P)) room) (leb-true (length (lines n P)) room) (leb-false (length (lines n P)) room)
   where
     n : ℕ
     n = t .triggers
 
-    P : Tables
-    P = tables-of t
+    P : Cue
+    P = cue-of t
 
     go : (b : Bool) → (b ≡ true → length (lines n P) ≤ room) → (b ≡ false → room < length (lines n P)) →
         Sound room (cond b (planned n (least n P) (steps n P (least n P)) (length (selections n P (least n P))) (lines n P)) (full (length (lines n P))))
@@ -59,14 +59,14 @@ listed-sound room t G np = go (leb (length (lines n P)) room) (leb-true (length 
 pub planning-sound : (s : List ℕ) (space : List ℤ) → Sound (length space / 7) (planning s space)
 planning-sound s space = go (read s) refl
   where
-    ordered : (t : Sheet) (r : List ℕ) → read s ≡ got t r → Dec (NoGain (t .triggers) (t .after)) → Sound (length space / 7) (planning s space)
-    ordered t r e (yes np) = subst (Sound (length space / 7)) (planning-listed s space t r e np) (listed-sound (length space / 7) t (read-good s t r e) np)
-    ordered t r e (no f) = subst (Sound (length space / 7)) (sym (planning-8 s space t r e f)) (omega arith, omega arith)
+    ordered-by : (t : Sheet) (r : List ℕ) → read s ≡ got t r → Dec (Orderly t) → Sound (length space / 7) (planning s space)
+    ordered-by t r e (yes np) = subst (Sound (length space / 7)) (planning-listed s space t r e np) (listed-sound (length space / 7) t (read-good s t r e) np)
+    ordered-by t r e (no f) = subst (Sound (length space / 7)) (sym (planning-8 s space t r e f)) (omega arith, omega arith)
 
     go : (g : Got Sheet) → read s ≡ g → Sound (length space / 7) (planning s space)
     go (sheet.refused k) e = subst (Sound (length space / 7)) (sym (planning-refused s space k e))
         (let n = refusal-known s k e in (n .0, let m = n .1 in omega arith))
-    go (got t r) e = ordered t r e (no-gain? (t .triggers) (t .after))
+    go (got t r) e = ordered-by t r e (orderly? t)
 
 -- ---- the answer's text is the outcome's
 pub record Lists (o : Outcome) (space : List ℤ) (p : CuePlan) : Type 0 where
@@ -113,7 +113,7 @@ module _ (s : List ℕ) (space : List ℤ) (sized : length space ≡ 14000) (p :
 
   program-is : text (planning s space) ≡ program-text s
   unfolding planning program-text
-  program-is = ap (λ room. text (plan-of room (orderly s))) room-is
+  program-is = ap (λ room. text (plan-of room (ordered s))) room-is
 
   sound : Sound 2000 (planning s space)
   sound = subst (λ room. Sound room (planning s space)) room-is (planning-sound s space)
@@ -143,7 +143,7 @@ module _ (s : List ℕ) (space : List ℤ) (sized : length space ≡ 14000) (p :
   pub complaint-out : advice (p .refusal) ≡ program-complaint s
   unfolding planning program-complaint
   complaint-out =
-      ap (λ (p : CuePlan). advice (p .refusal)) e ∙ complaint-of (planning s space) ∙ ap (λ room. complaint (plan-of room (orderly s))) room-is
+      ap (λ (p : CuePlan). advice (p .refusal)) e ∙ complaint-of (planning s space) ∙ ap (λ room. complaint (plan-of room (ordered s))) room-is
 
 -- the program's room for 2,000 lines
 pub bytes-for : (len count : ℕ) → 200200 ≤ len → count ≤ 2000 → 100 * count + 200 ≤ len
@@ -153,9 +153,9 @@ pub words-for : (len count : ℕ) → 14000 ≤ len → count ≤ 2000 → 7 * c
 words-for len count h q = omega arith
 
 -- whatever is not planned gets a sentence
-pub explained : (s : List ℕ) → ¬ (Planned (plan-of 2000 (orderly s))) → 0 < length (program-complaint s)
+pub explained : (s : List ℕ) → ¬ (Planned (plan-of 2000 (ordered s))) → 0 < length (program-complaint s)
 unfolding program-complaint planning
-explained s n = go (plan-of 2000 (orderly s)) (sound s (replicate 14000 (pos 0)) (length-replicate 14000 (pos 0)) _ refl) n
+explained s n = go (plan-of 2000 (ordered s)) (sound s (replicate 14000 (pos 0)) (length-replicate 14000 (pos 0)) _ refl) n
   where
     go : (o : Outcome) → Sound 2000 o → ¬ (Planned o) → 0 < length (complaint o)
     go (planned n D k l L) q h = absurd (h tt)

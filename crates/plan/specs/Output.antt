@@ -3,7 +3,7 @@ use mathlib.Core.List.{List, []}
 use Prim.Native.Nat.{ℕ}
 use Rattle.advice.specs.Advice.{advice}
 use Rattle.planning.specs.Planning.{Outcome, planned, full, refused, plan-of}
-use Rattle.preparing.specs.Orderly.{orderly}
+use Rattle.sheet.specs.Ordered.{ordered}
 
 abbrev pub complaint : Outcome → List ℕ
 complaint (planned n D k l L) = []
@@ -12,4 +12,4 @@ complaint (refused k) = advice k
 
 -- "The program lends space for 2,000 lines."
 unfoldable pub program-complaint : List ℕ → List ℕ
-program-complaint s = complaint (plan-of 2000 (orderly s))
+program-complaint s = complaint (plan-of 2000 (ordered s))

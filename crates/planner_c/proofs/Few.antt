@@ -15,32 +15,32 @@ use Rattle.cue.specs.Method.{least, lines, kept-byte, kept-count}
 use Rattle.cue.proofs.Few.{most, lines-few}
 use Rattle.sheet.specs.Sheet.{Got, got, Sheet, read}
 use Rattle.sheet.specs.Sheet as sheet
-use Rattle.sheet.specs.Cue.{tables-of}
+use Rattle.sheet.specs.Cue.{cue-of, Orderly, orderly?}
 use Rattle.sheet.proofs.Good.{read-good}
 use Rattle.planning.specs.Planning.{planned, full, plan-of, planning, plan-answer}
 use Rattle.keeping.specs.Keeping.{kept-of, keeping, kept-answer}
-use Rattle.preparing.specs.Orderly.{orderly}
+use Rattle.sheet.specs.Ordered.{ordered}
 
 module _ (s : List ℕ) where
   abbrev Sized : Got Sheet → Type 0
   Sized (sheet.refused k) = Unit {0}
   Sized (got t r) = (t .triggers ≤ 6) × (t .panels ≤ 6)
 
-  sized : Sized (orderly s)
-  unfolding orderly
+  sized : Sized (ordered s)
+  unfolding ordered
   sized = go (read s) refl
     where
-      ask : (t : Sheet) (r : List ℕ) → Sized (got t r) → (d : Dec (NoGain (t .triggers) (t .after))) → Sized (elim d [ yes h ↦ got t r | no h ↦ sheet.refused 8 ])
+      ask : (t : Sheet) (r : List ℕ) → Sized (got t r) → (d : Dec (Orderly t)) → Sized (elim d [ yes h ↦ got t r | no h ↦ sheet.refused 8 ])
       ask t r z (yes h) = z
       ask t r z (no h) = tt
 
-      go : (g : Got Sheet) → read s ≡ g → Sized (sheet._>>=_ g (λ t r. elim (no-gain? (t .triggers) (t .after)) [ yes h ↦ got t r | no h ↦ sheet.refused 8 ]))
+      go : (g : Got Sheet) → read s ≡ g → Sized (sheet._>>=_ g (λ t r. elim (orderly? t) [ yes h ↦ got t r | no h ↦ sheet.refused 8 ]))
       go (sheet.refused k) e = tt
-      go (got t r) e = let G = read-good s t r e in ask t r (G .triggers-few, G .panels-few) (no-gain? (t .triggers) (t .after))
+      go (got t r) e = let G = read-good s t r e in ask t r (G .triggers-few, G .panels-few) (orderly? t)
 
   pub count-few : (space : List ℤ) → plan-answer (planning s space) .count ≤ most
   unfolding planning
-  count-few space = go (orderly s) sized
+  count-few space = go (ordered s) sized
     where
       either : (n : ℕ) (D : ℤ) (k l : ℕ) (L : List (Line n)) (b : Bool) → length L ≤ most → plan-answer (cond b (planned n D k l L) (full (length L))) .count ≤ most
       either n D k l L true h = h
@@ -48,13 +48,13 @@ module _ (s : List ℕ) where
 
       go : (g : Got Sheet) → Sized g → plan-answer (plan-of (length space / 7) g) .count ≤ most
       go (sheet.refused k) z = omega arith
-      go (got t r) (hn, hm) = either _ _ _ _ (lines (t .triggers) (tables-of t)) (leb (length (lines (t .triggers) (tables-of t))) (length space / 7))
-          (lines-few (t .triggers) (tables-of t) hn hm)
+      go (got t r) (hn, hm) = either _ _ _ _ (lines (t .triggers) (cue-of t)) (leb (length (lines (t .triggers) (cue-of t))) (length space / 7))
+          (lines-few (t .triggers) (cue-of t) hn hm)
 
   pub panels-few : kept-answer (keeping s) .panels ≤ 6
   unfolding keeping
-  panels-few = go (orderly s) sized
+  panels-few = go (ordered s) sized
     where
       go : (g : Got Sheet) → Sized g → kept-answer (kept-of g) .panels ≤ 6
       go (sheet.refused k) z = omega arith
-      go (got t r) (hn, hm) = rw (length-each {A = ℕ × ℕ} (t .panels) (λ i. (kept-byte (t .triggers) (tables-of t) (least (t .triggers) (tables-of t)) i, kept-count (t .triggers) (tables-of t) (least (t .triggers) (tables-of t)) i))) hm
+      go (got t r) (hn, hm) = rw (length-each {A = ℕ × ℕ} (t .panels) (λ i. (kept-byte (t .triggers) (cue-of t) (least (t .triggers) (cue-of t)) i, kept-count (t .triggers) (cue-of t) (least (t .triggers) (cue-of t)) i))) hm

@@ -9,23 +9,23 @@ use lib.Dec.{leb}
 use lib.IntN.{ℤ}
 use lib.ListN.{length}
 use Rattle.maxplus.specs.Tables.{NoGain}
-use Rattle.cue.specs.Meaning.{Tables}
+use Rattle.cue.specs.Cue.{Cue}
 use Rattle.cue.specs.Method.{least, steps, selections, lines}
 use Rattle.sheet.specs.Sheet.{Got, got, Sheet, read}
 use Rattle.sheet.specs.Sheet as spec
-use Rattle.sheet.specs.Cue.{tables-of}
+use Rattle.sheet.specs.Cue.{cue-of, Orderly}
 use Rattle.walk.specs.declared.Counts.{Counts}
 use Rattle.lines.specs.Listing.{Answers}
 use Rattle.lines.specs.declared.Listed.{Listed}
 use Rattle.lines.specs.declared.Listed.the-variants.{Lines, NoRoom}
-use Rattle.preparing.specs.Orderly.{orderly}
-use Rattle.preparing.proofs.OrderlyLaws.{orderly-refused, orderly-8, orderly-got}
+use Rattle.sheet.specs.Ordered.{ordered}
+use Rattle.sheet.proofs.OrderedLaws.{ordered-refused, ordered-8, ordered-got}
 use Rattle.planning.specs.Planning.{Outcome, planned, full, refused, plan-of, planning, space-after, plan-answer}
 use Rattle.planning.specs.Inner.{Does}
 use Rattle.planning.specs.declared.CuePlan.{CuePlan}
 
 -- ---- what became of the list
-module _ (n : ℕ) (P : Tables) (before after : List ℤ) where
+module _ (n : ℕ) (P : Cue) (before after : List ℤ) where
   abbrev count : ℕ
   count = length (lines n P)
 
@@ -65,37 +65,37 @@ module _ (n : ℕ) (P : Tables) (before after : List ℤ) where
 
 -- ---- the outcomes
 module _ (s : List ℕ) (space : List ℤ) where
-  planning-of : {g : Got Sheet} → orderly s ≡ g → plan-of (length space / 7) g ≡ planning s space
+  planning-of : {g : Got Sheet} → ordered s ≡ g → plan-of (length space / 7) g ≡ planning s space
   unfolding planning
   planning-of e = sym (ap (plan-of (length space / 7)) e)
 
   pub planning-refused : (k : ℕ) → read s ≡ spec.refused k → planning s space ≡ refused k
-  planning-refused k e = sym (planning-of (orderly-refused s k e))
+  planning-refused k e = sym (planning-of (ordered-refused s k e))
 
   module _ (t : spec.Sheet) (r : List ℕ) (e : read s ≡ got t r) where
-    pub planning-8 : ¬ (NoGain (t .triggers) (t .after)) → planning s space ≡ refused 8
-    planning-8 f = sym (planning-of (orderly-8 s t r e f))
+    pub planning-8 : ¬ (Orderly t) → planning s space ≡ refused 8
+    planning-8 f = sym (planning-of (ordered-8 s t r e f))
 
-    pub planning-listed : NoGain (t .triggers) (t .after) → plan-of (length space / 7) (got t []) ≡ planning s space
-    planning-listed np = planning-of (orderly-got s t r e np)
+    pub planning-listed : Orderly t → plan-of (length space / 7) (got t []) ≡ planning s space
+    planning-listed np = planning-of (ordered-got s t r e np)
 
   -- ---- what a planning does
   does-same : {o : Outcome} {after : List ℤ} {r : CuePlan} → o ≡ planning s space → Does o space after r → Does (planning s space) space after r
   does-same {o} {after} {r} e d = subst (λ o. Does o space after r) e d
 
-  pub does-refused : (k : ℕ) {r : CuePlan} → orderly s ≡ spec.refused k → r ≡ plan-answer (refused k) → Does (planning s space) space space r
+  pub does-refused : (k : ℕ) {r : CuePlan} → ordered s ≡ spec.refused k → r ≡ plan-answer (refused k) → Does (planning s space) space space r
   unfolding space-after
   does-refused k q e = does-same (planning-of q) (record { answer = e; written = refl })
 
-  module _ (t : Sheet) (x : List ℕ) (q : orderly s ≡ got t x) (after : List ℤ) (m : ℕ) (same : m ≡ t .triggers) (k : ℕ) where
-    pub does-lines : (D : ℤ) (C : Counts) → let n = t .triggers in let P = tables-of t in D ≡ least n P →
+  module _ (t : Sheet) (x : List ℕ) (q : ordered s ≡ got t x) (after : List ℤ) (m : ℕ) (same : m ≡ t .triggers) (k : ℕ) where
+    pub does-lines : (D : ℤ) (C : Counts) → let n = t .triggers in let P = cue-of t in D ≡ least n P →
         _≡_ {A = Counts} C (record { steps = steps n P (least n P); selections = length (selections n P (least n P)) }) →
         Answers m (lines m P) space after (Lines k) →
         Does (planning s space) space after
         (record { refusal = 0; triggers = m; deviation = D; steps = C .steps; selections = C .selections; count = k })
     does-lines D C d c a =
-        does-same (planning-of q) (lines-at (t .triggers) (tables-of t) space after m k D C same d c (moved (t .triggers) (tables-of t) space after (Lines k) same a))
+        does-same (planning-of q) (lines-at (t .triggers) (cue-of t) space after m k D C same d c (moved (t .triggers) (cue-of t) space after (Lines k) same a))
 
-    pub does-full : {r : CuePlan} → r ≡ plan-answer (full k) → Answers m (lines m (tables-of t)) space after (NoRoom k) → Does (planning s space) space after r
+    pub does-full : {r : CuePlan} → r ≡ plan-answer (full k) → Answers m (lines m (cue-of t)) space after (NoRoom k) → Does (planning s space) space after r
     does-full e a = does-same (planning-of q) (subst (Does _ space after) (sym e)
-        (full-at (t .triggers) (tables-of t) space after k (moved (t .triggers) (tables-of t) space after (NoRoom k) same a)))
+        (full-at (t .triggers) (cue-of t) space after k (moved (t .triggers) (cue-of t) space after (NoRoom k) same a)))

@@ -8,10 +8,9 @@ use lib.ListN.{length, take}
 use Rattle.maxplus.specs.Entry.{num, _≼_}
 use Rattle.maxplus.specs.Line.{Line}
 use Rattle.maxplus.specs.Combination.{Weighed}
-use Rattle.cue.specs.Meaning.{timing, Keeps, deviation, Tightest}
-use Rattle.cue.specs.Written.{list-words}
+use Rattle.cue.specs.Written.{line-size, list-words}
 use Rattle.sheet.specs.Sheet.{got, Sheet, read}
-use Rattle.sheet.specs.Cue.{tables-of}
+use Rattle.sheet.specs.Meaning.{Timing, Keeps, deviation, Tightest}
 use Rattle.planning.specs.Planning.{Outcome, planned, full, refused, planning, space-after}
 
 -- planned without refusal; the deviation and the number of lines that are returned
@@ -32,7 +31,7 @@ count-of (refused k) = 0
 
 -- the words of the list at the front of the space
 abbrev pub written : Outcome → List ℤ → List ℤ
-written o space = take (7 * count-of o) (space-after o space)
+written o space = take (line-size * count-of o) (space-after o space)
 
 -- ---- demand 2: whatever the space held, a planning without refusal gives the least deviation of the times that keep the order, and
 -- writes lines L from which, with whole-number weights, one for each line, exactly the times that keep the order and reach it are made
@@ -40,12 +39,12 @@ pub record Least (t : Sheet) (space : List ℤ) (o : Outcome) : Type 0 where
   pub list : List (Line (t .triggers))
   pub counted : count-of o ≡ length list
   pub front : written o space ≡ list-words (t .triggers) list
-  pub at-least : (X : ℕ → ℤ) → Keeps (t .triggers) (t .after) (timing X) → num (deviation-of o) ≼ deviation (t .triggers) (tables-of t) (timing X)
-  pub reached : (X : ℕ → ℤ) × Keeps (t .triggers) (t .after) (timing X) × (deviation (t .triggers) (tables-of t) (timing X) ≡ num (deviation-of o))
-  pub combined : (X : ℕ → ℤ) →
-      (Keeps (t .triggers) (t .after) (timing X) × (deviation (t .triggers) (tables-of t) (timing X) ≡ num (deviation-of o))) ↔
+  pub at-least : (X : Timing) → Keeps t X → num (deviation-of o) ≼ deviation t X
+  pub reached : (X : Timing) × Keeps t X × (deviation t X ≡ num (deviation-of o))
+  pub combined : (X : Timing) →
+      (Keeps t X × (deviation t X ≡ num (deviation-of o))) ↔
       Weighed (t .triggers) list X
-  pub tightest : (X : ℕ → ℤ) → Tightest (t .triggers) (tables-of t) X ↔ Weighed (t .triggers) list X
+  pub tightest : (X : Timing) → Tightest t X ↔ Weighed (t .triggers) list X
 
 abbrev pub Demand-2 : Type 0
 Demand-2 = (s : List ℕ) (t : Sheet) (r : List ℕ) (space : List ℤ) → read s ≡ got t r → Planned (planning s space) →
@@ -54,7 +53,7 @@ Demand-2 = (s : List ℕ) (t : Sheet) (r : List ℕ) (space : List ℤ) → read
 -- "8 exactly when no times keep the order"
 abbrev pub Demand-8 : Type 0
 Demand-8 = (s : List ℕ) (t : Sheet) (r : List ℕ) (space : List ℤ) → read s ≡ got t r →
-    (planning s space ≡ refused 8) ↔ ¬ ((X : ℕ → ℤ) × Keeps (t .triggers) (t .after) (timing X))
+    (planning s space ≡ refused 8) ↔ ¬ ((X : Timing) × Keeps t X)
 
 -- ---- demand 3: for two sheets with equal numbers of triggers, each planned without refusal, whatever the spaces held and however large
 -- each was: the counts and the words at the front are the same exactly when every timing is tightest on both or on neither
@@ -63,4 +62,4 @@ Demand-3 = (s₁ s₂ : List ℕ) (t₁ t₂ : Sheet) (r₁ r₂ : List ℕ) (sp
     t₁ .triggers ≡ t₂ .triggers → Planned (planning s₁ space₁) → Planned (planning s₂ space₂) →
     ((count-of (planning s₁ space₁) ≡ count-of (planning s₂ space₂)) ×
     (written (planning s₁ space₁) space₁ ≡ written (planning s₂ space₂) space₂)) ↔
-    ((X : ℕ → ℤ) → Tightest (t₁ .triggers) (tables-of t₁) X ↔ Tightest (t₂ .triggers) (tables-of t₂) X)
+    ((X : Timing) → Tightest t₁ X ↔ Tightest t₂ X)

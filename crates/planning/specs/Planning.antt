@@ -6,11 +6,11 @@ use lib.Dec.{leb}
 use lib.IntN.{ℤ, pos}
 use lib.ListN.{length, drop}
 use Rattle.maxplus.specs.Line.{Line}
-use Rattle.cue.specs.Method.{least, steps, selections, lines}
-use Rattle.cue.specs.Written.{list-words}
+use Rattle.cue.specs.Method.{least, steps, selections}
+use Rattle.cue.specs.Written.{line-size, list-words}
 use Rattle.sheet.specs.Sheet.{Got, got, Sheet}
-use Rattle.sheet.specs.Cue.{tables-of}
-use Rattle.preparing.specs.Orderly.{orderly}
+use Rattle.sheet.specs.Cue.{cue-size, cue-of, sheet-lines}
+use Rattle.sheet.specs.Ordered.{ordered}
 use Rattle.planning.specs.declared.CuePlan.{CuePlan}
 use Rattle.sheet.specs.Sheet as sheet
 
@@ -24,18 +24,18 @@ pub data Outcome : Type 0 where
 abbrev pub plan-of : ℕ → Got Sheet → Outcome
 plan-of room (sheet.refused k) = refused k
 plan-of room (got t r) =
-    let n = t .triggers in
-    let P = tables-of t in
+    let n = cue-size t in
+    let P = cue-of t in
     let D = least n P in
-    let L = lines n P in
-    cond (leb (length L) room) (planned n D (steps n P D) (length (selections n P D)) L) (full (length L))
+    let L = sheet-lines t in
+    cond (leb (length L) room) (planned (t .triggers) D (steps n P D) (length (selections n P D)) L) (full (length L))
 
 unfoldable pub planning : List ℕ → List ℤ → Outcome
-planning s space = plan-of (length space / 7) (orderly s)
+planning s space = plan-of (length space / line-size) (ordered s)
 
 -- "writes exactly the list at the front of the space and leaves the rest"; "A refusal … changes no lent byte or word."
 unfoldable pub space-after : Outcome → List ℤ → List ℤ
-space-after (planned n D k l L) space = list-words n L ++ drop (7 * length L) space
+space-after (planned n D k l L) space = list-words n L ++ drop (line-size * length L) space
 space-after (full k) space = space
 space-after (refused k) space = space
 

@@ -3,7 +3,7 @@ use mathlib.Core.List.{List}
 use Prim.Native.Nat.{ℕ}
 use Rattle.writing.specs.Texts.{plan-text, full-text, refusal-text}
 use Rattle.planning.specs.Planning.{Outcome, planned, full, refused, plan-of}
-use Rattle.preparing.specs.Orderly.{orderly}
+use Rattle.sheet.specs.Ordered.{ordered}
 
 unfoldable pub text : Outcome → List ℕ
 text (planned n D k l L) = plan-text n D k l L
@@ -12,4 +12,4 @@ text (refused k) = refusal-text k
 
 -- "The program lends space for 2,000 lines."
 unfoldable pub program-text : List ℕ → List ℕ
-program-text s = text (plan-of 2000 (orderly s))
+program-text s = text (plan-of 2000 (ordered s))

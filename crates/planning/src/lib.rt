@@ -21,15 +21,24 @@ pub fn plan(bytes: &[u8], space: &mut [i32]) -> CuePlan
     ensures written { λ r. ⌜ now (space .exit) ≡ space-after (planning (now (bytes .entry)) (now (space .entry))) (now (space .entry)) ⌝ }
 {
     let blank = [0u64; 6];
+    let mut order = [blank; 6];
     let mut lag = [blank; 6];
     let mut star = [blank; 6];
     let mut gains = [blank; 6];
     let mut needs = [blank; 6];
-    let ready = preparing::prepare(bytes, &mut lag, &mut star, &mut gains, &mut needs);
-    if ready.refusal != 0 {
-        return no_plan(ready.refusal);
+    let reading = reading::read_sheet(bytes);
+    let prepared = preparing::prepare(
+        reading,
+        &mut order,
+        &mut lag,
+        &mut star,
+        &mut gains,
+        &mut needs,
+    );
+    if prepared.refusal != 0 {
+        return no_plan(prepared.refusal);
     }
-    let marked = ready.marked;
+    let marked = prepared.marked;
     let marks = marked.marks;
     let n = marks.triggers;
     let f = marks.levels;

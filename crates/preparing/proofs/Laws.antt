@@ -1,4 +1,4 @@
--- Laws of a sheet's marks, step by step: what each step asks and gives, so that the walk follows document 01's and the lines are drawn from
+-- Laws of a cue's marks, step by step: what each step asks and gives, so that the walk follows document 01's and the lines are drawn from
 -- prepared words.
 use mathlib.Core.Path.{_≡_, refl, ap, ap₂, sym, _∙_}
 use mathlib.Core.Bool.{_&&_}
@@ -16,11 +16,10 @@ use Rattle.maxplus.proofs.FiniteLaws.{in-at}
 use Rattle.maxplus.proofs.EachLaws.{map-at}
 use Rattle.maxplus.proofs.EntryLaws.{inv-num, absent-not}
 use Rattle.cue.proofs.Walk.{in-floor-panels, floor-panels-few}
-use Rattle.cue.specs.Meaning.{Tables}
+use Rattle.cue.specs.Cue.{Cue}
 use Rattle.cue.specs.Method.{through, pull, least, ask, kept, kept-byte, floor-panels, serves-as-well}
 use Rattle.words.specs.Words.{entry, far, Close, Near}
 use Rattle.sheet.specs.Sheet.{limit}
-use Rattle.reading.specs.declared.Sheet.{Sheet}
 use Rattle.tables.specs.Held.{meant, meantV, HoldsV, Closely, CloselyV}
 use Rattle.thresholds.specs.Steps.{pull-of, least-of, kept-of, KeptBytes, floored}
 use Rattle.preparing.proofs.Results.{floors-close, dues-close, star-close, through-close, pulls-held, pulls-close, least-held, least-close, kept-held, floored-is, level-floored, kept-bit, kept-small}
@@ -28,7 +27,8 @@ use Rattle.words.proofs.Laws.{word-order, close-more, close-minus, entry-zero}
 use Rattle.masks.specs.Trace.{bit}
 use Rattle.walk.specs.Follows.{Follows}
 use Rattle.preparing.specs.Levels.{PackedAs, LevelsNear, Compared}
-use Rattle.preparing.specs.Marked.{Fit, MarkedAs}
+use Rattle.preparing.specs.declared.Cue as words
+use Rattle.preparing.specs.Prepared.{Fit, MarkedAs}
 use Rattle.preparing.specs.declared.Packed.{Packed}
 
 positive : (v : ℕ) {z : ℤ} → entry v ≡ num z → 0 < v
@@ -39,9 +39,9 @@ not-empty : (l : List ℕ) (i : ℕ) → In i l → 0 < length l
 not-empty [] i h = absurd h
 not-empty (k ∷ l) i h = omega arith
 
-module _ {P : Tables} {t : Sheet} {afters lags stars throughs : List (List ℕ)} (F : Fit P t afters lags stars throughs) where
+module _ {P : Cue} {c : words.Cue} {orders lags stars throughs : List (List ℕ)} (F : Fit P c orders lags stars throughs) where
   abbrev n : ℕ
-  n = t .triggers
+  n = c .triggers
 
   abbrev D : ℤ
   D = least n P
@@ -49,50 +49,50 @@ module _ {P : Tables} {t : Sheet} {afters lags stars throughs : List (List ℕ)}
   abbrev panels : List ℕ
   panels = floor-panels n P
 
-  pub six-panels : t .panels ≤ 6
-  six-panels = rw (F .panels-are) (F .held .few-panels)
+  pub six-panels : c .panels ≤ 6
+  six-panels = rw (F .held .panels-are) (F .held .few-panels)
 
-  pub floors-near : CloselyV (t .panels) limit (t .floor)
-  floors-near = rw (F .panels-are) (floors-close (F .held))
+  pub floors-near : CloselyV (c .panels) limit (c .floor)
+  floors-near = rw (F .held .panels-are) (floors-close (F .held))
 
   -- ---- the pulls
-  pub pulls-ask : (t .triggers ≤ 6) × Closely (t .triggers) (t .triggers) (5 * limit) stars × CloselyV (t .triggers) limit (t .due)
+  pub pulls-ask : (c .triggers ≤ 6) × Closely (c .triggers) (c .triggers) (5 * limit) stars × CloselyV (c .triggers) limit (c .due)
   pulls-ask = (F .held .few, star-close (F .held) (F .starred), dues-close (F .held))
 
-  module _ {u : List ℕ} (hu : HoldsV (t .triggers) (pull-of (t .triggers) (meant stars) (meantV (t .due))) u) where
+  module _ {u : List ℕ} (hu : HoldsV (c .triggers) (pull-of (c .triggers) (meant stars) (meantV (c .due))) u) where
     pulled : HoldsV n (λ j. num (pull n P j)) u
     pulled = pulls-held (F .held) (F .starred) hu
 
-    pub pulls-near : CloselyV (t .triggers) (6 * limit) u
+    pub pulls-near : CloselyV (c .triggers) (6 * limit) u
     pulls-near = pulls-close (F .held) pulled
 
     -- ---- Δ
-    pub least-ask : (t .panels ≤ 6) × (t .triggers ≤ 6) × Closely (t .panels) (t .triggers) (6 * limit) throughs ×
-        CloselyV (t .triggers) (6 * limit) u × CloselyV (t .panels) limit (t .floor)
-    least-ask = (six-panels, F .held .few, rw (F .panels-are) (through-close (F .held) (F .reached)), pulls-near, floors-near)
+    pub least-ask : (c .panels ≤ 6) × (c .triggers ≤ 6) × Closely (c .panels) (c .triggers) (6 * limit) throughs ×
+        CloselyV (c .triggers) (6 * limit) u × CloselyV (c .panels) limit (c .floor)
+    least-ask = (six-panels, F .held .few, rw (F .held .panels-are) (through-close (F .held) (F .reached)), pulls-near, floors-near)
 
-    module _ (e : ℕ) (he : entry e ≡ least-of (t .panels) (t .triggers) (meant throughs) (meantV u) (meantV (t .floor))) where
-      pub deviation-is : entry e ≡ num (least (t .triggers) P)
-      deviation-is = least-held (F .held) (F .reached) pulled (F .readable) (F .order) e (rw (F .panels-are) at he)
+    module _ (e : ℕ) (he : entry e ≡ least-of (c .panels) (c .triggers) (meant throughs) (meantV u) (meantV (c .floor))) where
+      pub deviation-is : entry e ≡ num (least (c .triggers) P)
+      deviation-is = least-held (F .held) (F .reached) pulled (F .order) e (rw (F .held .panels-are) at he)
 
       pub least-near : Close (8 * limit) e
-      least-near = least-close (F .held) (F .reached) pulled (F .readable) (F .order) e deviation-is
+      least-near = least-close (F .held) (F .reached) pulled (F .order) e deviation-is
 
-      pub asks-ask : (t .panels ≤ 6) × CloselyV (t .panels) far (t .floor) × Near e
+      pub asks-ask : (c .panels ≤ 6) × CloselyV (c .panels) far (c .floor) × Near e
       asks-ask = (six-panels, record { at = λ i h. close-more (omega arith) (floors-near .at i h) }, close-more (omega arith) least-near)
 
       -- ---- the kept triggers, packed by levels
       module _ {b : List ℕ}
-          (hb : KeptBytes (t .panels) (t .triggers) (λ i. kept-of (entry e) (meant throughs) (meantV u) (meantV (t .floor) i) i) b)
-          {k : Packed} (hk : PackedAs b (floored (t .panels) (meantV (t .floor))) k) where
-        bytes-of : KeptBytes (P .panels) n (λ i. kept-of (entry e) (meant throughs) (meantV u) (meantV (t .floor) i) i) b
-        bytes-of = rw (F .panels-are) at hb
+          (hb : KeptBytes (c .panels) (c .triggers) (λ i. kept-of (entry e) (meant throughs) (meantV u) (meantV (c .floor) i) i) b)
+          {k : Packed} (hk : PackedAs b (floored (c .panels) (meantV (c .floor))) k) where
+        bytes-of : KeptBytes (P .panels) n (λ i. kept-of (entry e) (meant throughs) (meantV u) (meantV (c .floor) i) i) b
+        bytes-of = rw (F .held .panels-are) at hb
 
         bytes : (i : ℕ) → i < P .panels → getD b i 0 ≡ kept-byte n P D i
         bytes = kept-held (F .held) (F .reached) pulled D e deviation-is b bytes-of
 
-        floored-are : floored (t .panels) (meantV (t .floor)) ≡ panels
-        floored-are = rw (F .panels-are) (floored-is (F .held))
+        floored-are : floored (c .panels) (meantV (c .floor)) ≡ panels
+        floored-are = rw (F .held .panels-are) (floored-is (F .held))
 
         many : k .panels ≡ length panels
         many = hk .many ∙ ap length floored-are
@@ -101,7 +101,7 @@ module _ {P : Tables} {t : Sheet} {afters lags stars throughs : List (List ℕ)}
         levels-few = rw many (let a = floor-panels-few n P in let b = F .held .few-panels in omega arith)
 
         some : 0 < k .panels
-        some = let (i, hi, p) = F .readable .floored in rw many (not-empty panels i (in-floor-panels n P i hi p))
+        some = let (i, hi, p) = F .held .readable .floored in rw many (not-empty panels i (in-floor-panels n P i hi p))
 
         panel-at : (l : ℕ) → l < k .panels → getD (k .at) l 0 ≡ getD panels l 0
         panel-at l h = sym (getD-take (k .panels) (k .at) l 0 h) ∙ ap (λ a. getD a l 0) (hk .panels-are ∙ floored-are)
@@ -112,7 +112,7 @@ module _ {P : Tables} {t : Sheet} {afters lags stars throughs : List (List ℕ)}
         -- a level's byte is its panel's, and its mask the panel's kept triggers
         level-byte : (l : ℕ) → l < k .panels → getD (k .kept) l 0 ≡ kept-byte n P D (getD panels l 0)
         level-byte l h = sym (getD-take (k .panels) (k .kept) l 0 h) ∙ ap (λ a. getD a l 0) (hk .bytes-are) ∙
-            map-at (λ i. getD b i 0) (floored (t .panels) (meantV (t .floor))) l 0 0 (let q = hk .many in omega arith) ∙
+            map-at (λ i. getD b i 0) (floored (c .panels) (meantV (c .floor))) l 0 0 (let q = hk .many in omega arith) ∙
             ap (λ i. getD b i 0) (ap (λ a. getD a l 0) floored-are) ∙ bytes _ (rw (← panel-at l h) (panel-there l h))
 
         small : (l : ℕ) → getD (k .kept) l 0 < 64
@@ -125,19 +125,19 @@ module _ {P : Tables} {t : Sheet} {afters lags stars throughs : List (List ℕ)}
         level-bits l j h hj = ap (λ b. bit b j) (level-byte l h) ∙ kept-bit n P D _ j (F .held .few) hj
 
         -- ---- p(i) − Δ
-        module _ {a : List ℕ} (ha : HoldsV (t .panels) (λ i. meantV (t .floor) i ⊗ inv (entry e)) a) where
+        module _ {a : List ℕ} (ha : HoldsV (c .panels) (λ i. meantV (c .floor) i ⊗ inv (entry e)) a) where
           asked : HoldsV (P .panels) (ask n P D) a
           asked = record {
-            at = λ i h. ha .at i (rw (F .panels-are) h) ∙ ap₂ (λ p d. p ⊗ d) (F .held .floors .at i h) (ap inv deviation-is ∙ inv-num D);
+            at = λ i h. ha .at i (rw (F .held .panels-are) h) ∙ ap₂ (λ p d. p ⊗ d) (F .held .floors-are .at i h) (ap inv deviation-is ∙ inv-num D);
           }
 
           asks-near : CloselyV (P .panels) far a
           unfolding meantV
           asks-near = record {
-            at = λ i h. close-more (omega arith) (close-minus (getD (t .floor) i 0) e _ (ha .at i (rw (F .panels-are) h)) (floors-close (F .held) .at i h) least-near);
+            at = λ i h. close-more (omega arith) (close-minus (getD (c .floor) i 0) e _ (ha .at i (rw (F .held .panels-are) h)) (floors-close (F .held) .at i h) least-near);
           }
 
-          pub levels-near : LevelsNear (k .panels) (t .triggers) throughs (t .floor) a (k .at)
+          pub levels-near : LevelsNear (k .panels) (c .triggers) throughs (c .floor) a (k .at)
           levels-near =
               record {
                 panel = λ l h. let q = panel-there l h in let s = F .held .few-panels in omega arith;
@@ -148,10 +148,10 @@ module _ {P : Tables} {t : Sheet} {afters lags stars throughs : List (List ℕ)}
 
           -- ---- what the walk compares, and what step 6's w is made of
           module _ {gains needs : List (List ℕ)}
-              (C : Compared (k .panels) (t .triggers) (meant throughs) (meantV (t .floor)) (meantV a) (k .at) gains needs) where
+              (C : Compared (k .panels) (c .triggers) (meant throughs) (meantV (c .floor)) (meantV a) (k .at) gains needs) where
             gain-is : (l j : ℕ) → l < k .panels → j < n → meant gains l j ≡ through n P (getD panels l 0) j ⊗ inv (P .floor (getD panels l 0))
             gain-is l j h hj = C .gained .at l j h hj ∙
-                ap₂ (λ a p. a ⊗ inv p) (F .reached .at _ j (panel-there l h) hj) (F .held .floors .at _ (panel-there l h)) ∙
+                ap₂ (λ a p. a ⊗ inv p) (F .reached .at _ j (panel-there l h) hj) (F .held .floors-are .at _ (panel-there l h)) ∙
                 ap (λ i. through n P i j ⊗ inv (P .floor i)) (panel-at l h)
 
             follows : Follows n P D (k .panels) (k .kept) gains panels
@@ -166,16 +166,16 @@ module _ {P : Tables} {t : Sheet} {afters lags stars throughs : List (List ℕ)}
                   order = λ l k j h hk hj p q. word-order _ _ ∙ ap₂ leqE (gain-is l j (omega arith) hj) (gain-is k j hk hj);
                 }
 
-            pub marked-as : MarkedAs (t .triggers) P lags stars gains needs
+            pub marked-as : MarkedAs (c .triggers) P lags stars gains needs
                 (record {
                   least = e;
                   kept = b;
                   marks = record {
-                    triggers = t .triggers;
-                    panels = t .panels;
+                    triggers = c .triggers;
+                    panels = c .panels;
                     levels = k .panels;
                     pulls = u;
-                    due = t .due;
+                    due = c .due;
                     asks = a;
                     kept = k .kept;
                   };
@@ -193,19 +193,19 @@ module _ {P : Tables} {t : Sheet} {afters lags stars throughs : List (List ℕ)}
                   masks-size = hk .size;
                   follows = follows;
                   prepared = record {
-                    some = F .some;
+                    some = F .held .some;
                     few = F .held .few;
                     few-panels = F .held .few-panels;
                     triggers = refl;
-                    panels = F .panels-are;
+                    panels = F .held .panels-are;
                     levels = many;
-                    readable = F .readable;
+                    readable = F .held .readable;
                     limited = F .held .limited;
                     order = F .order;
                     starred = F .starred;
-                    lagged = F .held .lags;
+                    lagged = F .held .lags-are;
                     pulled = pulled;
-                    due = F .held .dues;
+                    due = F .held .dues-are;
                     asked = asked;
                     needed = λ l j h hj. C .needed .at l j h hj ∙
                         ap₂ (λ a d. a ⊗ inv d) (asked .at _ (panel-there l h)) (F .reached .at _ j (panel-there l h) hj) ∙

@@ -3,4 +3,3 @@ pub mod Results
 pub mod LevelLaws
 pub mod Laws
 pub mod Preparing
-pub mod OrderlyLaws

@@ -1,4 +1,4 @@
--- For a sheet whose tables arrays of words hold: what each function's result is, in the words of the method, and how far its words go.
+-- For a cue whose tables arrays of words hold: what each function's result is, in the words of the method, and how far its words go.
 use mathlib.Core.Path.{_≡_, refl, ap, ap₂, sym, subst, _∙_}
 use mathlib.Core.Logic.{inl}
 use mathlib.Core.List.{List, [], _∷_}
@@ -23,29 +23,30 @@ use Rattle.words.proofs.Laws.{entry-word}
 use Rattle.sheet.specs.Sheet.{limit, Sheet}
 use Rattle.rows.specs.Grid.{strip, grid}
 use Rattle.rows.proofs.PlaceLaws.{strip-at, grid-at}
-use Rattle.cue.specs.Meaning.{Tables, timing, overdue, shortfall, Readable}
+use Rattle.cue.specs.Cue.{Cue, timing, overdue, shortfall, Readable}
 use Rattle.cue.specs.Method.{through, pullE, pull, mark, leastE, least, floor-panels, kept, kept-byte, kept-count}
 use Rattle.cue.proofs.Deviation.{pull-is, mv-through, mark-keeps, mark-shortfall}
 use Rattle.cue.proofs.Bounds.{Within, star-within, through-within, pull-within, least-within}
 use Rattle.tables.specs.Held.{meant, meantV, Holds, HoldsV, Closely, CloselyV, Says}
 use Rattle.thresholds.specs.Steps.{pull-of, landing-of, least-of, reaches, kept-of, byte-of, bit, KeptBytes, floored}
-use Rattle.sheet.specs.Cue.{tables-of}
+use Rattle.sheet.specs.Cue.{cue-of}
 use Rattle.tables.proofs.SquareLaws.{close-within, closely-within, closely-withinV}
 use Rattle.order.proofs.OrderLaws.{mm-held}
 use Rattle.thresholds.proofs.ByteLaws.{byte-ext, byte-small, byte-ones, byte-bit}
 use Rattle.sheet.proofs.Good.{Good}
-use Rattle.preparing.specs.Marked.{HeldBy}
+use Rattle.preparing.specs.declared.Cue as words
+use Rattle.preparing.specs.Prepared.{CueWords}
 
 -- ---- the arrays of a sheet that was read
 word-held : (e : E) → Within limit limit e → entry (word e) ≡ e
 word-held e w = entry-word e (λ z q. let b = w .low .above z q in omega arith)
 
-strip-held : {n : ℕ} (x : Vec) → n ≤ 6 → ((j : ℕ) → j < n → Within limit limit (x j)) → HoldsV n x (strip x)
+pub strip-held : {n : ℕ} (x : Vec) → n ≤ 6 → ((j : ℕ) → j < n → Within limit limit (x j)) → HoldsV n x (strip x)
 unfolding meantV
 strip-held x six w = record { at = λ j h. ap entry (strip-at x j (omega arith)) ∙ word-held (x j) (w j h) }
 
 -- r is the table of the rows of A
-grid-held : {m n : ℕ} (A : Mat) (r : List (List ℕ)) → m ≤ 6 → n ≤ 6 → ((i j : ℕ) → i < m → j < n → Within limit limit (A i j)) →
+pub grid-held : {m n : ℕ} (A : Mat) (r : List (List ℕ)) → m ≤ 6 → n ≤ 6 → ((i j : ℕ) → i < m → j < n → Within limit limit (A i j)) →
     ((i : ℕ) → i < 6 → getD r i [] ≡ getD (grid A) i (record { at = [] }) .at) → Holds m n A r
 unfolding meant
 grid-held A r six few w h = record {
@@ -54,19 +55,8 @@ grid-held A r six few w h = record {
       ap entry (strip-at (A i) j (omega arith)) ∙ word-held (A i j) (w i j hi hj);
 }
 
-pub sheet-held : (t : Sheet) → Good t → (lag after : List (List ℕ)) →
-    ((i : ℕ) → i < 6 → getD lag i [] ≡ getD (grid (t .lag)) i (record { at = [] }) .at) →
-    ((i : ℕ) → i < 6 → getD after i [] ≡ getD (grid (t .after)) i (record { at = [] }) .at) →
-    HeldBy (t .triggers) (tables-of t) lag after (strip (t .floor)) (strip (λ j. cond (ltb j (t .triggers)) (num (t .due j)) absent))
-sheet-held t G lag after hl ha = record {
-  lags = grid-held (t .lag) lag (G .panels-few) (G .triggers-few) (G .limited .lags) hl;
-  floors = strip-held (t .floor) (G .panels-few) (G .limited .floors);
-  dues = record { at = λ j h. held .at j h ∙ there j h };
-  afters = grid-held (t .after) after (G .triggers-few) (G .triggers-few) (G .limited .afters) ha;
-  limited = G .limited;
-  few = G .triggers-few;
-  few-panels = G .panels-few;
-}
+pub dues-held : (t : Sheet) → Good t → HoldsV (t .triggers) (timing (t .due)) (strip (λ j. cond (ltb j (t .triggers)) (num (t .due j)) absent))
+dues-held t G = record { at = λ j h. held .at j h ∙ there j h }
   where
     there : (j : ℕ) → j < t .triggers → cond (ltb j (t .triggers)) (num (t .due j)) absent ≡ num (t .due j)
     there j h = rw (lt-ltb j (t .triggers) h)
@@ -82,7 +72,7 @@ power-ext n A B h zero i j hi hj = refl
 power-ext n A B h (suc k) i j hi hj = sup-ext n (λ l hl. ap₂ _⊗_ (h i l hi hl) (power-ext n A B h k l j hl hj))
 
 -- ---- the bits of a kept byte, for any tables
-module _ (n : ℕ) (P : Tables) (D : ℤ) (i : ℕ) where
+module _ (n : ℕ) (P : Cue) (D : ℤ) (i : ℕ) where
   -- bit j is set exactly when trigger j is kept; no other bit is
   pub kept-bit : (j : ℕ) → n ≤ 6 → j < 6 → bit (kept-byte n P D i) j ≡ ltb j n && kept n P D i j
   unfolding kept-byte
@@ -96,59 +86,62 @@ module _ (n : ℕ) (P : Tables) (D : ℤ) (i : ℕ) where
   unfolding kept-byte kept-count
   kept-ones = unfold byte-of in byte-ones n (kept n P D i)
 
-module _ {n : ℕ} {P : Tables} {lag after : List (List ℕ)} {floor due : List ℕ} (H : HeldBy n P lag after floor due) where
+module _ {P : Cue} {orders lags : List (List ℕ)} {c : words.Cue} (H : CueWords P orders lags c) where
+  abbrev n : ℕ
+  n = c .triggers
+
   -- what each function asks of the sheet's words
-  pub lags-close : Closely (P .panels) n limit lag
-  lags-close = closely-within (le-refl _) (le-refl _) (H .lags) (H .limited .lags)
+  pub lags-close : Closely (P .panels) n limit lags
+  lags-close = closely-within (le-refl _) (le-refl _) (H .lags-are) (H .limited .lags)
 
-  pub afters-close : Closely n n limit after
-  afters-close = closely-within (le-refl _) (le-refl _) (H .afters) (H .limited .afters)
+  pub orders-close : Closely n n limit orders
+  orders-close = closely-within (le-refl _) (le-refl _) (H .orders-are) (H .limited .afters)
 
-  pub floors-close : CloselyV (P .panels) limit floor
-  floors-close = closely-withinV (le-refl _) (le-refl _) (H .floors) (H .limited .floors)
+  pub floors-close : CloselyV (P .panels) limit (c .floor)
+  floors-close = closely-withinV (le-refl _) (le-refl _) (H .floors-are) (H .limited .floors)
 
-  pub dues-close : CloselyV n limit due
-  dues-close = closely-withinV (le-refl _) (le-refl _) (H .dues) (H .limited .dues)
+  pub dues-close : CloselyV n limit (c .due)
+  dues-close = closely-withinV (le-refl _) (le-refl _) (H .dues-are) (H .limited .dues)
 
   -- ---- step 1
-  same-power : (k i j : ℕ) → i < n → j < n → power n (meant after) k i j ≡ power n (P .after) k i j
-  same-power = power-ext n (meant after) (P .after) (H .afters .at)
+  same-power : (k i j : ℕ) → i < n → j < n → power n (meant orders) k i j ≡ power n (P .order) k i j
+  same-power = power-ext n (meant orders) (P .order) (H .orders-are .at)
 
-  pub order-says : (b : Bool) → Says (NoGain n (meant after)) b → Says (NoGain n (P .after)) b
+  pub order-says : (b : Bool) → Says (NoGain n (meant orders)) b → Says (NoGain n (P .order)) b
   unfolding NoGain
   order-says true h = λ k i p q hi. ≼-back (same-power k i i hi hi) ▸ h k i p q hi
   order-says false h = λ g. h (λ k i p q hi. ≼-of (same-power k i i hi hi) ▸ g k i p q hi)
 
-  pub star-held : {s : List (List ℕ)} → Holds n n (star n (meant after)) s → Holds n n (star n (P .after)) s
+  pub star-held : {s : List (List ℕ)} → Holds n n (star n (meant orders)) s → Holds n n (star n (P .order)) s
   unfolding star
   star-held h = record { at = λ i j hi hj. h .at i j hi hj ∙ sup-ext n (λ k hk. same-power k i j hi hj) }
 
-  pub star-close : {s : List (List ℕ)} → Holds n n (star n (P .after)) s → Closely n n (5 * limit) s
+  pub star-close : {s : List (List ℕ)} → Holds n n (star n (P .order)) s → Closely n n (5 * limit) s
   star-close h = closely-within (le-refl _) (le-refl _) h (star-within n 5 limit P (H .limited) (H .few))
 
   -- ---- step 2
-  pub through-held : {s d : List (List ℕ)} → Holds n n (star n (P .after)) s → Holds (P .panels) n (mm n (meant lag) (meant s)) d →
+  pub through-held : {s d : List (List ℕ)} → Holds n n (star n (P .order)) s → Holds (P .panels) n (mm n (meant lags) (meant s)) d →
       Holds (P .panels) n (through n P) d
   unfolding through
-  through-held hs hd = mm-held (H .lags) hs hd
+  through-held hs hd = mm-held (H .lags-are) hs hd
 
   pub through-close : {d : List (List ℕ)} → Holds (P .panels) n (through n P) d → Closely (P .panels) n (6 * limit) d
   through-close h = closely-within (omega arith) (omega arith) h (through-within n 5 limit P (H .limited) (H .few))
 
-  pub pulls-held : {s : List (List ℕ)} {u : List ℕ} → Holds n n (star n (P .after)) s → HoldsV n (pull-of n (meant s) (meantV due)) u →
+  pub pulls-held : {s : List (List ℕ)} {u : List ℕ} → Holds n n (star n (P .order)) s → HoldsV n (pull-of n (meant s) (meantV (c .due))) u →
       HoldsV n (λ j. num (pull n P j)) u
   unfolding pull-of pullE overdue
   pulls-held hs hu = record {
-    at = λ j hj. hu .at j hj ∙ sup-ext n (λ i hi. ap₂ _⊗_ (hs .at i j hi hj) (ap inv (H .dues .at i hi) ∙ inv-num (P .due i))) ∙ pull-is n P j hj;
+    at = λ j hj. hu .at j hj ∙ sup-ext n (λ i hi. ap₂ _⊗_ (hs .at i j hi hj) (ap inv (H .dues-are .at i hi))) ∙ pull-is n P j hj;
   }
 
   pub pulls-close : {u : List ℕ} → HoldsV n (λ j. num (pull n P j)) u → CloselyV n (6 * limit) u
   pulls-close h = closely-withinV (omega arith) (omega arith) h (pull-within n 5 limit P (H .limited) (H .few))
 
   -- ---- step 5: "panels with a floor in sheet order"
-  pub floored-is : floored (P .panels) (meantV floor) ≡ floor-panels n P
+  pub floored-is : floored (P .panels) (meantV (c .floor)) ≡ floor-panels n P
   unfolding floored floor-panels
-  floored-is = each-same (P .panels) _ _ (λ i hi. ap (λ e. onlyIf (present? e) (i ∷ [])) (H .floors .at i hi))
+  floored-is = each-same (P .panels) _ _ (λ i hi. ap (λ e. onlyIf (present? e) (i ∷ [])) (H .floors-are .at i hi))
 
   pub level-floored : (i : ℕ) → In i (floor-panels n P) → (i < P .panels) × Present (P .floor i)
   unfolding floor-panels
@@ -163,28 +156,28 @@ module _ {n : ℕ} {P : Tables} {lag after : List (List ℕ)} {floor due : List 
     unfolding landing-of mv
     landing-is i hi = sup-ext n (λ j hj. ap₂ _⊗_ (hd .at i j hi hj) (ap inv (hu .at j hj) ∙ inv-num (pull n P j)))
 
-    module _ (R : Readable n P) (np : NoGain n (P .after)) where
+    module _ (np : NoGain n (P .order)) where
       least-is : leastE n P ≡ num (least n P)
       unfolding leastE
-      least-is = same ∙ mark-shortfall n P R np
+      least-is = same ∙ mark-shortfall n P (H .readable) np
         where
-          same : sup (P .panels) (λ i. P .floor i ⊗ inv (mv n (through n P) (timing (mark n P)) i)) ≡ shortfall n P (timing (mark n P))
+          same : shortfall (P .panels) n (through n P) (P .floor) (timing (mark n P)) ≡ shortfall (P .panels) n (P .lag) (P .floor) (timing (mark n P))
           same = unfold shortfall in
               sup-ext (P .panels) (λ i hi. ap (λ e. P .floor i ⊗ inv e) (sym (mv-through n P (timing (mark n P)) (mark-keeps n P np) i)))
 
-      pub least-held : (e : ℕ) → entry e ≡ least-of (P .panels) n (meant d) (meantV u) (meantV floor) → entry e ≡ num (least n P)
-      unfolding least-of leastE
-      least-held e h = h ∙ sup-ext (P .panels) (λ i hi. ap₂ (λ p l. p ⊗ inv l) (H .floors .at i hi) (landing-is i hi)) ∙ unfold leastE in least-is
+      pub least-held : (e : ℕ) → entry e ≡ least-of (P .panels) n (meant d) (meantV u) (meantV (c .floor)) → entry e ≡ num (least n P)
+      unfolding least-of leastE shortfall
+      least-held e h = h ∙ sup-ext (P .panels) (λ i hi. ap₂ (λ p l. p ⊗ inv l) (H .floors-are .at i hi) (landing-is i hi)) ∙ unfold leastE shortfall in least-is
 
       pub least-close : (e : ℕ) → entry e ≡ num (least n P) → Close (8 * limit) e
       least-close e h = close-within (8 * limit) e h (omega arith) (omega arith) (least-within n 5 limit P (H .limited) (H .few) np)
 
     -- ---- step 4, for any deviation D
     module _ (D : ℤ) (e : ℕ) (he : entry e ≡ num D) (r : List ℕ)
-        (hr : KeptBytes (P .panels) n (λ i. kept-of (entry e) (meant d) (meantV u) (meantV floor i) i) r) where
-      kept-is : (i j : ℕ) → i < P .panels → j < n → kept-of (entry e) (meant d) (meantV u) (meantV floor i) i j ≡ kept n P D i j
+        (hr : KeptBytes (P .panels) n (λ i. kept-of (entry e) (meant d) (meantV u) (meantV (c .floor) i) i) r) where
+      kept-is : (i j : ℕ) → i < P .panels → j < n → kept-of (entry e) (meant d) (meantV u) (meantV (c .floor) i) i j ≡ kept n P D i j
       unfolding kept-of reaches kept
-      kept-is i j hi hj = rw (H .floors .at i hi, hu .at j hj, hd .at i j hi hj, he, inv-num)
+      kept-is i j hi hj = rw (H .floors-are .at i hi, hu .at j hj, hd .at i j hi hj, he, inv-num)
 
       pub kept-held : (i : ℕ) → i < P .panels → getD r i 0 ≡ kept-byte n P D i
       unfolding kept-byte

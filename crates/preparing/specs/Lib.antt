@@ -1,5 +1,3 @@
--- Reading and the order check, and what the inner functions of the operations are handed.
+-- What is known of a sheet's words, of its cue's, and of what is made from them.
 pub mod Levels
-pub mod Marked
-pub mod Orderly
-pub mod Inner
+pub mod Prepared

@@ -1,13 +1,29 @@
-// Reading, the order check, and what planning, the kept table and testing are made from.
+// From what was read to all that the operations are made from: the cue's tables, the order check, M*, d, r, Δ, the kept triggers, the levels
+// and what is compared there.
 ghost use mathlib.Core.Path.{_≡_};
+ghost use mathlib.Core.List.{List};
+ghost use Prim.Native.Nat.{ℕ};
 ghost use Rattle.sheet.specs.Sheet as spec;
-ghost use Rattle.preparing.specs.Orderly.{orderly};
-ghost use Rattle.preparing.specs.Inner.{Worded, Tabled, Readied};
+ghost use Rattle.sheet.specs.Sheet.{read};
+ghost use Rattle.sheet.specs.Cue.{cue-size, cue-of};
+ghost use Rattle.sheet.specs.Ordered.{ordered};
+ghost use Rattle.reading.specs.Reading.{answer};
+ghost use Rattle.cue.specs.Cue as theory;
+ghost use Rattle.preparing.specs.Prepared.{Worded, CueWords, Tabled, Ready};
 use candidates::Marks;
+use reading::Reading;
 use reading::Sheet;
 
 mod levels;
 mod marks;
+
+// A cue's sizes, floors and due marks as words. Its tables, lag and order, are lent beside it.
+pub struct Cue {
+    pub triggers: usize,
+    pub panels: usize,
+    pub floor: [u64; 6],
+    pub due: [u64; 6],
+}
 
 // The first `panels` places of `at` are the panels with a floor, those of `kept` their bytes.
 pub struct Packed {
@@ -23,71 +39,96 @@ pub struct Marked {
     pub marks: Marks,
 }
 
-// Document 01's refusal, 1 to 8; or 0 and what steps 3 and 4 give.
-pub struct Ready {
+// Document 01's refusal, 1 to 8; or 0, the cue and what steps 3 and 4 give.
+pub struct Prepared {
     pub refusal: u8,
+    pub cue: Cue,
     pub marked: Marked,
 }
 
-// Whether the order of a sheet can be kept, and then its tables: after, lag, M* and d.
-pub fn ordered_tables(
-    t: Sheet,
-    after: &mut [[u64; 6]; 6],
-    lag: &mut [[u64; 6]; 6],
-    star: &mut [[u64; 6]; 6],
-    through: &mut [[u64; 6]; 6],
-) -> bool
-    requires { ⌜ ((s : spec.Sheet) × Worded s t) ⌝ }
-    ensures { λ r. ⌜ ((s : spec.Sheet) → Worded s t → Tabled s t (now (after .exit)) (now (lag .exit)) (now (star .exit)) (now (through .exit)) r) ⌝ }
+// The one place where the words of a sheet become those of its cue: the lent tables are its order and its lags.
+pub fn cue_of(t: Sheet, order: &mut [[u64; 6]; 6], lag: &mut [[u64; 6]; 6]) -> Cue
+    ensures sized { λ r. ⌜ ((s : spec.Sheet) → Worded s t → r .triggers ≡ cue-size s) ⌝ }
+    ensures held { λ r. ⌜ ((s : spec.Sheet) → Worded s t → CueWords (cue-of s) (now (order .exit)) (now (lag .exit)) r) ⌝ }
 {
-    let n = t.triggers;
-    let m = t.panels;
     let after_rows = t.after;
     let afters = tables::table(after_rows);
-    *after = afters;
+    *order = afters;
     let lag_rows = t.lag;
     let lags = tables::table(lag_rows);
     *lag = lags;
-    if !order::closed(&afters, star, n) {
+    let floor = t.floor;
+    let due = t.due;
+    Cue {
+        triggers: t.triggers,
+        panels: t.panels,
+        floor: floor,
+        due: due,
+    }
+}
+
+// Whether the order of a cue can be kept, and then M* and d.
+pub fn closed_tables(
+    cue: Cue,
+    order: &[[u64; 6]; 6],
+    lag: &[[u64; 6]; 6],
+    star: &mut [[u64; 6]; 6],
+    through: &mut [[u64; 6]; 6],
+) -> bool
+    requires { ⌜ ((P : theory.Cue) × CueWords P (now order) (now lag) cue) ⌝ }
+    ensures { λ r. ⌜ ((P : theory.Cue) → CueWords P (now (order .entry)) (now (lag .entry)) cue →
+        Tabled P cue (now (order .entry)) (now (lag .entry)) (now (star .exit)) (now (through .exit)) r) ⌝ }
+{
+    let n = cue.triggers;
+    if !order::closed(order, star, n) {
         return false;
     }
-    let throughs = tables::product(&lags, star, m, n);
+    let throughs = tables::product(lag, star, cue.panels, n);
     *through = throughs;
     true
 }
 
-// From the bytes to all that planning and the kept table are made from, or the refusal.
+// All that an operation is made from, for what was read; or the refusal.
 pub fn prepare(
-    bytes: &[u8],
+    reading: Reading,
+    order: &mut [[u64; 6]; 6],
     lag: &mut [[u64; 6]; 6],
     star: &mut [[u64; 6]; 6],
     gains: &mut [[u64; 6]; 6],
     needs: &mut [[u64; 6]; 6],
-) -> Ready
-    ensures { λ r. ⌜ Readied (orderly (now (bytes .entry))) (now (lag .exit)) (now (star .exit)) (now (gains .exit)) (now (needs .exit)) r ⌝ }
+) -> Prepared
+    requires { ⌜ ((s : List ℕ) × (reading ≡ answer (read s))) ⌝ }
+    ensures { λ r. ⌜ ((s : List ℕ) → reading ≡ answer (read s) →
+        Ready (ordered s) (now (order .exit)) (now (lag .exit)) (now (star .exit)) (now (gains .exit)) (now (needs .exit)) r) ⌝ }
 {
-    let reading = reading::read_sheet(bytes);
     if reading.refusal != 0 {
-        return not_ready(reading.refusal);
+        return not_prepared(reading.refusal);
     }
-    let t = reading.sheet;
+    let sheet = reading.sheet;
+    let cue = cue_of(sheet, order, lag);
     let blank = [0u64; 6];
-    let mut after = [blank; 6];
     let mut through = [blank; 6];
-    if !ordered_tables(t, &mut after, lag, star, &mut through) {
-        return not_ready(8);
+    if !closed_tables(cue, order, lag, star, &mut through) {
+        return not_prepared(8);
     }
-    let marked = marks::marks_of(t, star, &through, gains, needs);
-    Ready {
+    let marked = marks::marks_of(cue, star, &through, gains, needs);
+    Prepared {
         refusal: 0,
+        cue: cue,
         marked: marked,
     }
 }
 
-// Nothing is ready.
-fn not_ready(refusal: u8) -> Ready
+// A refusal, and nothing made.
+fn not_prepared(refusal: u8) -> Prepared
     ensures { λ r. ⌜ r .refusal ≡ refusal ⌝ }
 {
+    let cue = Cue {
+        triggers: 0,
+        panels: 0,
+        floor: [0u64; 6],
+        due: [0u64; 6],
+    };
     let marks = Marks {
         triggers: 0,
         panels: 0,
@@ -102,8 +143,9 @@ fn not_ready(refusal: u8) -> Ready
         kept: [0u8; 6],
         marks: marks,
     };
-    Ready {
+    Prepared {
         refusal: refusal,
+        cue: cue,
         marked: marked,
     }
 }

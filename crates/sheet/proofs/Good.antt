@@ -17,9 +17,9 @@ use Rattle.sheet.specs.Text.{bytes}
 use Rattle.sheet.specs.Sheet.{Got, got, refused, _>>=_, literal, ended, items, Rule, size, entry, mark, limit, no-size, out-of-range, absent?}
 use Rattle.sheet.specs.Sheet.{any, all, checked, line, rows, row, table, Sheet, count, finished, tables, lines, read}
 use Rattle.sheet.proofs.LineLaws.{none-or, not-got, bind-got, passed, one-size, sheet-of, row-present}
-use Rattle.cue.specs.Meaning.{Readable}
+use Rattle.cue.specs.Cue.{Readable}
 use Rattle.cue.proofs.Bounds.{Within, Limited}
-use Rattle.sheet.specs.Cue.{tables-of}
+use Rattle.sheet.specs.Cue.{cue-of}
 
 -- ---- a line
 items-long : (k : ℕ) (s : List ℕ) {es : List E} {r : List ℕ} → items k s ≡ got es r → length es ≡ k
@@ -126,8 +126,8 @@ pub record Good (t : Sheet) : Type 0 where
   pub panels-few : t .panels ≤ 6
   pub triggers-some : 1 ≤ t .triggers
   pub triggers-few : t .triggers ≤ 6
-  pub readable : Readable (t .triggers) (tables-of t)
-  pub limited : Limited (t .triggers) limit (tables-of t)
+  pub readable : Readable (t .triggers) (cue-of t)
+  pub limited : Limited (t .triggers) limit (cue-of t)
 
 module _ (m n : ℕ) (few-m : m ≤ 6) (some-n : 1 ≤ n) (few-n : n ≤ 6) where
   -- the lines behind the sizes, each with what was read of it

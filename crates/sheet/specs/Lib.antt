@@ -1,4 +1,6 @@
--- The sheet of document 01 ("The sheet", and reading's refusals).
+-- A sheet (document 01): its grammar and reading's refusals, what it means, the cue that the method makes of it, and refusal 8.
 pub mod Text
 pub mod Sheet
+pub mod Meaning
 pub mod Cue
+pub mod Ordered

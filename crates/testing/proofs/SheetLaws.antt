@@ -1,35 +1,60 @@
--- What the measuring of a timing asks of a sheet's words, and is told.
-use mathlib.Core.Path.{_≡_, sym}
+-- What the measuring of a timing asks of a cue's words, and is told.
+use mathlib.Core.Path.{_≡_, ap, sym, subst, _∙_}
+use mathlib.Core.Bool.{Bool, true, false}
 use mathlib.Core.List.{List}
 use Prim.Native.Nat.{ℕ}
 use Rattle.maxplus.specs.Entry.{num}
-use Rattle.cue.specs.Meaning.{Tables}
+use Rattle.maxplus.specs.Tables.{NoGain}
+use Rattle.cue.specs.Cue as theory
 use Rattle.cue.specs.Method.{least}
 use Rattle.words.specs.Words.{entry}
-use Rattle.reading.specs.declared.Sheet.{Sheet}
-use Rattle.preparing.proofs.Results.{lags-close, floors-close, dues-close}
 use Rattle.timing.specs.Deviation.{SheetClose}
-use Rattle.timing.specs.Test.{SheetWords}
-use Rattle.preparing.specs.Marked.{Fit}
+use Rattle.timing.specs.Test.{SheetWords, Tested}
+use Rattle.sheet.specs.Sheet.{Sheet, limit}
+use Rattle.sheet.specs.Meaning.{Timing, Tightest}
+use Rattle.sheet.specs.Cue.{cue-size, cue-of}
+use Rattle.sheet.proofs.Seam.{tightest-cue}
+use Rattle.tables.specs.Held.{Closely, Says}
+use Rattle.preparing.specs.declared.Cue.{Cue}
+use Rattle.preparing.specs.declared.Prepared.{Prepared}
+use Rattle.preparing.specs.Prepared.{CueWords, Made}
+use Rattle.preparing.proofs.Results.{lags-close, floors-close, dues-close, orders-close}
 
-module _ {P : Tables} {t : Sheet} {afters lags stars throughs : List (List ℕ)} (F : Fit P t afters lags stars throughs) where
-  pub sheet-close : SheetClose (t .panels) (t .triggers) lags (t .floor) (t .due)
+module _ {P : theory.Cue} {orders lags : List (List ℕ)} {c : Cue} (H : CueWords P orders lags c) where
+  sheet-close : SheetClose (c .panels) (c .triggers) lags (c .floor) (c .due)
   sheet-close =
       record {
-        few-panels = rw (F .panels-are) (F .held .few-panels);
-        few-triggers = F .held .few;
-        lags = rw (F .panels-are) (lags-close (F .held));
-        floors = rw (F .panels-are) (floors-close (F .held));
-        dues = dues-close (F .held);
+        few-panels = rw (H .panels-are) (H .few-panels);
+        few-triggers = H .few;
+        lags = rw (H .panels-are) (lags-close H);
+        floors = rw (H .panels-are) (floors-close H);
+        dues = dues-close H;
       }
 
-  pub sheet-words : (e : ℕ) → entry e ≡ num (least (t .triggers) P) → SheetWords (t .panels) (t .triggers) afters lags (t .floor) (t .due) e P
+  sheet-words : (e : ℕ) → entry e ≡ num (least (c .triggers) P) → SheetWords (c .panels) (c .triggers) orders lags (c .floor) (c .due) e P
   sheet-words e d =
       record {
-        panels-are = sym (F .panels-are);
-        afters = F .held .afters;
-        lags = rw (F .panels-are) (F .held .lags);
-        floors = rw (F .panels-are) (F .held .floors);
-        dues = F .held .dues;
+        panels-are = sym (H .panels-are);
+        afters = H .orders-are;
+        lags = rw (H .panels-are) (H .lags-are);
+        floors = rw (H .panels-are) (H .floors-are);
+        dues = H .dues-are;
         least-is = d;
       }
+
+-- tightest on the cue is tightest on the sheet
+over-seam : (t : Sheet) (X : Timing) (v : Bool) → Says (theory.Tightest (cue-size t) (cue-of t) X) v → Says (Tightest t X) v
+over-seam t X true h = tightest-cue t X .1 h
+over-seam t X false h = λ g. h (tightest-cue t X .0 g)
+
+module _ {s : Sheet} {orders lags stars gains needs : List (List ℕ)} {r : Prepared} (M : Made s orders lags stars gains needs r) where
+  pub tested-asks : SheetClose (r .cue .panels) (r .cue .triggers) lags (r .cue .floor) (r .cue .due) × Closely (r .cue .triggers) (r .cue .triggers) limit orders
+  tested-asks = (sheet-close (M .held), orders-close (M .held))
+
+  pub tested-says : (X : Timing) (v : Bool) →
+      Tested (r .cue .panels) (r .cue .triggers) orders lags (r .cue .floor) (r .cue .due) (r .marked .least) X v → Says (Tightest s X) v
+  tested-says X v T = over-seam s X v (subst (λ n. Says (theory.Tightest n (cue-of s) X) v) (M .sized)
+      (T .tightest (cue-of s)
+      (sheet-words (M .held) (r .marked .least) (M .marked .deviation ∙ ap (λ n. num (least n (cue-of s))) (sym (M .sized))))
+      (M .held .readable)
+      (subst (λ n. NoGain n (cue-of s .order)) (sym (M .sized)) (M .order))))

@@ -6,14 +6,12 @@ use Prim.Native.Nat.{ℕ, _≤_}
 use native.Mathlib.Omega.{arith}
 use lib.Dec.{eqb}
 use lib.IntN.{ℤ}
-use Rattle.maxplus.specs.Tables.{NoGain}
 use Rattle.maxplus.proofs.FiniteLaws.{equal, unequal}
-use Rattle.maxplus.proofs.StarLaws.{no-gain?}
-use Rattle.cue.specs.Meaning.{Tightest}
+use Rattle.sheet.specs.Meaning.{Tightest}
 use Rattle.sheet.specs.Sheet.{Got, got, Sheet, read}
 use Rattle.sheet.specs.Sheet as spec
 use Rattle.reading.proofs.Refusals.{refusal-known}
-use Rattle.sheet.specs.Cue.{tables-of}
+use Rattle.sheet.specs.Cue.{Orderly, orderly?}
 use Rattle.tables.specs.Held.{Says}
 use Rattle.timing.specs.Times.{some-beyond}
 use Rattle.testing.specs.Testing.{TestOutcome, answer, refused, Exactly, Tests, Testing, test-answer}
@@ -38,20 +36,20 @@ module _ (s : List ℕ) (count : ℕ) (X : ℕ → ℤ) where
       testing-11 far = by-sheet (refused 11) (rw (equal count (t .triggers) same, far) refl)
 
       module _ (near : some-beyond (t .triggers) X ≡ false) where
-        pub testing-8 : ¬ (NoGain (t .triggers) (t .after)) → Testing s count X (refused 8)
-        testing-8 f = by-sheet (refused 8) (rw (equal count (t .triggers) same, near) (go (no-gain? (t .triggers) (t .after))))
+        pub testing-8 : ¬ (Orderly t) → Testing s count X (refused 8)
+        testing-8 f = by-sheet (refused 8) (rw (equal count (t .triggers) same, near) (go (orderly? t)))
           where
-            go : (d : Dec (NoGain (t .triggers) (t .after))) →
-                elim d as (λ _. Type 0) [ yes h ↦ Exactly (Tightest (t .triggers) (tables-of t) X) (refused 8) | no h ↦ _≡_ {A = TestOutcome} (refused 8) (refused 8) ]
+            go : (d : Dec (Orderly t)) →
+                elim d as (λ _. Type 0) [ yes h ↦ Exactly (Tightest t X) (refused 8) | no h ↦ _≡_ {A = TestOutcome} (refused 8) (refused 8) ]
             go (yes h) = absurd (f h)
             go (no h) = refl
 
-        pub testing-says : NoGain (t .triggers) (t .after) → (b : Bool) → Says (Tightest (t .triggers) (tables-of t) X) b →
+        pub testing-says : Orderly t → (b : Bool) → Says (Tightest t X) b →
             Testing s count X (answer b)
-        testing-says np b h = by-sheet (answer b) (rw (equal count (t .triggers) same, near) (go (no-gain? (t .triggers) (t .after)) b h))
+        testing-says np b h = by-sheet (answer b) (rw (equal count (t .triggers) same, near) (go (orderly? t) b h))
           where
-            go : (d : Dec (NoGain (t .triggers) (t .after))) (b : Bool) → Says (Tightest (t .triggers) (tables-of t) X) b →
-                elim d as (λ _. Type 0) [ yes h ↦ Exactly (Tightest (t .triggers) (tables-of t) X) (answer b) | no h ↦ _≡_ {A = TestOutcome} (answer b) (refused 8) ]
+            go : (d : Dec (Orderly t)) (b : Bool) → Says (Tightest t X) b →
+                elim d as (λ _. Type 0) [ yes h ↦ Exactly (Tightest t X) (answer b) | no h ↦ _≡_ {A = TestOutcome} (answer b) (refused 8) ]
             go (yes _) true q = q
             go (yes _) false q = q
             go (no g) b q = absurd (g np)
@@ -67,12 +65,12 @@ exactly-one P (refused k) p a b = absurd a
 
 tests-one : (g : Got Sheet) (count : ℕ) (X : ℕ → ℤ) (o p : TestOutcome) → Tests g count X o → Tests g count X p → o ≡ p
 tests-one (spec.refused k) count X o p a b = a ∙ sym b
-tests-one (got t r) count X o p a b = go (not (eqb count (t .triggers))) (some-beyond (t .triggers) X) (no-gain? (t .triggers) (t .after)) a b
+tests-one (got t r) count X o p a b = go (not (eqb count (t .triggers))) (some-beyond (t .triggers) X) (orderly? t) a b
   where
-    Says-so : Bool → Bool → Dec (NoGain (t .triggers) (t .after)) → TestOutcome → Type 0
-    Says-so x y d o = cond x (o ≡ refused 10) (cond y (o ≡ refused 11) (elim d [ yes h ↦ Exactly (Tightest (t .triggers) (tables-of t) X) o | no h ↦ o ≡ refused 8 ]))
+    Says-so : Bool → Bool → Dec (Orderly t) → TestOutcome → Type 0
+    Says-so x y d o = cond x (o ≡ refused 10) (cond y (o ≡ refused 11) (elim d [ yes h ↦ Exactly (Tightest t X) o | no h ↦ o ≡ refused 8 ]))
 
-    go : (x y : Bool) (d : Dec (NoGain (t .triggers) (t .after))) → Says-so x y d o → Says-so x y d p → o ≡ p
+    go : (x y : Bool) (d : Dec (Orderly t)) → Says-so x y d o → Says-so x y d p → o ≡ p
     go true y d a b = a ∙ sym b
     go false true d a b = a ∙ sym b
     go false false (yes h) a b = exactly-one _ o p a b
@@ -89,9 +87,9 @@ known-number s count X k a = go (read s) refl a
     is : (j : ℕ) → 1 ≤ j → j ≤ 11 → refused k ≡ refused j → (1 ≤ k) × (k ≤ 11)
     is j p q e = let h = refused-same e in (omega arith, omega arith)
 
-    by-tests : (t : Sheet) (x y : Bool) (d : Dec (NoGain (t .triggers) (t .after))) →
+    by-tests : (t : Sheet) (x y : Bool) (d : Dec (Orderly t)) →
         cond x (refused k ≡ refused 10) (cond y (refused k ≡ refused 11)
-        (elim d [ yes h ↦ Exactly (Tightest (t .triggers) (tables-of t) X) (refused k) | no h ↦ refused k ≡ refused 8 ])) → (1 ≤ k) × (k ≤ 11)
+        (elim d [ yes h ↦ Exactly (Tightest t X) (refused k) | no h ↦ refused k ≡ refused 8 ])) → (1 ≤ k) × (k ≤ 11)
     by-tests t true y d a = is 10 (omega arith) (omega arith) a
     by-tests t false true d a = is 11 (omega arith) (omega arith) a
     by-tests t false false (yes h) a = absurd a
@@ -99,7 +97,7 @@ known-number s count X k a = go (read s) refl a
 
     go : (g : Got Sheet) → read s ≡ g → Tests g count X (refused k) → (1 ≤ k) × (k ≤ 11)
     go (spec.refused j) e a = let n = refusal-known s j e in is j (n .0) (let m = n .1 in omega arith) a
-    go (got t r) e a = by-tests t (not (eqb count (t .triggers))) (some-beyond (t .triggers) X) (no-gain? (t .triggers) (t .after)) a
+    go (got t r) e a = by-tests t (not (eqb count (t .triggers))) (some-beyond (t .triggers) X) (orderly? t) a
 
 abbrev tested-as : TestOutcome → Tested
 tested-as (answer true) = Yes

@@ -4,11 +4,9 @@ use mathlib.Core.List.{List}
 use mathlib.Core.Bool.{Bool, true, false, cond, not}
 use Prim.Native.Nat.{ℕ}
 use lib.Dec.{eqb}
-use lib.IntN.{ℤ}
-use Rattle.maxplus.proofs.StarLaws.{no-gain?}
-use Rattle.cue.specs.Meaning.{Tightest}
 use Rattle.sheet.specs.Sheet.{Got, got, Sheet, read}
-use Rattle.sheet.specs.Cue.{tables-of}
+use Rattle.sheet.specs.Meaning.{Timing, Tightest}
+use Rattle.sheet.specs.Cue.{orderly?}
 use Rattle.timing.specs.Times.{some-beyond}
 use Rattle.testing.specs.declared.Tested.{Tested}
 use Rattle.testing.specs.declared.Tested.the-variants.{Yes, No, Refused}
@@ -25,14 +23,14 @@ Exactly P (answer true) = P
 Exactly P (answer false) = ¬ P
 Exactly P (refused k) = ⊥
 
-abbrev pub Tests : Got Sheet → ℕ → (ℕ → ℤ) → TestOutcome → Type 0
+abbrev pub Tests : Got Sheet → ℕ → Timing → TestOutcome → Type 0
 Tests (sheet.refused k) count X r = r ≡ refused k
 Tests (got t s) count X r =
     cond (not (eqb count (t .triggers))) (r ≡ refused 10)
     (cond (some-beyond (t .triggers) X) (r ≡ refused 11)
-    (elim (no-gain? (t .triggers) (t .after)) [ yes h ↦ Exactly (Tightest (t .triggers) (tables-of t) X) r | no h ↦ r ≡ refused 8 ]))
+    (elim (orderly? t) [ yes h ↦ Exactly (Tightest t X) r | no h ↦ r ≡ refused 8 ]))
 
-unfoldable pub Testing : List ℕ → ℕ → (ℕ → ℤ) → TestOutcome → Type 0
+unfoldable pub Testing : List ℕ → ℕ → Timing → TestOutcome → Type 0
 Testing s count X r = Tests (read s) count X r
 
 -- the outcome that each case of the answer stands for

@@ -12,11 +12,11 @@ use Rattle.maxplus.proofs.EntryLaws.{inv-num}
 use Rattle.maxplus.proofs.SupLaws.{sup-ext}
 use Rattle.words.specs.Words.{entry}
 use Rattle.words.proofs.Laws.{entry-inj}
-use Rattle.cue.specs.Meaning.{Tables, timing, Keeps, overdue, shortfall, deviation, Tightest, Readable}
+use Rattle.cue.specs.Cue.{Cue, timing, Keeps, overdue, shortfall, deviation, Tightest, Readable}
 use Rattle.cue.proofs.Demands.{tightest-test}
 use Rattle.tables.specs.Held.{meant, meantV, Says}
 use Rattle.timing.specs.Times.{TimingWords}
-use Rattle.timing.specs.Deviation.{overdue-of, shortfall-of, deviation-of}
+use Rattle.timing.specs.Deviation.{deviation-of}
 use Rattle.timing.specs.Test.{Reaches, SheetWords, Tested}
 
 -- the order looks at the first places only
@@ -26,30 +26,30 @@ unfolding Keeps
 keeps-same e f k i j hi hj = rw (← e i j hi hj, ← f j hj, ← f i hi) (k i j hi hj)
 
 -- "Otherwise yes exactly when the timing is tightest, else no."
-pub reaches-tightest : {n : ℕ} {P : Tables} (X : ℕ → ℤ) → Readable n P → NoGain n (P .after) → (r : Bool) → Says (Reaches n P X) r →
+pub reaches-tightest : {n : ℕ} {P : Cue} (X : ℕ → ℤ) → Readable n P → NoGain n (P .order) → (r : Bool) → Says (Reaches n P X) r →
     Says (Tightest n P X) r
 reaches-tightest {n} {P} X R np true h = tightest-test n P R np X .1 h
 reaches-tightest {n} {P} X R np false h = λ t. h (tightest-test n P R np X .0 t)
 
 module _ {panels n : ℕ} {after lag : List (List ℕ)} {floor due : List ℕ} {least : ℕ} {X : ℕ → ℤ} {x : List ℕ} (w : TimingWords n X x) where
-  module _ {P : Tables} (s : SheetWords panels n after lag floor due least P) where
+  module _ {P : Cue} (s : SheetWords panels n after lag floor due least P) where
     -- ---- words and what they mean
-    order-of-words : Keeps n (meant after) (meantV x) → Keeps n (P .after) (timing X)
+    order-of-words : Keeps n (meant after) (meantV x) → Keeps n (P .order) (timing X)
     order-of-words = keeps-same (s .afters .at) (w .are .at)
 
-    order-in-words : Keeps n (P .after) (timing X) → Keeps n (meant after) (meantV x)
+    order-in-words : Keeps n (P .order) (timing X) → Keeps n (meant after) (meantV x)
     order-in-words = keeps-same (λ i j hi hj. sym (s .afters .at i j hi hj)) (λ j hj. sym (w .are .at j hj))
 
-    overdue-words : overdue-of n (meantV due) (meantV x) ≡ overdue n (P .due) (timing X)
-    unfolding overdue-of overdue
-    overdue-words = sup-ext n (λ j hj. ap₂ _⊗_ (w .are .at j hj) (ap inv (s .dues .at j hj) ∙ inv-num _))
+    overdue-words : overdue n (meantV due) (meantV x) ≡ overdue n (timing (P .due)) (timing X)
+    unfolding overdue
+    overdue-words = sup-ext n (λ j hj. ap₂ _⊗_ (w .are .at j hj) (ap inv (s .dues .at j hj)))
 
     landing-words : (i : ℕ) → i < panels → mv n (meant lag) (meantV x) i ≡ mv n (P .lag) (timing X) i
     unfolding mv
     landing-words i hi = sup-ext n (λ j hj. ap₂ _⊗_ (s .lags .at i j hi hj) (w .are .at j hj))
 
-    shortfall-words : shortfall-of panels n (meant lag) (meantV floor) (meantV x) ≡ shortfall n P (timing X)
-    unfolding shortfall-of shortfall
+    shortfall-words : shortfall panels n (meant lag) (meantV floor) (meantV x) ≡ shortfall (P .panels) n (P .lag) (P .floor) (timing X)
+    unfolding shortfall
     shortfall-words = rw (s .panels-are) (sup-ext panels (λ i hi. ap₂ _⊗_ (s .floors .at i hi) (ap inv (landing-words i hi))))
 
     pub deviation-words : deviation-of panels n (meant lag) (meantV floor) (meantV due) (meantV x) ≡ deviation n P (timing X)

@@ -3,19 +3,13 @@ use mathlib.Core.List.{List}
 use Prim.Native.Nat.{ℕ, _≤_}
 use Rattle.maxplus.specs.Entry.{E, _⊗_, inv}
 use Rattle.maxplus.specs.Tables.{sup, Vec, Mat, mv}
+use Rattle.cue.specs.Cue.{overdue, shortfall}
 use Rattle.sheet.specs.Sheet.{limit}
 use Rattle.tables.specs.Held.{Closely, CloselyV}
 
--- "the largest x(j) − q(j)"
-unfoldable pub overdue-of : ℕ → Vec → Vec → E
-overdue-of n q x = sup n (λ j. x j ⊗ inv (q j))
-
--- "the largest p(i) − y(i) over panels with a floor"
-unfoldable pub shortfall-of : ℕ → ℕ → Mat → Vec → Vec → E
-shortfall-of m n A p x = sup m (λ i. p i ⊗ inv (mv n A x i))
-
+-- "Deviation is the largest x(j) − q(j) plus the largest p(i) − y(i) over panels with a floor."
 unfoldable pub deviation-of : ℕ → ℕ → Mat → Vec → Vec → Vec → E
-deviation-of m n A p q x = overdue-of n q x ⊗ shortfall-of m n A p x
+deviation-of m n A p q x = overdue n q x ⊗ shortfall m n A p x
 
 -- what is asked of a sheet's words: at most six panels and triggers, and entries in range
 pub record SheetClose (panels n : ℕ) (lag : List (List ℕ)) (floor due : List ℕ) : Type 0 where

@@ -7,19 +7,19 @@ use lib.IntN.{ℤ}
 use Rattle.maxplus.specs.Entry.{num}
 use Rattle.maxplus.specs.Tables.{NoGain}
 use Rattle.words.specs.Words.{entry}
-use Rattle.cue.specs.Meaning.{Tables, timing, Keeps, deviation, Tightest, Readable}
+use Rattle.cue.specs.Cue.{Cue, timing, Keeps, deviation, Tightest, Readable}
 use Rattle.cue.specs.Method as method
 use Rattle.tables.specs.Held.{Holds, HoldsV, Says}
 
 -- "those that keep the order and reach the least deviation are the tightest ones"
-abbrev pub Reaches : ℕ → Tables → (ℕ → ℤ) → Type 0
-Reaches n P X = Keeps n (P .after) (timing X) × (deviation n P (timing X) ≡ num (method.least n P))
+abbrev pub Reaches : ℕ → Cue → (ℕ → ℤ) → Type 0
+Reaches n P X = Keeps n (P .order) (timing X) × (deviation n P (timing X) ≡ num (method.least n P))
 
 module _ (panels n : ℕ) (after lag : List (List ℕ)) (floor due : List ℕ) (least : ℕ) where
   -- the words are those of the tables P and of their least deviation
-  pub record SheetWords (P : Tables) : Type 0 where
+  pub record SheetWords (P : Cue) : Type 0 where
     pub panels-are : P .panels ≡ panels
-    pub afters : Holds n n (P .after) after
+    pub afters : Holds n n (P .order) after
     pub lags : Holds panels n (P .lag) lag
     pub floors : HoldsV panels (P .floor) floor
     pub dues : HoldsV n (timing (P .due)) due
@@ -28,5 +28,5 @@ module _ (panels n : ℕ) (after lag : List (List ℕ)) (floor due : List ℕ) (
   -- whatever tables they are, the answer says whether X reaches the least deviation and, on a sheet that timings can keep the order of,
   -- whether it is tightest
   pub record Tested (X : ℕ → ℤ) (r : Bool) : Type 0 where
-    pub reaches : (P : Tables) → SheetWords P → Says (Reaches n P X) r
-    pub tightest : (P : Tables) → SheetWords P → Readable n P → NoGain n (P .after) → Says (Tightest n P X) r
+    pub reaches : (P : Cue) → SheetWords P → Says (Reaches n P X) r
+    pub tightest : (P : Cue) → SheetWords P → Readable n P → NoGain n (P .order) → Says (Tightest n P X) r

@@ -8,7 +8,7 @@ use lib.IntN.{ℤ, pos}
 use lib.ListN.{getD}
 use Rattle.maxplus.specs.Whole.{up, dn}
 use Rattle.maxplus.specs.Finite.{each}
-use Rattle.cue.specs.Meaning.{timing}
+use Rattle.cue.specs.Cue.{timing}
 use Rattle.sheet.specs.Sheet.{any}
 use Rattle.tables.specs.Held.{HoldsV, CloselyV}
 

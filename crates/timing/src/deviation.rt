@@ -3,10 +3,11 @@ ghost use mathlib.Core.Path.{_≡_};
 ghost use Prim.Native.Nat.{_+_, _≤_, _<_};
 ghost use Rattle.maxplus.specs.Tables.{mv};
 ghost use Rattle.words.specs.Words.{entry, Close};
+ghost use Rattle.cue.specs.Cue.{overdue, shortfall};
 ghost use Rattle.sheet.specs.Sheet.{limit};
 ghost use Rattle.tables.specs.Held.{meant, meantV, Closely, CloselyV};
 ghost use Rattle.timing.specs.Times.{far-limit};
-ghost use Rattle.timing.specs.Deviation.{overdue-of, shortfall-of, deviation-of, SheetClose};
+ghost use Rattle.timing.specs.Deviation.{deviation-of, SheetClose};
 
 // The deviation of the times x.
 pub fn deviation(
@@ -28,7 +29,7 @@ pub fn deviation(
 // "the largest x(j) − q(j)"
 fn overdue(due: [u64; 6], x: [u64; 6], n: usize) -> u64
     requires { ⌜ (n ≤ 6) × CloselyV n limit due × CloselyV n far-limit x ⌝ }
-    ensures is { λ r. ⌜ entry r ≡ overdue-of n (meantV due) (meantV x) ⌝ }
+    ensures is { λ r. ⌜ entry r ≡ overdue n (meantV due) (meantV x) ⌝ }
     ensures close { λ r. ⌜ Close (far-limit + limit) r ⌝ }
 {
     let mut best: u64 = 0;
@@ -44,7 +45,7 @@ fn overdue(due: [u64; 6], x: [u64; 6], n: usize) -> u64
 // "the largest p(i) − y(i) over panels with a floor": without one the difference is absent, and adds nothing to a largest.
 fn shortfall(lag: &[[u64; 6]; 6], floor: [u64; 6], x: [u64; 6], panels: usize, n: usize) -> u64
     requires { ⌜ (panels ≤ 6) × (n ≤ 6) × Closely panels n limit (now lag) × CloselyV panels limit floor × CloselyV n far-limit x ⌝ }
-    ensures is { λ r. ⌜ entry r ≡ shortfall-of panels n (meant (now (lag .entry))) (meantV floor) (meantV x) ⌝ }
+    ensures is { λ r. ⌜ entry r ≡ shortfall panels n (meant (now (lag .entry))) (meantV floor) (meantV x) ⌝ }
     ensures close { λ r. ⌜ Close (limit + (limit + far-limit)) r ⌝ }
 {
     let mut best: u64 = 0;

@@ -1,6 +1,6 @@
 // "A timing keeps the order when it keeps every after rule."
 ghost use Prim.Native.Nat.{_≤_};
-ghost use Rattle.cue.specs.Meaning.{Keeps};
+ghost use Rattle.cue.specs.Cue.{Keeps};
 ghost use Rattle.sheet.specs.Sheet.{limit};
 ghost use Rattle.tables.specs.Held.{meant, meantV, Closely, CloselyV, Says};
 ghost use Rattle.timing.specs.Times.{far-limit};

@@ -11,7 +11,7 @@ use lib.ListN.{length, getD, take, drop, drop-of-length-le}
 use lib.Seq.{drop-cons}
 use Rattle.maxplus.specs.Finite.{each, onlyIf, mapL, countIf}
 use Rattle.maxplus.proofs.EachLaws.{each-same, map-each, map-length, map-twice}
-use Rattle.cue.specs.Meaning.{Tables}
+use Rattle.cue.specs.Cue.{Cue}
 use Rattle.cue.specs.Method as M
 use Rattle.cue.proofs.Walk.{geometric, steps-bound, cut-within}
 use Rattle.masks.specs.Trace.{Event, fixing, whole, bit, cut, serves, walkFrom, walkOf, selections, fixings}
@@ -26,7 +26,7 @@ use Rattle.walk.proofs.Stepping.{remaining, found-selection, end-select
 use Rattle.walk.proofs.EachLaws.{selections-each, fixings-each, sum-same, members-each}
 
 -- ---- document 01's walk as a list of events
-module _ (n : ℕ) (P : Tables) where
+module _ (n : ℕ) (P : Cue) where
   unfoldable events : List ℕ → M.Entries → List ℕ → List Event
   events [] o q = whole q ∷ []
   events (i ∷ is) o q = each n (λ j. onlyIf (o i j) (fixing ∷ events is (M.cut n P i j o) (q ++ j ∷ [])))
@@ -79,7 +79,7 @@ both-cut true s s' e c y p q = rw (p tt) (go s')
     go true = only e c q
     go false = refl
 
-module _ {n : ℕ} {P : Tables} {D : ℤ} {f : ℕ} {masks : List ℕ} {gains : List (List ℕ)} {panels : List ℕ}
+module _ {n : ℕ} {P : Cue} {D : ℤ} {f : ℕ} {masks : List ℕ} {gains : List (List ℕ)} {panels : List ℕ}
     (F : Follows n P D f masks gains panels) where
   abbrev panel : ℕ → ℕ
   panel l = getD panels l 0
@@ -168,7 +168,7 @@ module _ {masks : List ℕ} {gains : List (List ℕ)} {f : ℕ} {w : Walk} {r : 
   unfolding mapL
   ahead-end e = ap (mapL (zip panels)) (end-selections s e)
 
-module _ {n : ℕ} {P : Tables} {D : ℤ} {f : ℕ} {masks : List ℕ} {gains : List (List ℕ)} {panels : List ℕ}
+module _ {n : ℕ} {P : Cue} {D : ℤ} {f : ℕ} {masks : List ℕ} {gains : List (List ℕ)} {panels : List ℕ}
     (F : Follows n P D f masks gains panels) where
   pub ahead-start : 0 < f → ahead masks gains f panels (startOf masks) ≡ M.selections n P D
   ahead-start h = rw (start-pending masks gains f h) (selections-follow F)

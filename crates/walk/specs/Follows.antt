@@ -6,11 +6,11 @@ use Prim.Native.Nat.{ℕ, _<_, _≤_}
 use lib.Dec.{T, ltb}
 use lib.IntN.{ℤ}
 use lib.ListN.{length, getD}
-use Rattle.cue.specs.Meaning.{Tables}
+use Rattle.cue.specs.Cue.{Cue}
 use Rattle.cue.specs.Method as M
 use Rattle.masks.specs.Trace.{bit, serves}
 
-module _ (n : ℕ) (P : Tables) (D : ℤ) (f : ℕ) (masks : List ℕ) (gains : List (List ℕ)) (panels : List ℕ) where
+module _ (n : ℕ) (P : Cue) (D : ℤ) (f : ℕ) (masks : List ℕ) (gains : List (List ℕ)) (panels : List ℕ) where
   -- panels are those with a floor, f of them; the masks are their kept triggers, and wherever the walk compares two words they stand in
   -- the order of d(i,j) − p(i)
   pub record Follows : Type 0 where

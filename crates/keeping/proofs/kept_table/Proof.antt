@@ -8,9 +8,9 @@ use mir.Val.{toZ, ofZ}
 use mir.Facts.{toZ-ofZ}
 use Rattle.maxplus.proofs.EntryLaws.{num-inj}
 use Rattle.sheet.specs.Sheet as spec
-use Rattle.sheet.specs.Cue.{tables-of}
-use Rattle.preparing.specs.Marked.{MarkedAs}
-use Rattle.preparing.specs.Orderly.{orderly}
+use Rattle.sheet.specs.Cue.{cue-of}
+use Rattle.preparing.specs.Prepared.{Made}
+use Rattle.sheet.specs.Ordered.{ordered}
 use Rattle.keeping.specs.Keeping.{kept-answer}
 use Rattle.keeping.proofs.KeptLaws.{walked-answer, keeping-of}
 use Rattle.keeping.proofs.kept_table.Statement.{statement}
@@ -19,20 +19,26 @@ use Rattle.keeping.proofs.kept_table.Tie as tie
 abbrev at-prepare : tie.Else1 → tie.After-prepare
 at-prepare c = c .before .before
 
+abbrev at-star : tie.After-prepare → tie.After-star
+at-star c = c .before .before .before
+
+abbrev at-read : tie.After-prepare → tie.After-read-sheet
+at-read c = at-star c .before .before .before
+
 abbrev start : tie.After-prepare → tie.Start
-start c = c .before .before .before .before .before .before
+start c = at-read c .before .before
 
 -- the sheet, and all that is made from it
-abbrev Made : tie.After-prepare → spec.Sheet → Type 0
-Made c s =
-    let l = c .prepare .last .1 in
-    MarkedAs (s .triggers) (tables-of s) (l .0) (l .1 .0) (l .1 .1 .0) (l .1 .1 .1 .0) (c .prepare .result .marked)
+found : (c : tie.Else1) → let p = at-prepare c in let l = p .prepare .last .1 in
+    (s : spec.Sheet) × (x : List ℕ) × (ordered (start p .args .bytes .now) ≡ spec.got s x) ×
+    Made s (l .0) (l .1 .0) (l .1 .1 .0) (l .1 .1 .1 .0) (l .1 .1 .1 .1 .0) (p .prepare .result)
+found c = let p = at-prepare c in p .prepare .ensures _ (at-read p .read-sheet .ensures) .made (c .if1 .left)
 
-made : (c : tie.Else1) → let p = at-prepare c in (s : spec.Sheet) × (x : List ℕ) × (orderly (start p .args .bytes .now) ≡ spec.got s x) × Made p s
-made c = at-prepare c .prepare .ensures .ready (c .if1 .left)
+read-sheet-requires : tie.Need-read-sheet-requires
+read-sheet-requires c κs = search needs
 
 prepare-requires : tie.Need-prepare-requires
-prepare-requires c κs = search needs
+prepare-requires c κs = let r : tie.After-read-sheet = search in (_, r .read-sheet .ensures)
 
 no-table-requires : tie.Need-no-table-requires
 no-table-requires c κs = search needs
@@ -40,17 +46,18 @@ no-table-requires c κs = search needs
 returns : tie.Need-returns
 returns c =
     let p : tie.After-prepare = search in
-    c .no-table .ensures ∙ ap kept-answer (keeping-of _ (p .prepare .ensures .refusal (c .before .if1 .taken)))
+    let r : tie.After-read-sheet = search in
+    c .no-table .ensures ∙ ap kept-answer (keeping-of _ (p .prepare .ensures _ (r .read-sheet .ensures) .refusal (c .before .if1 .taken)))
 
 count-requires : tie.Need-count-requires
 count-requires c κs =
     let k : tie.Else1 = search in
-    let (s, x, q, M) = made k in (M .some-levels, M .few-levels, M .follows .small)
+    let (s, x, q, Q) = found k in (Q .marked .some-levels, Q .marked .few-levels, Q .marked .follows .small)
 
 number-requires : tie.Need-number-requires
 number-requires c κs =
     let k : tie.Else1 = search in
-    let (s, x, q, M) = made k in M .word
+    let (s, x, q, Q) = found k in Q .marked .word
 
 ones-of-requires : tie.Need-ones-of-requires
 ones-of-requires c κs = search needs
@@ -60,11 +67,11 @@ returns-2 c =
     let v : tie.After-number = search in
     let t : tie.After-count = search in
     let k : tie.Else1 = search in
-    let (s, x, q, M) = made k in
+    let (s, x, q, Q) = found k in
     let z : toZ w64 (ofZ w64 (v .number .result)) ≡ v .number .result = toZ-ofZ (record { sfits = v .number .ok }) in
-    walked-answer s x M _ (z ∙ num-inj (sym (v .number .ensures) ∙ M .deviation)) _ (c .ones-of .ensures) _ (t .count .ensures) ∙
+    walked-answer s x (Q .marked) _ (z ∙ num-inj (sym (v .number .ensures) ∙ Q .marked .deviation)) _ (c .ones-of .ensures) _ (t .count .ensures) ∙
     ap kept-answer (keeping-of _ q)
 
 pub kept-table-spec : {M : Type 1} → statement M
 kept-table-spec =
-    tie.close (tie.spec prepare-requires no-table-requires returns count-requires number-requires ones-of-requires returns-2)
+    tie.close (tie.spec read-sheet-requires prepare-requires no-table-requires returns count-requires number-requires ones-of-requires returns-2)

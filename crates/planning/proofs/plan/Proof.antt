@@ -8,11 +8,11 @@ use mir.Val.{toZ, ofZ}
 use mir.Facts.{toZ-ofZ}
 use Rattle.maxplus.proofs.EntryLaws.{num-inj}
 use Rattle.sheet.specs.Sheet as spec
-use Rattle.sheet.specs.Cue.{tables-of}
-use Rattle.preparing.specs.Marked.{MarkedAs}
+use Rattle.sheet.specs.Cue.{cue-of}
+use Rattle.preparing.specs.Prepared.{Made}
 use Rattle.walk.proofs.Follows.{counts-follow}
 use Rattle.lines.specs.Listing.{Answers}
-use Rattle.preparing.specs.Orderly.{orderly}
+use Rattle.sheet.specs.Ordered.{ordered}
 use Rattle.planning.proofs.PlanLaws.{does-refused, does-lines, does-full}
 use Rattle.planning.proofs.plan.Statement.{statement}
 use Rattle.planning.proofs.plan.Tie as tie
@@ -20,20 +20,26 @@ use Rattle.planning.proofs.plan.Tie as tie
 abbrev at-prepare : tie.Else1 → tie.After-prepare
 at-prepare c = c .before .before
 
+abbrev at-star : tie.After-prepare → tie.After-star
+at-star c = c .before .before .before
+
+abbrev at-read : tie.After-prepare → tie.After-read-sheet
+at-read c = at-star c .before .before .before
+
 abbrev start : tie.After-prepare → tie.Start
-start c = c .before .before .before .before .before .before
+start c = at-read c .before .before
 
 -- the sheet, and all that is made from it
-abbrev Made : tie.After-prepare → spec.Sheet → Type 0
-Made c s =
-    let l = c .prepare .last .1 in
-    MarkedAs (s .triggers) (tables-of s) (l .0) (l .1 .0) (l .1 .1 .0) (l .1 .1 .1 .0) (c .prepare .result .marked)
+found : (c : tie.Else1) → let p = at-prepare c in let l = p .prepare .last .1 in
+    (s : spec.Sheet) × (x : List ℕ) × (ordered (start p .args .bytes .now) ≡ spec.got s x) ×
+    Made s (l .0) (l .1 .0) (l .1 .1 .0) (l .1 .1 .1 .0) (l .1 .1 .1 .1 .0) (p .prepare .result)
+found c = let p = at-prepare c in p .prepare .ensures _ (at-read p .read-sheet .ensures) .made (c .if1 .left)
 
-made : (c : tie.Else1) → let p = at-prepare c in (s : spec.Sheet) × (x : List ℕ) × (orderly (start p .args .bytes .now) ≡ spec.got s x) × Made p s
-made c = at-prepare c .prepare .ensures .ready (c .if1 .left)
+read-sheet-requires : tie.Need-read-sheet-requires
+read-sheet-requires c κs = search needs
 
 prepare-requires : tie.Need-prepare-requires
-prepare-requires c κs = search needs
+prepare-requires c κs = let r : tie.After-read-sheet = search in (_, r .read-sheet .ensures)
 
 no-plan-requires : tie.Need-no-plan-requires
 no-plan-requires c κs = search needs
@@ -41,24 +47,25 @@ no-plan-requires c κs = search needs
 returns : tie.Need-returns
 returns c =
     let p : tie.After-prepare = search in
-    let d = does-refused _ _ _ (p .prepare .ensures .refusal (c .before .if1 .taken)) (c .no-plan .ensures) in
+    let r : tie.After-read-sheet = search in
+    let d = does-refused _ _ _ (p .prepare .ensures _ (r .read-sheet .ensures) .refusal (c .before .if1 .taken)) (c .no-plan .ensures) in
     (d .answer, d .written)
 
 tally-requires : tie.Need-tally-requires
 tally-requires c κs =
     let k : tie.Else1 = search in
-    let (s, x, e, M) = made k in
-    (M .few-levels, M .follows .small, M .masks-size)
+    let (s, x, e, Q) = found k in
+    (Q .marked .few-levels, Q .marked .follows .small, Q .marked .masks-size)
 
 number-requires : tie.Need-number-requires
 number-requires c κs =
     let k : tie.Else1 = search in
-    let (s, x, e, M) = made k in M .word
+    let (s, x, e, Q) = found k in Q .marked .word
 
 list-requires : tie.Need-list-requires
 list-requires c κs =
     let k : tie.Else1 = search in
-    let (s, x, e, M) = made k in (tables-of s, M .prepared)
+    let (s, x, e, Q) = found k in (cue-of s, Q .marked .prepared)
 
 enum-known-k : tie.Need-enum-known-k
 enum-known-k c = search needs
@@ -77,9 +84,9 @@ returns-2 c =
     let l : tie.After-list = search in
     let t : tie.After-tally = search in
     let k : tie.Else1 = search in
-    let (s, x, q, M) = made k in
+    let (s, x, q, Q) = found k in
     let (n, e) = c .before .before .k .given in
-    let d = does-full _ _ s x q _ _ (M .triggers-are) _ (c .no-room .ensures) (subst (Answers _ _ _ _) e (l .list .ensures (tables-of s) (M .prepared))) in
+    let d = does-full _ _ s x q _ _ (Q .marked .triggers-are) _ (c .no-room .ensures) (subst (Answers _ _ _ _) e (l .list .ensures (cue-of s) (Q .marked .prepared))) in
     (d .answer, d .written)
 
 same-length-2 : tie.Need-same-length-2
@@ -91,17 +98,18 @@ returns-3 c =
     let v : tie.After-number = search in
     let t : tie.After-tally = search in
     let k : tie.Else1 = search in
-    let (s, x, q, M) = made k in
+    let (s, x, q, Q) = found k in
     let (n, e) = c .before .k2 .given in
     let z : toZ w64 (ofZ w64 (v .number .result)) ≡ v .number .result = toZ-ofZ (record { sfits = v .number .ok }) in
-    let d = does-lines _ _ s x q _ _ (M .triggers-are) _ _ _ (z ∙ num-inj (sym (v .number .ensures) ∙ M .deviation))
-    (t .tally .ensures ∙ counts-follow (M .follows)) (subst (Answers _ _ _ _) e (l .list .ensures (tables-of s) (M .prepared))) in
+    let d = does-lines _ _ s x q _ _ (Q .marked .triggers-are) _ _ _ (z ∙ num-inj (sym (v .number .ensures) ∙ Q .marked .deviation))
+    (t .tally .ensures ∙ counts-follow (Q .marked .follows)) (subst (Answers _ _ _ _) e (l .list .ensures (cue-of s) (Q .marked .prepared))) in
     (d .answer, d .written)
 
 pub plan-spec : {M : Type 1} → statement M
 plan-spec =
     tie.close
     (tie.spec
+    read-sheet-requires
     prepare-requires
     no-plan-requires
     returns

@@ -1,76 +1,82 @@
 -- `preparing::prepare` meets its contract. Assumes nothing.
-use mathlib.Core.Path.{_≡_}
+use mathlib.Core.Path.{_≡_, subst}
 use mathlib.Core.List.{List}
 use Prim.Native.Nat.{ℕ}
 use native.Mathlib.Omega.{arith}
 use borrow.Author.Needs.{needs}
 use Rattle.sheet.specs.Sheet as spec
 use Rattle.sheet.specs.Sheet.{got, read}
-use Rattle.sheet.specs.Cue.{tables-of}
+use Rattle.maxplus.specs.Tables.{NoGain}
+use Rattle.sheet.specs.Cue.{cue-of, cue-size, Orderly}
+use Rattle.sheet.proofs.OrderedLaws.{ordered-refused, ordered-8, ordered-got}
 use Rattle.tables.proofs.Loops.{says-yes, says-no}
-use Rattle.preparing.specs.Inner.{Worded}
-use Rattle.preparing.proofs.OrderlyLaws.{orderly-refused, orderly-8, orderly-got}
-use Rattle.preparing.proofs.Preparing.{reading-refused, reading-good, triggers-of, unready, readied}
+use Rattle.preparing.proofs.Preparing.{reading-refused, reading-good, unready, readied}
 use Rattle.preparing.proofs.prepare.Statement.{statement}
 use Rattle.preparing.proofs.prepare.Tie as tie
 
--- the sheet that was read
-abbrev at-read : tie.Else1 → tie.After-read-sheet
-at-read c = c .before .before
+-- the order check is made with the cue's own number of triggers
+by-size : (t : spec.Sheet) {n : ℕ} → n ≡ cue-size t → ¬ (NoGain n (cue-of t .order)) → ¬ (Orderly t)
+by-size t e = subst (λ n. ¬ (NoGain n (cue-of t .order))) e
 
-abbrev start : tie.Else1 → tie.Start
-start c = at-read c .before .before
+kept-by-size : (t : spec.Sheet) {n : ℕ} → n ≡ cue-size t → NoGain n (cue-of t .order) → Orderly t
+kept-by-size t e = subst (λ n. NoGain n (cue-of t .order)) e
 
-found : (c : tie.Else1) → (s : spec.Sheet) × (x : List ℕ) × (read (start c .args .bytes .now) ≡ got s x) × Worded s (at-read c .read-sheet .result .sheet)
-found c = reading-good _ _ (at-read c .read-sheet .ensures) (c .if1 .left)
-
-read-sheet-requires : tie.Need-read-sheet-requires
-read-sheet-requires c κs = search needs
-
-not-ready-requires : tie.Need-not-ready-requires
-not-ready-requires c κs = search needs
+not-prepared-requires : tie.Need-not-prepared-requires
+not-prepared-requires c κs = search needs
 
 returns : tie.Need-returns
-returns c =
-    let r : tie.After-read-sheet = search in
-    unready _ (c .not-ready .ensures) (c .before .if1 .taken) (orderly-refused _ _ (reading-refused _ _ (r .read-sheet .ensures) (c .before .if1 .taken)))
+returns c s e =
+    let i : tie.Then1 = search in
+    unready _ (c .not-prepared .ensures) (i .if1 .taken) (ordered-refused _ _ (reading-refused _ _ e (i .if1 .taken)))
 
-ordered-tables-requires : tie.Need-ordered-tables-requires
-ordered-tables-requires c κs =
-    let k : tie.Else1 = search in
-    let (s, x, e, W) = found k in (s, W)
+cue-of-requires : tie.Need-cue-of-requires
+cue-of-requires c κs = search needs
 
-not-ready-requires-2 : tie.Need-not-ready-requires-2
-not-ready-requires-2 c κs = search needs
+closed-tables-requires : tie.Need-closed-tables-requires
+closed-tables-requires c κs =
+    let b : tie.Start = search in
+    let i : tie.Else1 = search in
+    let k : tie.After-cue-of = search in
+    let (s, e) = b .pre in
+    let (t, x, q, W) = reading-good _ _ e (i .if1 .left) in (cue-of t, k .cue-of .ensures .1 t W)
+
+not-prepared-requires-2 : tie.Need-not-prepared-requires-2
+not-prepared-requires-2 c κs = search needs
 
 returns-2 : tie.Need-returns-2
-returns-2 c =
-    let k : tie.Else1 = search in
-    let q : tie.After-ordered-tables = search in
-    let (s, x, e, W) = found k in
-    unready 8 (c .not-ready2 .ensures) (λ z. omega arith)
-    (orderly-8 _ s x e (says-no (q .ordered-tables .result) (c .before .if2 .taken) (q .ordered-tables .ensures s W .order)))
+returns-2 c s e =
+    let i : tie.Then2 = search in
+    let q : tie.After-closed-tables = search in
+    let k : tie.After-cue-of = search in
+    let g : tie.Else1 = search in
+    let (t, x, r, W) = reading-good _ _ e (g .if1 .left) in
+    let no = says-no (q .closed-tables .result) (i .if2 .taken) (q .closed-tables .ensures (cue-of t) (k .cue-of .ensures .1 t W) .order) in
+    unready 8 (c .not-prepared2 .ensures) (λ z. omega arith) (ordered-8 _ t x r (by-size t (k .cue-of .ensures .0 t W) no))
 
 marks-of-requires : tie.Need-marks-of-requires
 marks-of-requires c κs =
-    let k : tie.Else1 = search in
-    let q : tie.After-ordered-tables = search in
     let i : tie.Else2 = search in
-    let (s, x, e, W) = found k in
-    let T = q .ordered-tables .ensures s W in
-    (tables-of s, _, _, T .fit (says-yes (q .ordered-tables .result) (i .if2 .left) (T .order)))
+    let q : tie.After-closed-tables = search in
+    let k : tie.After-cue-of = search in
+    let g : tie.Else1 = search in
+    let b : tie.Start = search in
+    let (s, e) = b .pre in
+    let (t, x, r, W) = reading-good _ _ e (g .if1 .left) in
+    let T = q .closed-tables .ensures (cue-of t) (k .cue-of .ensures .1 t W) in
+    (cue-of t, _, _, T .fit (says-yes (q .closed-tables .result) (i .if2 .left) (T .order)))
 
 returns-3 : tie.Need-returns-3
-returns-3 c =
-    let k : tie.Else1 = search in
-    let q : tie.After-ordered-tables = search in
+returns-3 c s e =
     let i : tie.Else2 = search in
-    let (s, x, e, W) = found k in
-    let T = q .ordered-tables .ensures s W in
-    let np = says-yes (q .ordered-tables .result) (i .if2 .left) (T .order) in
-    readied s x (orderly-got _ s x e np) (triggers-of W) (c .marks-of .ensures (tables-of s) _ _ (T .fit np))
+    let q : tie.After-closed-tables = search in
+    let k : tie.After-cue-of = search in
+    let g : tie.Else1 = search in
+    let (t, x, r, W) = reading-good _ _ e (g .if1 .left) in
+    let size = k .cue-of .ensures .0 t W in
+    let H = k .cue-of .ensures .1 t W in
+    let T = q .closed-tables .ensures (cue-of t) H in
+    let np = says-yes (q .closed-tables .result) (i .if2 .left) (T .order) in
+    readied t x (ordered-got _ t x r (kept-by-size t size np)) size H np (c .marks-of .ensures (cue-of t) _ _ (T .fit np))
 
 pub prepare-spec : {M : Type 1} → statement M
-prepare-spec =
-    tie.close
-    (tie.spec read-sheet-requires not-ready-requires returns ordered-tables-requires not-ready-requires-2 returns-2 marks-of-requires returns-3)
+prepare-spec = tie.close (tie.spec not-prepared-requires returns cue-of-requires closed-tables-requires not-prepared-requires-2 returns-2 marks-of-requires returns-3)

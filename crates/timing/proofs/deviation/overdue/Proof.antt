@@ -10,7 +10,7 @@ use Rattle.sheet.specs.Sheet.{limit}
 use Rattle.tables.specs.Held.{meantV}
 use Rattle.tables.proofs.Loops.{largest-none, largest-more}
 use Rattle.timing.specs.Times.{far-limit}
-use Rattle.timing.specs.Deviation.{overdue-of}
+use Rattle.cue.specs.Cue.{overdue}
 use Rattle.timing.proofs.deviation.overdue.Statement.{statement}
 use Rattle.timing.proofs.deviation.overdue.Tie as tie
 
@@ -62,7 +62,7 @@ loop-again c =
     )
 
 returns : tie.Need-returns Inv-loop μ-loop
-unfolding overdue-of
+unfolding overdue
 returns c =
     let e : c .before .loop .j ≡ c .before .before .args .n = omega arith in
     (rw e at (c .before .loop .inv .1), c .before .loop .inv .2)

@@ -10,7 +10,7 @@ use Rattle.sheet.specs.Sheet.{limit}
 use Rattle.tables.specs.Held.{meant, meantV}
 use Rattle.tables.proofs.Loops.{largest-none, largest-more}
 use Rattle.timing.specs.Times.{far-limit}
-use Rattle.timing.specs.Deviation.{shortfall-of}
+use Rattle.cue.specs.Cue.{shortfall}
 use Rattle.timing.proofs.deviation.shortfall.Statement.{statement}
 use Rattle.timing.proofs.deviation.shortfall.Tie as tie
 
@@ -62,7 +62,7 @@ loop-again c =
     )
 
 returns : tie.Need-returns Inv-loop μ-loop
-unfolding shortfall-of
+unfolding shortfall
 returns c =
     let e : c .before .loop .i ≡ c .before .before .args .panels = omega arith in
     (rw e at (c .before .loop .inv .1), c .before .loop .inv .2)

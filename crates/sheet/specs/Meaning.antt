@@ -1,0 +1,39 @@
+-- What a sheet means (document 01, "One cue in one house"). Nothing here knows of star, selections or lines.
+use Prim.Native.Nat.{ℕ, _<_}
+use lib.IntN.{ℤ}
+use Rattle.maxplus.specs.Whole.{neg}
+use Rattle.maxplus.specs.Entry.{E, num, _≼_, _⊗_, inv}
+use Rattle.maxplus.specs.Tables.{sup, Vec, mv}
+use Rattle.sheet.specs.Sheet.{Sheet}
+
+-- "A timing is n whole numbers x, milliseconds, of any size": X 0 … X (n − 1), whatever stands past them
+abbrev pub Timing : Type 0
+Timing = ℕ → ℤ
+
+module _ (S : Sheet) where
+  open Sheet S using (panels, triggers, lag, floor, due, after)
+
+  -- "Landing y(i) is the largest a(i,j) + x(j)."
+  unfoldable pub landing : Timing → Vec
+  landing X = mv triggers lag (λ j. num (X j))
+
+  -- "A timing keeps the order when it keeps every after rule": x(i) ≥ b(i,j) + x(j)
+  unfoldable pub Keeps : Timing → Type 0
+  Keeps X = (i j : ℕ) → i < triggers → j < triggers → after i j ⊗ num (X j) ≼ num (X i)
+
+  -- "the largest x(j) − q(j)"
+  unfoldable pub overdue : Timing → E
+  overdue X = sup triggers (λ j. num (X j) ⊗ num (neg (due j)))
+
+  -- "the largest p(i) − y(i) over panels with a floor": an absent floor adds nothing to a largest
+  unfoldable pub shortfall : Timing → E
+  shortfall X = sup panels (λ i. floor i ⊗ inv (landing X i))
+
+  -- "Deviation is the largest x(j) − q(j) plus the largest p(i) − y(i) over panels with a floor."
+  unfoldable pub deviation : Timing → E
+  deviation X = overdue X ⊗ shortfall X
+
+  -- "It is tightest when it keeps the order and no timing that does has a smaller deviation."
+  pub record Tightest (X : Timing) : Type 0 where
+    pub keeps : Keeps X
+    pub least : (Y : Timing) → Keeps Y → deviation X ≼ deviation Y
