@@ -1,6 +1,5 @@
--- How large results are, in multiples of the limit L on entries. A star entry adds up fewer than n rules, the rest adds up along the
--- definitions. With six triggers at most: powers k L, star 5L, d 6L, r −6L to L, Δ −3L to 8L, w −15L to L, candidates before the
--- shift −21L to 7L, lines −28L to 0.
+-- How large results are, by two limits: L on lags, floors and due marks, B on the entries of the order table. A star entry adds up fewer
+-- than n rules, so it lies within mB; the rest adds up along the definitions. For six triggers each size has its name (specs/Sizes).
 use mathlib.Core.Path.{_≡_, refl, ap, sym, subst}
 use mathlib.Core.Logic.{inl, inr}
 use mathlib.Core.List.{List}
@@ -21,6 +20,8 @@ use Rattle.maxplus.proofs.LineLaws.{at-line}
 use Rattle.cue.specs.Cue.{Cue, timing, overdue, shortfall}
 use Rattle.cue.specs.Method.{Selection, through, pullE, pull, mark, leastE, least, ask, selections, need, seed, ray, candidate}
 use Rattle.cue.specs.Method.{candidates, lines}
+use Rattle.cue.specs.Sizes.{power-size, star-size, through-size, mark-down, mark-up, least-down, least-up, need-down, need-up}
+use Rattle.cue.specs.Sizes.{ray-down, ray-up, line-down}
 use Rattle.cue.proofs.Deviation.{overdue-at, pull-is, due-pull, mv-through, mark-keeps}
 use Rattle.cue.proofs.Candidates.{candidate-of, candidates-normal, selection-trigger, selection-panel, selection-serving}
 use Rattle.cue.proofs.Candidates.{ray-is-from, ray-overdue}
@@ -119,38 +120,38 @@ idm-below i j = elim (idm-or i j) [ inl e ↦ rw e (below-num (pos 0) (omega ari
 times-le : (k m L : ℕ) → k ≤ m → k * L ≤ m * L
 times-le k m L h = mul-le-mul-right L h
 
--- every entry that is there lies from −L to L
-pub record Limited (n : ℕ) (L : ℕ) (P : Cue) : Type 0 where
+-- lags, floors and due marks that are there lie from −L to L, entries of the order table from −B to B
+pub record Limited (n L B : ℕ) (P : Cue) : Type 0 where
   pub lags : (i j : ℕ) → i < P .panels → j < n → Within L L (P .lag i j)
   pub floors : (i : ℕ) → i < P .panels → Within L L (P .floor i)
   pub dues : (j : ℕ) → j < n → Within L L (num (P .due j))
-  pub afters : (i j : ℕ) → i < n → j < n → Within L L (P .order i j)
+  pub orders : (i j : ℕ) → i < n → j < n → Within B B (P .order i j)
 
--- at most m + 1 triggers; N below is m + 1
-module _ (n m L : ℕ) (P : Cue) (l : Limited n L P) (few : n ≤ suc m) where
+-- at most m + 1 triggers; M below is mB
+module _ (n m L B : ℕ) (P : Cue) (l : Limited n L B P) (few : n ≤ suc m) where
   open Cue P using (panels, lag, floor, due, order)
 
   -- before any check of circles: a power adds up that many entries
-  pub power-within : (k i j : ℕ) → i < n → j < n → Within (k * L) (k * L) (power n order k i j)
+  pub power-within : (k i j : ℕ) → i < n → j < n → Within (k * B) (k * B) (power n order k i j)
   unfolding power mm
   power-within zero i j hi hj = record { low = above-more (omega arith) (idm-above i j); high = below-more (omega arith) (idm-below i j) }
   power-within (suc k) i j hi hj =
       record {
         low = above-sup n _ (λ h hh. above-more (omega arith)
-            (above-⊗ (order i h) (power n order k h j) (l .afters i h hi hh .low) (power-within k h j hh hj .low)));
+            (above-⊗ (order i h) (power n order k h j) (l .orders i h hi hh .low) (power-within k h j hh hj .low)));
         high = below-sup n _ (λ h hh. below-more (omega arith)
-            (below-⊗ (order i h) (power n order k h j) (l .afters i h hi hh .high) (power-within k h j hh hj .high)));
+            (below-⊗ (order i h) (power n order k h j) (l .orders i h hi hh .high) (power-within k h j hh hj .high)));
       }
 
-  pub star-within : (i j : ℕ) → i < n → j < n → Within (m * L) (m * L) (star n order i j)
+  pub star-within : (i j : ℕ) → i < n → j < n → Within (m * B) (m * B) (star n order i j)
   unfolding star
   star-within i j hi hj =
       record {
-        low = above-sup n _ (λ k hk. above-more (times-le k m L (omega arith)) (power-within k i j hi hj .low));
-        high = below-sup n _ (λ k hk. below-more (times-le k m L (omega arith)) (power-within k i j hi hj .high));
+        low = above-sup n _ (λ k hk. above-more (times-le k m B (omega arith)) (power-within k i j hi hj .low));
+        high = below-sup n _ (λ k hk. below-more (times-le k m B (omega arith)) (power-within k i j hi hj .high));
       }
 
-  pub through-within : (i j : ℕ) → i < panels → j < n → Within (m * L + L) (m * L + L) (through n P i j)
+  pub through-within : (i j : ℕ) → i < panels → j < n → Within (m * B + L) (m * B + L) (through n P i j)
   unfolding through mm
   through-within i j hi hj =
       record {
@@ -160,18 +161,18 @@ module _ (n m L : ℕ) (P : Cue) (l : Limited n L P) (few : n ≤ suc m) where
             (below-⊗ (lag i k) (star n order k j) (l .lags i k hi hk .high) (star-within k j hk hj .high)));
       }
 
-  -- r = −pull, from −NL to L
-  pub pull-within : (j : ℕ) → j < n → Within L (m * L + L) (num (pull n P j))
+  -- r = −pull, from −M − L to L
+  pub pull-within : (j : ℕ) → j < n → Within L (m * B + L) (num (pull n P j))
   pull-within j hj =
       record {
         low = above-≼ (num (pull n P j)) (due-pull n P j hj) (above-neg (due j) (l .dues j hj .high));
-        high = subst (λ a. Below (m * L + L) a) (pull-is n P j hj)
+        high = subst (λ a. Below (m * B + L) a) (pull-is n P j hj)
             (unfold pullE overdue inv in below-sup n _
             (λ i hi. below-⊗ (star n order i j) (num (neg (due i))) (star-within i j hi hj .high) (below-neg (due i) (l .dues i hi .low))));
       }
 
   module _ (np : NoGain n order) where
-    mark-landing : (i : ℕ) → i < panels → Within (m * L + 2 * L) (2 * L) (mv n (through n P) (timing (mark n P)) i)
+    mark-landing : (i : ℕ) → i < panels → Within (m * B + 2 * L) (2 * L) (mv n (through n P) (timing (mark n P)) i)
     mark-landing i hi = rw (← mv-through n P (timing (mark n P)) (mark-keeps n P np) i) (unfold mv in (
         record {
           low = above-sup n _ (λ j hj. above-more (omega arith)
@@ -180,8 +181,8 @@ module _ (n m L : ℕ) (P : Cue) (l : Limited n L P) (few : n ≤ suc m) where
               (below-⊗ (lag i j) (num (neg (pull n P j))) (l .lags i j hi hj .high) (below-neg (pull n P j) (pull-within j hj .low))));
         }))
 
-    -- Δ, from −3L to (N + 2)L
-    pub least-within : Within (3 * L) (m * L + 3 * L) (num (least n P))
+    -- Δ, from −3L to M + 3L
+    pub least-within : Within (3 * L) (m * B + 3 * L) (num (least n P))
     unfolding least leastE shortfall
     least-within =
         record {
@@ -199,8 +200,8 @@ module _ (n m L : ℕ) (P : Cue) (l : Limited n L P) (few : n ≤ suc m) where
     D = least n P
 
     module _ (s : Selection) (hs : In s (selections n P D)) where
-      -- w, from −(2N + 3)L to L
-      pub need-within : (t : ℕ) → t < n → Within (2 * (m * L) + 5 * L) L (need n P D s t)
+      -- w, from −2M − 5L to L
+      pub need-within : (t : ℕ) → t < n → Within (2 * (m * B) + 5 * L) L (need n P D s t)
       need-within t ht =
           record {
             low = unfold need in above-supL s _
@@ -216,7 +217,7 @@ module _ (n m L : ℕ) (P : Cue) (l : Limited n L P) (few : n ≤ suc m) where
           fixed-trigger : (f : ℕ × ℕ) → In f s → f .1 < n
           fixed-trigger f q = selection-trigger n P D s hs (f .0) (f .1) q
 
-          fixing : (i j : ℕ) → i < panels → j < n → Above (2 * (m * L) + 5 * L) (ask n P D i ⊗ inv (through n P i j))
+          fixing : (i j : ℕ) → i < panels → j < n → Above (2 * (m * B) + 5 * L) (ask n P D i ⊗ inv (through n P i j))
           fixing i j hi hj = above-more (omega arith)
               (above-⊗ (ask n P D i) (inv (through n P i j))
               (above-⊗ (floor i) (num (neg D)) (l .floors i hi .low) (above-neg D (least-within .high)))
@@ -226,8 +227,8 @@ module _ (n m L : ℕ) (P : Cue) (l : Limited n L P) (few : n ≤ suc m) where
           up-to absent r h b = below-absent _
           up-to (num w) r h b = let k = (rw num-⊗ at h) .un in below-num w (omega (arith, k, up-add w r, b .above r refl))
 
-      -- candidates before the shift, from −(3N + 3)L to (N + 1)L
-      pub ray-within : (t i : ℕ) → t < n → i < n → Within (3 * (m * L) + 6 * L) (m * L + 2 * L) (ray n P D s t i)
+      -- candidates before the shift, from −3M − 6L to M + 2L
+      pub ray-within : (t i : ℕ) → t < n → i < n → Within (3 * (m * B) + 6 * L) (m * B + 2 * L) (ray n P D s t i)
       ray-within t i ht hi =
           record {
             low = unfold ray mv in above-sup n _
@@ -237,26 +238,26 @@ module _ (n m L : ℕ) (P : Cue) (l : Limited n L P) (few : n ≤ suc m) where
                 ≼-of (ap (overdue n (timing due)) (ray-is-from n P D s t)) ▸ ray-overdue n P D (need n P D s) (selection-serving n P D s hs) t) (l .dues i hi .high) (pull-within t ht .high);
           }
         where
-          seed-above : (j : ℕ) → j < n → Above (2 * (m * L) + 6 * L) (seed n P D s t j)
+          seed-above : (j : ℕ) → j < n → Above (2 * (m * B) + 6 * L) (seed n P D s t j)
           seed-above j hj = unfold seed in
               above-⊕ (idm t j) (need n P D s j ⊗ num (pull n P t)) (above-more (omega arith) (idm-above t j))
               (above-more (omega arith) (above-⊗ (need n P D s j) (num (pull n P t)) (need-within j hj .low) (pull-within t ht .low)))
 
-          up-to : (x : E) (q : ℤ) {g : ℤ} → x ⊗ num (neg q) ≼ num g → Below L (num q) → Below (m * L + L) (num g) → Below (m * L + 2 * L) x
+          up-to : (x : E) (q : ℤ) {g : ℤ} → x ⊗ num (neg q) ≼ num g → Below L (num q) → Below (m * B + L) (num g) → Below (m * B + 2 * L) x
           up-to absent q h a b = below-absent _
           up-to (num x) q {g} h a b = let k = (rw num-⊗ at h) .un in
               below-num x (omega (arith, k, up-neg q, up-add x (neg q), a .below q refl, b .below g refl))
 
-    -- every candidate, and so every line, from −(4N + 4)L to 0
-    pub candidate-within : (c : Line n) → In c (candidates n P D) → (i : ℕ) → i < n → Within (4 * (m * L) + 8 * L) 0 (at n c i)
+    -- every candidate, and so every line, from −4M − 8L to 0
+    pub candidate-within : (c : Line n) → In c (candidates n P D) → (i : ℕ) → i < n → Within (4 * (m * B) + 8 * L) 0 (at n c i)
     candidate-within c hc i hi =
         let (t, s, ht, hs, e) = candidate-of n P D c hc in
         record {
-          low = subst (λ c. Above (4 * (m * L) + 8 * L) (at n c i)) (sym e) (low t s ht hs);
+          low = subst (λ c. Above (4 * (m * B) + 8 * L) (at n c i)) (sym e) (low t s ht hs);
           high = high (at n c i) (candidates-normal n P D c hc .low i hi);
         }
       where
-        low : (t : ℕ) (s : Selection) → t < n → In s (selections n P D) → Above (4 * (m * L) + 8 * L) (at n (candidate n P D s t) i)
+        low : (t : ℕ) (s : Selection) → t < n → In s (selections n P D) → Above (4 * (m * B) + 8 * L) (at n (candidate n P D s t) i)
         low t s ht hs = unfold candidate in (rw (at-line n (normal n (ray n P D s t)) i hi) (unfold normal in
             above-more (omega arith) (above-⊗ (inv (sup n (ray n P D s t))) (ray n P D s t i)
             (above-inv _ (below-sup n _ (λ j hj. ray-within s hs t j ht hj .high))) (ray-within s hs t i ht hi .low))))
@@ -265,90 +266,57 @@ module _ (n m L : ℕ) (P : Cue) (l : Limited n L P) (few : n ≤ suc m) where
         high absent h = below-absent _
         high (num a) h = let k = h .un in below-num a (omega arith)
 
-    pub line-within : (c : Line n) → In c (lines n P) → (i : ℕ) → i < n → Within (4 * (m * L) + 8 * L) 0 (at n c i)
+    pub line-within : (c : Line n) → In c (lines n P) → (i : ℕ) → i < n → Within (4 * (m * B) + 8 * L) 0 (at n c i)
     line-within c hc = candidate-within c (in-lines n P c .0 hc .0)
 
 -- ---- at most six triggers
-within-more : {k l k' l' : ℕ} {a : E} → k ≤ k' → l ≤ l' → Within k l a → Within k' l' a
-within-more h i w = record { low = above-more h (w .low); high = below-more i (w .high) }
+-- each finite result of the method: K k l a says of a that −k to l holds it
+pub record Results (L B : ℕ) (K : ℕ → ℕ → E → Type 0) (n : ℕ) (P : Cue) : Type 0 where
+  pub powers : (k i j : ℕ) → k ≤ 6 → i < n → j < n → K (power-size L B k) (power-size L B k) (power n (P .order) k i j)
+  pub stars : (i j : ℕ) → i < n → j < n → K (star-size L B) (star-size L B) (star n (P .order) i j)
+  pub throughs : (i j : ℕ) → i < P .panels → j < n → K (through-size L B) (through-size L B) (through n P i j)
+  pub marks : (j : ℕ) → j < n → K (mark-down L B) (mark-up L B) (num (mark n P j))
+  pub deviation : K (least-down L B) (least-up L B) (num (least n P))
+  pub needs : (s : Selection) → In s (selections n P (least n P)) → (t : ℕ) → t < n → K (need-down L B) (need-up L B) (need n P (least n P) s t)
+  pub rays : (s : Selection) → In s (selections n P (least n P)) → (t i : ℕ) → t < n → i < n → K (ray-down L B) (ray-up L B) (ray n P (least n P) s t i)
+  pub components : (c : Line n) → In c (lines n P) → (i : ℕ) → i < n → K (line-down L B) 0 (at n c i)
 
-module _ (n L : ℕ) (P : Cue) (l : Limited n L P) (six : n ≤ 6) where
-  open Cue P using (panels, lag, floor, due, order)
-
-  pub star-six : (i j : ℕ) → i < n → j < n → Within (5 * L) (5 * L) (star n order i j)
-  star-six = star-within n 5 L P l six
-
-  pub through-six : (i j : ℕ) → i < panels → j < n → Within (6 * L) (6 * L) (through n P i j)
-  through-six i j hi hj = within-more (omega arith) (omega arith) (through-within n 5 L P l six i j hi hj)
-
-  pub pull-six : (j : ℕ) → j < n → Within (1 * L) (6 * L) (num (pull n P j))
-  pull-six j hj = within-more (omega arith) (omega arith) (pull-within n 5 L P l six j hj)
-
-  pub mark-six : (j : ℕ) → j < n → Within (6 * L) (1 * L) (num (mark n P j))
-  mark-six j hj = let w = pull-six j hj in record { low = above-neg (pull n P j) (w .high); high = below-neg (pull n P j) (w .low) }
-
-  module _ (np : NoGain n order) where
-    pub least-six : Within (3 * L) (8 * L) (num (least n P))
-    least-six = within-more (omega arith) (omega arith) (least-within n 5 L P l six np)
-
-    pub need-six : (s : Selection) → In s (selections n P (least n P)) → (t : ℕ) → t < n → Within (15 * L) (1 * L) (need n P (least n P) s t)
-    need-six s hs t ht = within-more (omega arith) (omega arith) (need-within n 5 L P l six np s hs t ht)
-
-    pub ray-six : (s : Selection) → In s (selections n P (least n P)) → (t i : ℕ) → t < n → i < n →
-        Within (21 * L) (7 * L) (ray n P (least n P) s t i)
-    ray-six s hs t i ht hi = within-more (omega arith) (omega arith) (ray-within n 5 L P l six np s hs t i ht hi)
-
-    pub line-six : (c : Line n) → In c (lines n P) → (i : ℕ) → i < n → Within (28 * L) (0 * L) (at n c i)
-    line-six c hc i hi = within-more (omega arith) (omega arith) (line-within n 5 L P l six np c hc i hi)
-
--- each finite result of the method, with how far down and how far up it goes, in limits: K k l a says of a that −k to l holds it
-pub record Results (K : ℕ → ℕ → E → Type 0) (n : ℕ) (P : Cue) : Type 0 where
-  pub powers : (k i j : ℕ) → k ≤ 6 → i < n → j < n → K k k (power n (P .order) k i j)
-  pub stars : (i j : ℕ) → i < n → j < n → K 5 5 (star n (P .order) i j)
-  pub throughs : (i j : ℕ) → i < P .panels → j < n → K 6 6 (through n P i j)
-  pub marks : (j : ℕ) → j < n → K 6 1 (num (mark n P j))
-  pub deviation : K 3 8 (num (least n P))
-  pub needs : (s : Selection) → In s (selections n P (least n P)) → (t : ℕ) → t < n → K 15 1 (need n P (least n P) s t)
-  pub rays : (s : Selection) → In s (selections n P (least n P)) → (t i : ℕ) → t < n → i < n → K 21 7 (ray n P (least n P) s t i)
-  pub components : (c : Line n) → In c (lines n P) → (i : ℕ) → i < n → K 28 0 (at n c i)
-
-abbrev pub Limits : ℕ → ℕ → ℕ → E → Type 0
-Limits L k l a = Within (k * L) (l * L) a
-
-pub results-six : (n : ℕ) (P : Cue) → NoGain n (P .order) → (L : ℕ) → Limited n L P → n ≤ 6 → Results (Limits L) n P
-results-six n P np L l six =
+pub results-six : (n L B : ℕ) (P : Cue) → NoGain n (P .order) → Limited n L B P → n ≤ 6 → Results L B Within n P
+results-six n L B P np l six =
     record {
-      powers = λ k i j hk hi hj. power-within n 5 L P l six k i j hi hj;
-      stars = star-six n L P l six;
-      throughs = through-six n L P l six;
-      marks = mark-six n L P l six;
-      deviation = least-six n L P l six np;
-      needs = need-six n L P l six np;
-      rays = ray-six n L P l six np;
-      components = line-six n L P l six np;
+      powers = λ k i j hk hi hj. power-within n 5 L B P l six k i j hi hj;
+      stars = star-within n 5 L B P l six;
+      throughs = through-within n 5 L B P l six;
+      marks = λ j hj. let w = pull-within n 5 L B P l six j hj in
+          record { low = above-neg (pull n P j) (w .high); high = below-neg (pull n P j) (w .low) };
+      deviation = least-within n 5 L B P l six np;
+      needs = need-within n 5 L B P l six np;
+      rays = ray-within n 5 L B P l six np;
+      components = line-within n 5 L B P l six np;
     }
 
--- ---- signed 32 bits: −2³¹ < z < 2³¹, so that the least such number is free to stand for absent
+-- ---- signed 32 bits, wherever the largest of the sizes fits
+-- −2³¹ < z < 2³¹, so that the least such number is free to stand for absent
 pub record Signed32 (a : E) : Type 0 where
   pub fits : (z : ℤ) → a ≡ num z → (up z < 2 ^ 31) × (dn z < 2 ^ 31)
 
-signed32 : (k l : ℕ) {a : E} → k ≤ 28 → l ≤ 28 → Limits 100000 k l a → Signed32 a
-signed32 k l {a} hk hl w = record { fits = λ z e. go z (w .low .above z e) (w .high .below z e) }
+pub signed32 : {k l : ℕ} {a : E} → k < 2 ^ 31 → l < 2 ^ 31 → Within k l a → Signed32 a
+signed32 {k} {l} {a} hk hl w = record { fits = λ z e. go z (w .low .above z e) (w .high .below z e) }
   where
-    go : (z : ℤ) → dn z ≤ k * 100000 + up z → up z ≤ l * 100000 + dn z → (up z < 2 ^ 31) × (dn z < 2 ^ 31)
+    go : (z : ℤ) → dn z ≤ k + up z → up z ≤ l + dn z → (up z < 2 ^ 31) × (dn z < 2 ^ 31)
     go (pos z) h i = (omega arith, omega arith)
     go (negsuc z) h i = (omega arith, omega arith)
 
-pub results-32 : (n : ℕ) (P : Cue) → NoGain n (P .order) → Limited n 100000 P → n ≤ 6 → Results (λ k l. Signed32) n P
-results-32 n P np l six =
-    let r = results-six n P np 100000 l six in
+pub results-32 : (n L B : ℕ) (P : Cue) → NoGain n (P .order) → Limited n L B P → n ≤ 6 → line-down L B < 2 ^ 31 → Results L B (λ k l. Signed32) n P
+results-32 n L B P np l six fit =
+    let r = results-six n L B P np l six in
     record {
-      powers = λ k i j hk hi hj. signed32 k k (omega arith) (omega arith) (r .powers k i j hk hi hj);
-      stars = λ i j hi hj. signed32 5 5 (omega arith) (omega arith) (r .stars i j hi hj);
-      throughs = λ i j hi hj. signed32 6 6 (omega arith) (omega arith) (r .throughs i j hi hj);
-      marks = λ j hj. signed32 6 1 (omega arith) (omega arith) (r .marks j hj);
-      deviation = signed32 3 8 (omega arith) (omega arith) (r .deviation);
-      needs = λ s hs t ht. signed32 15 1 (omega arith) (omega arith) (r .needs s hs t ht);
-      rays = λ s hs t i ht hi. signed32 21 7 (omega arith) (omega arith) (r .rays s hs t i ht hi);
-      components = λ c hc i hi. signed32 28 0 (omega arith) (omega arith) (r .components c hc i hi);
+      powers = λ k i j hk hi hj. let p : k * B ≤ 6 * B = times-le k 6 B hk in signed32 (omega arith) (omega arith) (r .powers k i j hk hi hj);
+      stars = λ i j hi hj. signed32 (omega arith) (omega arith) (r .stars i j hi hj);
+      throughs = λ i j hi hj. signed32 (omega arith) (omega arith) (r .throughs i j hi hj);
+      marks = λ j hj. signed32 (omega arith) (omega arith) (r .marks j hj);
+      deviation = signed32 (omega arith) (omega arith) (r .deviation);
+      needs = λ s hs t ht. signed32 (omega arith) (omega arith) (r .needs s hs t ht);
+      rays = λ s hs t i ht hi. signed32 (omega arith) (omega arith) (r .rays s hs t i ht hi);
+      components = λ c hc i hi. signed32 (omega arith) (omega arith) (r .components c hc i hi);
     }

@@ -3,7 +3,7 @@
 use mathlib.Core.Path.{_≡_}
 use mathlib.Core.Logic.{_↔_}
 use mathlib.Core.List.{List}
-use Prim.Native.Nat.{ℕ, _*_, _≤_, _<_}
+use Prim.Native.Nat.{ℕ, _^_, _≤_, _<_}
 use lib.Dec.{T}
 use lib.IntN.{ℤ}
 use lib.ListN.{length}
@@ -16,6 +16,7 @@ use Rattle.maxplus.specs.Combination.{Weighed, Combination}
 use Rattle.maxplus.proofs.LineLaws.{strict}
 use Rattle.cue.specs.Minimal.{others}
 use Rattle.cue.specs.Cue.{Cue, timing, Keeps, deviation, Tightest, Readable}
+use Rattle.cue.specs.Sizes.{line-down}
 use Rattle.cue.specs.Method.{Entries, Selection, least, floor-panels, walk, steps, candidates, lines}
 use Rattle.cue.proofs.Order.{keeps-iff-unchanged}
 use Rattle.cue.proofs.Deviation.{at-least, least-reached, tightest-least, order-possible}
@@ -90,12 +91,13 @@ module _ (n : ℕ) (P : Cue) (R : Readable n P) (np : NoGain n (P .order)) where
       ((c : Line n) → In c L ↔ (In c (candidates n P (least n P)) × Common n P (least n P) c)) → L ≡ lines n P
   list-by-test = lines-by-closure n P np
 
-  -- ---- "All finite results fit signed 32 bits; this is proved." Entries within ±L and six triggers at most: Results lists them
-  pub sizes : (L : ℕ) → Limited n L P → n ≤ 6 → Results (λ k l a. Within (k * L) (l * L) a) n P
-  sizes = results-six n P np
+  -- ---- "All finite results fit signed 32 bits; this is proved." Entries within ±L, those of the order table within ±B, and six triggers at
+  -- most: Results lists them, each with its size
+  pub sizes : (L B : ℕ) → Limited n L B P → n ≤ 6 → Results L B Within n P
+  sizes L B = results-six n L B P np
 
-  pub sizes-32 : Limited n 100000 P → n ≤ 6 → Results (λ k l a. Signed32 a) n P
-  sizes-32 = results-32 n P np
+  pub sizes-32 : (L B : ℕ) → Limited n L B P → n ≤ 6 → line-down L B < 2 ^ 31 → Results L B (λ k l. Signed32) n P
+  sizes-32 L B = results-32 n L B P np
 
 -- ---- demand 3: "every timing is tightest on both sheets or on neither" exactly when the lists are the same
 pub demand-3 : (n : ℕ) (P Q : Cue) → Readable n P → Readable n Q → NoGain n (P .order) → NoGain n (Q .order) →

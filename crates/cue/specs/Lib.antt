@@ -3,3 +3,4 @@ pub mod Minimal
 pub mod Cue
 pub mod Method
 pub mod Written
+pub mod Sizes

@@ -1,0 +1,60 @@
+-- How large results are, each size by its name: L limits lags, floors and due marks, B the entries of the order table. At most six triggers.
+use Prim.Native.Nat.{ℕ, _+_, _*_}
+
+module _ (L B : ℕ) where
+  -- a power of the order table; M*; d
+  abbrev pub power-size : ℕ → ℕ
+  power-size k = k * B
+
+  abbrev pub star-size : ℕ
+  star-size = 5 * B
+
+  abbrev pub through-size : ℕ
+  through-size = star-size + L
+
+  -- r, Δ, w, a candidate before the shift, a line: how far down and how far up
+  abbrev pub mark-down : ℕ
+  mark-down = star-size + L
+
+  abbrev pub mark-up : ℕ
+  mark-up = L
+
+  abbrev pub least-down : ℕ
+  least-down = 3 * L
+
+  abbrev pub least-up : ℕ
+  least-up = star-size + 3 * L
+
+  abbrev pub need-down : ℕ
+  need-down = 2 * star-size + 5 * L
+
+  abbrev pub need-up : ℕ
+  need-up = L
+
+  abbrev pub ray-down : ℕ
+  ray-down = 3 * star-size + 6 * L
+
+  abbrev pub ray-up : ℕ
+  ray-up = star-size + 2 * L
+
+  abbrev pub line-down : ℕ
+  line-down = 4 * star-size + 8 * L
+
+  -- words on the way: p(i) − Δ; the largest d(i,j) + r(j); M* w; a candidate drawn from it, before and after the shift; its lateness
+  abbrev pub ask-size : ℕ
+  ask-size = least-up + L
+
+  abbrev pub landing-size : ℕ
+  landing-size = through-size + mark-down
+
+  abbrev pub starred-size : ℕ
+  starred-size = star-size + need-down
+
+  abbrev pub drawn-size : ℕ
+  drawn-size = starred-size + mark-down
+
+  abbrev pub shifted-size : ℕ
+  shifted-size = 2 * drawn-size
+
+  abbrev pub late-size : ℕ
+  late-size = shifted-size + L

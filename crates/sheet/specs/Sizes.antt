@@ -1,0 +1,50 @@
+-- How large each result is for the sheets that are read: cue's sizes at the limits on a sheet's entries.
+use Prim.Native.Nat.{ℕ}
+use Rattle.cue.specs.Sizes as sizes
+use Rattle.sheet.specs.Sheet.{limit}
+
+-- the entries of the order table are those of the after lines
+abbrev pub order-limit : ℕ
+order-limit = limit
+
+-- a power of the order table; M*; d
+abbrev pub power-size : ℕ → ℕ
+power-size = sizes.power-size limit order-limit
+
+abbrev pub star-size : ℕ
+star-size = sizes.star-size limit order-limit
+
+abbrev pub through-size : ℕ
+through-size = sizes.through-size limit order-limit
+
+-- r as a due mark, turned as a pull; Δ; w; a line
+abbrev pub mark-down : ℕ
+mark-down = sizes.mark-down limit order-limit
+
+abbrev pub least-up : ℕ
+least-up = sizes.least-up limit order-limit
+
+abbrev pub need-down : ℕ
+need-down = sizes.need-down limit order-limit
+
+abbrev pub line-down : ℕ
+line-down = sizes.line-down limit order-limit
+
+-- words on the way: p(i) − Δ; the largest d(i,j) + r(j); M* w; a candidate drawn from it, before and after the shift; its lateness
+abbrev pub ask-size : ℕ
+ask-size = sizes.ask-size limit order-limit
+
+abbrev pub landing-size : ℕ
+landing-size = sizes.landing-size limit order-limit
+
+abbrev pub starred-size : ℕ
+starred-size = sizes.starred-size limit order-limit
+
+abbrev pub drawn-size : ℕ
+drawn-size = sizes.drawn-size limit order-limit
+
+abbrev pub shifted-size : ℕ
+shifted-size = sizes.shifted-size limit order-limit
+
+abbrev pub late-size : ℕ
+late-size = sizes.late-size limit order-limit
