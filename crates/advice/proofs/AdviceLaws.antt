@@ -58,7 +58,8 @@ module _ (s : List ℕ) where
   later-line k (b ∷ l) h = rw (ne-eqb (suc (suc k)) 1 (λ e. omega arith)) (simp unary-clauses (go l (eqb b 10) h (later-line k l)))
     where
       go : (l : List ℕ) (t : Bool) → cond t (none l) (one-line l) ≡ true →
-          (one-line l ≡ true → nth-line (l ++ s) (suc (suc k)) ≡ nth-line s (suc k)) → nth-line (l ++ s) (cond t (suc k) (suc (suc k))) ≡ nth-line s (suc k)
+          (one-line l ≡ true → nth-line (l ++ s) (suc (suc k)) ≡ nth-line s (suc k)) →
+          nth-line (l ++ s) (cond t (suc k) (suc (suc k))) ≡ nth-line s (suc k)
       go l false h ih = ih h
       go [] true h ih = refl
       go (c ∷ l) true h ih = absurd (no h)
@@ -83,7 +84,8 @@ whole-line [] h (suc k) = refl
 whole-line (l ∷ L) h k = go (one-line l) refl h (whole-line L) k
   where
     go : (t : Bool) → one-line l ≡ t → cond t (all-lines L) false ≡ true →
-        (all-lines L ≡ true → (k : ℕ) → nth-line (whole L) k ≡ getD ([] ∷ L) k []) → (k : ℕ) → nth-line (l ++ whole L) k ≡ getD ([] ∷ (l ∷ L)) k []
+        (all-lines L ≡ true → (k : ℕ) → nth-line (whole L) k ≡ getD ([] ∷ L) k []) →
+        (k : ℕ) → nth-line (l ++ whole L) k ≡ getD ([] ∷ (l ∷ L)) k []
     go false e h ih k = absurd (no h)
     go true e h ih zero = line-none (l ++ whole L)
     go true e h ih (suc zero) = first-line (whole L) l e
@@ -98,8 +100,8 @@ short : (n : ℕ) (L : List (List ℕ)) → all-short n L ≡ true → (k : ℕ)
 short n [] h k = omega arith
 short n (l ∷ L) h k = go (leb (length l) n) refl h (short n L) k
   where
-    go : (t : Bool) → leb (length l) n ≡ t → cond t (all-short n L) false ≡ true → (all-short n L ≡ true → (k : ℕ) → length (getD L k []) ≤ n) →
-        (k : ℕ) → length (getD (l ∷ L) k []) ≤ n
+    go : (t : Bool) → leb (length l) n ≡ t → cond t (all-short n L) false ≡ true →
+        (all-short n L ≡ true → (k : ℕ) → length (getD L k []) ≤ n) → (k : ℕ) → length (getD (l ∷ L) k []) ≤ n
     go false e h ih k = absurd (no h)
     go true e h ih zero = leb-true (length l) n e
     go true e h ih (suc k) = ih h k
@@ -152,7 +154,8 @@ module _ {before after text : List ℕ} {number left end i : ℕ} (f : Found bef
         omega (arith, simp (length-append, length-take-le end after (f .within)) at k, f .room, f .same-length)
 
     -- the byte is put, or is none of the line
-    pub put-it : {out : List ℕ} {last : ℕ} → left ≡ 1 → out ≡ set after end (getD text i 0) → last ≡ end + 1 → Passed before out text number left last i
+    pub put-it : {out : List ℕ} {last : ℕ} → left ≡ 1 → out ≡ set after end (getD text i 0) → last ≡ end + 1 →
+        Passed before out text number left last i
     put-it {out} {last} e p q =
         let r = room-left e in
         record {

@@ -13,7 +13,8 @@ pub fn advice_text(out: &mut [u8; 300], refusal: u8) -> usize
     put_nth(
         out,
         b"The sheet has more than 2048 bytes, and no right sheet is so long: look whether it is the right file.\n\
-A line is missing or has a wrong key, number of items, numeral or line end: the lines are panels=, triggers=, lag= for each panel, floor=, due=, after= for each trigger, in this order, with no spaces, LF after every line and nothing behind the last.\n\
+A line is missing or has a wrong key, number of items, numeral or line end: the lines are panels=, triggers=, lag= for each panel, \
+floor=, due=, after= for each trigger, in this order, with no spaces, LF after every line and nothing behind the last.\n\
 The number of panels or of triggers is not from 1 to 6: look at panels= and triggers=.\n\
 A number is outside -100000 to 100000: look at the lag=, floor=, due= and after= lines.\n\
 A due mark is absent: the due= line needs a number for each trigger.\n\

@@ -12,9 +12,9 @@ use lib.Seq.{getD-set-same, getD-set-other}
 use Rattle.maxplus.specs.Entry.{_⊕_}
 use Rattle.words.specs.Words.{entry}
 use Rattle.tables.specs.Held.{meantV}
-use Rattle.candidates.specs.Bits.{Has}
+use Rattle.trigger_sets.specs.Sets.{Has}
 use Rattle.buffer.specs.Buffer.{row}
-use Rattle.bounds.specs.Bounds.{places, Under, Covered, Among, Thinned, Grown, Joined, Raised, RaisedBy, Branched, Expanded}
+use Rattle.bounds.specs.Bounds.{places, Under, Covered, Among, Thinned, Grown, Joined, BoundRaised, RaisedBy, Branched, Expanded}
 
 -- ---- below
 pub under-refl : (a : List ℕ) → Under a a
@@ -131,7 +131,12 @@ module _ {before : List (List ℕ)} {w : List ℕ} where
 
 -- ---- growing: not at all, and told of more
 pub grown-none : {New : List ℕ → Type 0} {before : List (List ℕ)} {many : ℕ} → length before ≡ places → Grown New 0 before many before many
-grown-none {before = before} z = record { size = z; few = omega arith; from = λ k h. inr (record { place = k; there = h; is = refl }); old = λ i h. covered-itself i h refl }
+grown-none {before = before} z = record {
+  size = z;
+  few = omega arith;
+  from = λ k h. inr (record { place = k; there = h; is = refl });
+  old = λ i h. covered-itself i h refl;
+}
 
 pub grown-as : {New New′ : List ℕ → Type 0} {more more′ : ℕ} {before : List (List ℕ)} {many : ℕ} {after : List (List ℕ)} {r : ℕ} →
     ((v : List ℕ) → New v → New′ v) → more ≤ more′ → Grown New more before many after r → Grown New′ more′ before many after r
@@ -174,7 +179,7 @@ module _ {before : List (List ℕ)} {many : ℕ} {w : List ℕ} where
       there = covered-itself left (omega arith) (sym (row-same s left w room))
 
 -- ---- growing further: what was below something stays below it
-module _ {New : List ℕ → Type 0} {more : ℕ} {before : List (List ℕ)} {many : ℕ} {after : List (List ℕ)} {r : ℕ} (g : Grown New more before many after r) where
+module _ {New : List ℕ → Type 0} {more many r : ℕ} {before after : List (List ℕ)} (g : Grown New more before many after r) where
   pub grown-covered : {v : List ℕ} → Covered before many v → Covered after r v
   grown-covered c = covered-trans (g .old (c .place) (c .there)) (c .under)
 
@@ -197,7 +202,7 @@ has-yes e t = subst T (sym t ∙ e) tt
 pub has-no : {b c : Bool} → b ≡ c → b ≡ false → ¬ (T c)
 has-no e f t = subst T (sym e ∙ f) t
 
-pub raised-by : (w wants : List ℕ) (j word : ℕ) → entry word ≡ entry (getD wants j 0) ⊕ entry (getD w j 0) → Raised w wants j (set w j word)
+pub raised-by : (w wants : List ℕ) (j word : ℕ) → entry word ≡ entry (getD wants j 0) ⊕ entry (getD w j 0) → BoundRaised w wants j (set w j word)
 unfolding meantV
 raised-by w wants j word e = record { word = word; larger = unfold meantV in e; is = refl }
 
@@ -217,7 +222,7 @@ module _ {w : List ℕ} {mask : ℕ} {wants : List ℕ} where
         new = λ k l b. elim (ℕ-discrete k j) [ yes e ↦ absurd (h (rw (← e) b)) | no e ↦ t .new k (omega arith) b ];
       }
 
-      pub branched-more : {v : List ℕ} {after : List (List ℕ)} {r : ℕ} → Has mask j → Raised w wants j v → Joined s held v after r →
+      pub branched-more : {v : List ℕ} {after : List (List ℕ)} {r : ℕ} → Has mask j → BoundRaised w wants j v → Joined s held v after r →
           Branched w mask wants (j + 1) before many after r
       branched-more {v} h q g = record {
         grown = grown-then (g .grown) (t .grown) raised-more (λ u e. record { trigger = j; below = omega arith; kept = h; raised = rw e q });

@@ -7,7 +7,7 @@ use lib.ListN.{length, getD, set}
 use Rattle.maxplus.specs.Entry.{_⊕_}
 use Rattle.words.specs.Words.{entry}
 use Rattle.tables.specs.Held.{meantV}
-use Rattle.candidates.specs.Bits.{Has}
+use Rattle.trigger_sets.specs.Sets.{Has}
 use Rattle.buffer.specs.Buffer.{row}
 
 -- how many bounds a set has room for
@@ -50,7 +50,7 @@ pub record Joined (before : List (List ℕ)) (many : ℕ) (w : List ℕ) (after 
   pub new : Covered after r w
 
 -- w with component j raised to what is wanted there
-pub record Raised (w wants : List ℕ) (j : ℕ) (v : List ℕ) : Type 0 where
+pub record BoundRaised (w wants : List ℕ) (j : ℕ) (v : List ℕ) : Type 0 where
   pub word : ℕ
   pub larger : entry word ≡ meantV wants j ⊕ meantV w j
   pub is : v ≡ set w j word
@@ -60,16 +60,17 @@ pub record RaisedBy (w : List ℕ) (mask : ℕ) (wants : List ℕ) (n : ℕ) (v 
   pub trigger : ℕ
   pub below : trigger < n
   pub kept : Has mask trigger
-  pub raised : Raised w wants trigger v
+  pub raised : BoundRaised w wants trigger v
 
 -- w has been raised by each of them
-pub record Branched (w : List ℕ) (mask : ℕ) (wants : List ℕ) (n : ℕ) (before : List (List ℕ)) (many : ℕ) (after : List (List ℕ)) (r : ℕ) : Type 0 where
+pub record Branched (w : List ℕ) (mask : ℕ) (wants : List ℕ) (n : ℕ) (before : List (List ℕ)) (many : ℕ) (after : List (List ℕ))
+    (r : ℕ) : Type 0 where
   pub grown : Grown (RaisedBy w mask wants n) n before many after r
-  pub new : (j : ℕ) → j < n → Has mask j → (v : List ℕ) × Raised w wants j v × Covered after r v
+  pub new : (j : ℕ) → j < n → Has mask j → (v : List ℕ) × BoundRaised w wants j v × Covered after r v
 
 -- and so have all bounds of a set from one place to another
 pub record Expanded (bounds : List (List ℕ)) (from to mask : ℕ) (wants : List ℕ) (n : ℕ) (after : List (List ℕ)) (r : ℕ) : Type 0 where
   pub size : length after ≡ places
   pub few : r ≤ 6 * (to - from)
   pub made : (k : ℕ) → k < r → (i : ℕ) × (i < to) × RaisedBy (row bounds i) mask wants n (row after k)
-  pub new : (i j : ℕ) → from ≤ i → i < to → j < n → Has mask j → (v : List ℕ) × Raised (row bounds i) wants j v × Covered after r v
+  pub new : (i j : ℕ) → from ≤ i → i < to → j < n → Has mask j → (v : List ℕ) × BoundRaised (row bounds i) wants j v × Covered after r v

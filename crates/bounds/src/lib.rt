@@ -2,9 +2,9 @@
 ghost use mathlib.Core.Path.{_≡_};
 ghost use Prim.Native.Nat.{_+_, _≤_, _<_};
 ghost use lib.ListN.{length};
-ghost use Rattle.thresholds.specs.Steps.{bit};
 ghost use Rattle.tables.specs.Held.{Says};
 ghost use Rattle.bounds.specs.Bounds.{places, Under, Covered, Thinned, Joined, Branched, Expanded};
+use trigger_sets::has;
 
 // a lies below b in every component.
 fn under(a: [u64; 6], b: [u64; 6]) -> bool
@@ -64,13 +64,6 @@ fn join(set: &mut [[u64; 6]; 64], many: usize, w: [u64; 6]) -> usize
     let left = thin(set, many, w);
     set[left] = w;
     left + 1
-}
-
-fn has(m: u8, j: usize) -> bool
-    requires { ⌜ j < 8 ⌝ }
-    ensures { λ r. ⌜ r ≡ bit m j ⌝ }
-{
-    (m >> j) % 2 == 1
 }
 
 // Each trigger of the mask gives a bound: w, and what is wanted of the trigger.

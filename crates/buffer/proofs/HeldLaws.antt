@@ -18,7 +18,7 @@ use Rattle.maxplus.proofs.EachLaws.{map-append, map-length, map-at}
 use Rattle.maxplus.proofs.LineLaws.{strict}
 use Rattle.maxplus.proofs.SortedLaws.{gt?}
 use Rattle.cue.proofs.MinimalLaws.{Increasing}
-use Rattle.cue.specs.Written.{line-words, list-words}
+use Rattle.cue.specs.Written.{line-size, line-words, list-words}
 use Rattle.cue.proofs.WrittenLaws.{list-words-length, line-words-length}
 use Rattle.candidates.specs.Lines.{line-of, Sized}
 use Rattle.candidates.proofs.OrderLaws.{below-says}
@@ -48,11 +48,11 @@ module _ (n : ℕ) (buf : List (List ℕ)) where
   unfolding held mapL list-words
   laid-none-held before at = refl
 
-  pub laid-held : (before out after : List ℤ) (at k : ℕ) → k < length buf → at + 7 * (k + 1) ≤ length before →
-      out ≡ laid before at (list-words n (held n k buf)) → after ≡ laid out (at + 7 * k) (line-words n (line-of n (row buf k))) →
+  pub laid-held : (before out after : List ℤ) (at k : ℕ) → k < length buf → at + line-size * (k + 1) ≤ length before →
+      out ≡ laid before at (list-words n (held n k buf)) → after ≡ laid out (at + line-size * k) (line-words n (line-of n (row buf k))) →
       after ≡ laid before at (list-words n (held n (k + 1) buf))
   laid-held before out after at k h i p q =
-      q ∙ ap₂ (λ o m. laid o m (line-words n c)) p (let e : at + 7 * k ≡ at + length W = omega (arith, size) in e) ∙
+      q ∙ ap₂ (λ o m. laid o m (line-words n c)) p (let e : at + line-size * k ≡ at + length W = omega (arith, size) in e) ∙
       laid-more before at W (line-words n c) (omega (arith, size, line-words-length n c)) ∙
       ap (laid before at) (sym (ap (list-words n) (held-more k h) ∙ list-words-more n (held n k buf) (c ∷ []) ∙
       ap (λ m. W ++ m) (list-words-single n c)))
@@ -63,8 +63,8 @@ module _ (n : ℕ) (buf : List (List ℕ)) where
       W : List ℤ
       W = list-words n (held n k buf)
 
-      size : length W ≡ 7 * k
-      size = list-words-length n (held n k buf) ∙ ap (λ m. 7 * m) (held-length k (omega arith))
+      size : length W ≡ line-size * k
+      size = list-words-length n (held n k buf) ∙ ap (λ m. line-size * m) (held-length k (omega arith))
 
 -- ---- the order of lines is that of their words
 before-line : {n : ℕ} {a b : List ℕ} → n ≤ 6 → Sized n a → Sized n b → Before a b → ltL n (line-of n a) (line-of n b)

@@ -19,7 +19,7 @@ use Rattle.maxplus.specs.Line as line
 use Rattle.maxplus.specs.Line.{Line, at}
 use Rattle.maxplus.proofs.WholeLaws.{z-eq, up-sub}
 use Rattle.maxplus.proofs.EachLaws.{length-each, each-at}
-use Rattle.cue.specs.Written.{signed, line-words, list-words}
+use Rattle.cue.specs.Written.{line-size, signed, line-words, list-words}
 use Rattle.words.specs.Words.{bias, entry, Close}
 use Rattle.words.proofs.Laws.{entry-zero, close-none}
 use Rattle.tables.specs.Held.{meantV, CloselyV}
@@ -72,7 +72,7 @@ entry-at n c j s = elim (decLt j n) [
 component-words-length : (n : ℕ) (c : Line n) → length (component-words n c) ≡ 6
 component-words-length n c = length-each 6 (λ i. signed (at n c i))
 
-pub component-more : (out : List ℤ) (at n : ℕ) (c : List ℕ) (j : ℕ) (z : ℤ) → at + 7 ≤ length out → j < 6 → Sized n c →
+pub component-more : (out : List ℤ) (at n : ℕ) (c : List ℕ) (j : ℕ) (z : ℤ) → at + line-size ≤ length out → j < 6 → Sized n c →
     z ≡ signed (entry (getD c j 0)) →
     set (paste out (at + 1) (component-words n (line-of n c)) j) (at + 1 + j) z ≡ paste out (at + 1) (component-words n (line-of n c)) (j + 1)
 component-more out at n c j z h k s e =
@@ -93,7 +93,7 @@ pub laid-none : (before : List ℤ) (at : ℕ) → before ≡ laid before at []
 unfolding laid
 laid-none before at = sym (ap₂ _++_ (append-nil (take at before)) (ap (λ k. drop k before) (add-zero at)) ∙ take-append-drop at before)
 
-pub laid-line : (before : List ℤ) (at n : ℕ) (c : Line n) → at + 7 ≤ length before →
+pub laid-line : (before : List ℤ) (at n : ℕ) (c : Line n) → at + line-size ≤ length before →
     paste (set before at (pos n)) (at + 1) (component-words n c) 6 ≡ laid before at (line-words n c)
 unfolding laid line-words
 laid-line before at n c h =

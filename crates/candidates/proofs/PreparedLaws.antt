@@ -13,11 +13,12 @@ use Rattle.maxplus.proofs.SupLaws.{sup-ext}
 use Rattle.words.specs.Words.{word, entry, far, Close}
 use Rattle.words.proofs.Laws.{entry-word, close-minus}
 use Rattle.sheet.specs.Sheet.{limit}
+use Rattle.sheet.specs.Sizes.{order-limit, star-size, through-size, mark-down, least-up, need-down, ask-size}
 use Rattle.cue.specs.Cue.{Cue}
 use Rattle.cue.specs.Method.{through, least, floor-panels}
 use Rattle.cue.proofs.Walk.{floor-panels-in, floor-panels-few}
 use Rattle.cue.proofs.Candidates.{line-from, ray-split}
-use Rattle.cue.proofs.Bounds.{Within, star-six, through-six, pull-six, least-six}
+use Rattle.cue.proofs.Bounds.{Within, star-within, through-within, pull-within, least-within}
 use Rattle.tables.specs.Held.{meant, meantV, HoldsV, Closely, CloselyV}
 use Rattle.tables.proofs.SquareLaws.{close-within, closely-within, closely-withinV}
 use Rattle.candidates.specs.declared.Marks.{Marks}
@@ -49,19 +50,19 @@ module _ {n : ℕ} {P : Cue} {M : Marks} {stars lags needs : List (List ℕ)} (p
   pub levels-few : M .levels ≤ 6
   levels-few = let a = p .levels in let b = p .few-panels in omega (arith, floor-panels-few n P)
 
-  pub stars-close : Closely n n (5 * limit) stars
-  stars-close = closely-within (omega arith) (omega arith) (p .starred) (star-six n limit P (p .limited) (p .few))
+  pub stars-close : Closely n n star-size stars
+  stars-close = closely-within (omega arith) (omega arith) (p .starred) (star-within n 5 limit order-limit P (p .limited) (p .few))
 
-  pub pulls-close : CloselyV n (6 * limit) (M .pulls)
-  pulls-close = closely-withinV (omega arith) (omega arith) (p .pulled) (pull-six n limit P (p .limited) (p .few))
+  pub pulls-close : CloselyV n mark-down (M .pulls)
+  pulls-close = closely-withinV (omega arith) (omega arith) (p .pulled) (pull-within n 5 limit order-limit P (p .limited) (p .few))
 
-  asks-close : CloselyV panels (9 * limit) (M .asks)
+  asks-close : CloselyV panels ask-size (M .asks)
   unfolding meantV
   asks-close = record {
     at = λ i h.
         let (a, ea, ca) = word-of {c = limit} (floor i) (omega arith) (omega arith) (omega arith) (p .limited .floors i h) in
-        let (b, eb, cb) = word-of {c = 8 * limit} (num (least n P)) (omega arith) (omega arith) (omega arith)
-        (least-six n limit P (p .limited) (p .few) (p .order)) in
+        let (b, eb, cb) = word-of {c = least-up} (num (least n P)) (omega arith) (omega arith) (omega arith)
+        (least-within n 5 limit order-limit P (p .limited) (p .few) (p .order)) in
         close-minus a b _ (p .asked .at i h ∙ ap₂ _⊗_ (sym ea) (sym (ap inv eb ∙ inv-num _))) ca cb;
   }
 
@@ -83,13 +84,13 @@ module _ {n : ℕ} {P : Cue} {M : Marks} {stars lags needs : List (List ℕ)} (p
   unfolding floored
   floored-panel l h = floor-panels-in n P _ (in-at 0 (floor-panels n P) l (let e = p .levels in omega arith)) .0
 
-  pub needs-close : Closely (M .levels) n (15 * limit) needs
+  pub needs-close : Closely (M .levels) n need-down needs
   unfolding floored meant meantV
   needs-close = record {
     at = λ l j hl hj.
         let hi = floored-panel l hl in
-        let (b, eb, cb) = word-of {c = 6 * limit} (through n P (floored l) j) (omega arith) (omega arith) (omega arith)
-        (through-six n limit P (p .limited) (p .few) (floored l) j hi hj) in
+        let (b, eb, cb) = word-of {c = through-size} (through n P (floored l) j) (omega arith) (omega arith) (omega arith)
+        (through-within n 5 limit order-limit P (p .limited) (p .few) (floored l) j hi hj) in
         close-minus (getD (M .asks) (floored l) 0) b _
         (p .needed l j hl hj ∙ ap₂ _⊗_ (sym (p .asked .at (floored l) hi)) (ap inv (sym eb))) (asks-close .at (floored l) hi) cb;
   }

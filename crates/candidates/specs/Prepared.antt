@@ -8,11 +8,12 @@ use lib.ListN.{length, getD}
 use Rattle.maxplus.specs.Entry.{num, _⊗_, inv}
 use Rattle.maxplus.specs.Tables.{star, NoGain}
 use Rattle.sheet.specs.Sheet.{limit}
+use Rattle.sheet.specs.Sizes.{order-limit, star-size, ask-size}
 use Rattle.cue.specs.Cue.{Cue, Readable}
 use Rattle.cue.specs.Method.{through, pull, least, floor-panels, kept, ask}
 use Rattle.cue.proofs.Bounds.{Limited}
 use Rattle.tables.specs.Held.{meant, Holds, HoldsV, Closely, CloselyV}
-use Rattle.thresholds.specs.Steps.{bit}
+use Rattle.trigger_sets.specs.Sets.{bit}
 use Rattle.candidates.specs.declared.Marks.{Marks}
 
 -- the tables of P, and the marks, as words: row l of needs has p(i) − Δ − d(i,j) for the l-th panel i with a floor
@@ -24,7 +25,7 @@ pub record Prepared (n : ℕ) (P : Cue) (M : Marks) (stars lags needs : List (Li
   pub panels : M .panels ≡ P .panels
   pub levels : M .levels ≡ length (floor-panels n P)
   pub readable : Readable n P
-  pub limited : Limited n limit P
+  pub limited : Limited n limit order-limit P
   pub order : NoGain n (P .order)
   pub starred : Holds n n (star n (P .order)) stars
   pub lagged : Holds (P .panels) n (P .lag) lags
@@ -40,7 +41,7 @@ pub record Prepared (n : ℕ) (P : Cue) (M : Marks) (stars lags needs : List (Li
 pub record Ready (M : Marks) (stars lags : List (List ℕ)) : Type 0 where
   pub few : M .triggers ≤ 6
   pub few-panels : M .panels ≤ 6
-  pub starred : Closely (M .triggers) (M .triggers) (5 * limit) stars
+  pub starred : Closely (M .triggers) (M .triggers) star-size stars
   pub lagged : Closely (M .panels) (M .triggers) limit lags
   pub due : CloselyV (M .triggers) limit (M .due)
-  pub asked : CloselyV (M .panels) (9 * limit) (M .asks)
+  pub asked : CloselyV (M .panels) ask-size (M .asks)

@@ -7,7 +7,7 @@ use lib.Bits.{bitAnd}
 use lib.ListN.{getD}
 use Rattle.maxplus.specs.Entry.{E, _≼_, _⊗_, _⊕_, Present}
 use Rattle.maxplus.specs.Tables.{sup, Vec, Mat}
-use Rattle.candidates.specs.Bits.{Has, Marked}
+use Rattle.trigger_sets.specs.Sets.{Has, SetOf}
 
 -- M* applied to "0 at t and absent elsewhere", joined with "w minus r(t)": S is M*, u the pulls −r, y is M* w
 unfoldable pub ray-of : Mat → Vec → Vec → ℕ → Vec
@@ -18,7 +18,7 @@ abbrev pub Held : ℕ → Mat → Vec → ℕ → ℕ → Type 0
 Held n S x k j = Present (x k) × ((j < n) × (S k j ⊗ x j ≡ x k))
 
 pub record HeldSets (n : ℕ) (S : Mat) (x : Vec) (r : List ℕ) : Type 0 where
-  pub at : (k : ℕ) → k < n → Marked (λ j. Held n S x k j) (getD r k 0)
+  pub at : (k : ℕ) → k < n → SetOf (λ j. Held n S x k j) (getD r k 0)
 
 -- j reaches a, and no place is beyond
 abbrev pub Reached : ℕ → Vec → E → ℕ → Type 0
@@ -30,7 +30,7 @@ Tight n t a o = Present a × (a ⊗ o ≡ sup n t)
 
 -- where there is a lateness, the triggers that reach the landing of a tight panel; else 64, which no set of six bits holds
 pub record Reaching (n : ℕ) (t : Vec) (a o : E) (m : ℕ) : Type 0 where
-  pub tight : Present o → Tight n t a o → Marked (λ j. (j < n) × (t j ≡ sup n t)) m
+  pub tight : Present o → Tight n t a o → SetOf (λ j. (j < n) × (t j ≡ sup n t)) m
   pub never : ¬ (Tight n t a o) → m ≡ 64
 
 pub record TightSets (panels n : ℕ) (A : Mat) (a x : Vec) (o : E) (r : List ℕ) : Type 0 where

@@ -3,7 +3,7 @@ ghost use Prim.Native.Nat.{_*_, _≤_, _<_};
 ghost use Rattle.maxplus.specs.Entry.{_⊗_, _⊕_, inv};
 ghost use Rattle.maxplus.specs.Tables.{mv, normal};
 ghost use Rattle.words.specs.Words.{entry, Close};
-ghost use Rattle.sheet.specs.Sheet.{limit};
+ghost use Rattle.sheet.specs.Sizes.{star-size, mark-down, need-down, starred-size, drawn-size, shifted-size};
 ghost use Rattle.tables.specs.Held.{meant, meantV, HoldsV, Closely, CloselyV};
 ghost use Rattle.candidates.specs.Lines.{Written, Drawn};
 ghost use Rattle.candidates.specs.Steps.{ray-of};
@@ -13,9 +13,9 @@ use crate::entries::largest;
 
 // M* w, which serves every trigger.
 pub fn starred(star: &[[u64; 6]; 6], w: Line, n: usize) -> [u64; 6]
-    requires { ⌜ (n ≤ 6) × Closely n n (5 * limit) (now star) × CloselyV n (15 * limit) (w .at) ⌝ }
+    requires { ⌜ (n ≤ 6) × Closely n n star-size (now star) × CloselyV n need-down (w .at) ⌝ }
     ensures is { λ r. ⌜ HoldsV n (mv n (meant (now (star .entry))) (meantV (w .at))) r ⌝ }
-    ensures close { λ r. ⌜ CloselyV n (20 * limit) r ⌝ }
+    ensures close { λ r. ⌜ CloselyV n starred-size r ⌝ }
 {
     let at = w.at;
     let mut r = [0u64; 6];
@@ -35,8 +35,8 @@ pub fn candidate(
     n: usize,
     t: usize,
 ) -> Line
-    requires { ⌜ (n ≤ 6) × (t < n) × Closely n n (5 * limit) (now star) × CloselyV n (6 * limit) pulls × CloselyV n (20 * limit) starred ⌝ }
-    ensures { λ r. ⌜ Drawn n (52 * limit) (normal n (ray-of (meant (now (star .entry))) (meantV pulls) (meantV starred) t)) r ⌝ }
+    requires { ⌜ (n ≤ 6) × (t < n) × Closely n n star-size (now star) × CloselyV n mark-down pulls × CloselyV n starred-size starred ⌝ }
+    ensures { λ r. ⌜ Drawn n shifted-size (normal n (ray-of (meant (now (star .entry))) (meantV pulls) (meantV starred) t)) r ⌝ }
 {
     let ray = drawn(star, pulls[t], starred, n, t);
     let top = largest(ray, n);
@@ -48,9 +48,9 @@ pub fn candidate(
 
 // The candidate before the shift.
 fn drawn(star: &[[u64; 6]; 6], pull: u64, starred: [u64; 6], n: usize, t: usize) -> [u64; 6]
-    requires { ⌜ (n ≤ 6) × (t < n) × Closely n n (5 * limit) (now star) × Close (6 * limit) pull × CloselyV n (20 * limit) starred ⌝ }
+    requires { ⌜ (n ≤ 6) × (t < n) × Closely n n star-size (now star) × Close mark-down pull × CloselyV n starred-size starred ⌝ }
     ensures is { λ r. ⌜ HoldsV n (λ i. meant (now (star .entry)) i t ⊕ entry pull ⊗ meantV starred i) r ⌝ }
-    ensures close { λ r. ⌜ CloselyV n (26 * limit) r ⌝ }
+    ensures close { λ r. ⌜ CloselyV n drawn-size r ⌝ }
 {
     let mut r = [0u64; 6];
     let mut i: usize = 0;
@@ -63,7 +63,7 @@ fn drawn(star: &[[u64; 6]; 6], pull: u64, starred: [u64; 6], n: usize, t: usize)
 
 // The first n components, each less the number of top.
 fn shifted(x: [u64; 6], top: u64, n: usize) -> [u64; 6]
-    requires { ⌜ (n ≤ 6) × CloselyV n (26 * limit) x × Close (26 * limit) top ⌝ }
+    requires { ⌜ (n ≤ 6) × CloselyV n drawn-size x × Close drawn-size top ⌝ }
     ensures { λ r. ⌜ Written n (λ j. meantV x j ⊗ inv (entry top)) r ⌝ }
 {
     let mut r = [0u64; 6];

@@ -34,7 +34,7 @@ use Rattle.cue.specs.Method.{selections, steps, need, seed, ray, candidate, can
 use Rattle.cue.proofs.Order.{keeps?}
 use Rattle.cue.proofs.Deviation.{tightest?}
 use Rattle.sheet.specs.Text.{bytes}
-use Rattle.sheet.specs.Sheet.{literal, value, behind, signed, item, ended, items, any, checked, rows, row, table, tables, read, Sheet}
+use Rattle.sheet.specs.Sheet.{literal, value, behind, signed, item, ended, items, any, checked, rows, row, table, sections, read, Sheet}
 use Rattle.sheet.specs.Cue.{cue-of, Orderly, orderly?}
 use Rattle.sheet.proofs.Seam.{tightest-cue}
 use Rattle.sheet.specs.Sheet as sheet
@@ -65,12 +65,12 @@ pub data Case : Type 0 where
   tests : (sheet : String) (times : List ℤ) (answer : Tested) → Case
 
 -- whatever references a caller hands over to these bytes and words: what the contract allows is the case's answer, and what is left
-abbrev pub Holds : Case → Type 0
-Holds (plans s lent r left) = (κs : Lfts 2) (sheet : RefT (List ℕ)) (before after : RefT (List ℤ)) (q : CuePlan) →
+abbrev pub CaseHolds : Case → Type 0
+CaseHolds (plans s lent r left) = (κs : Lfts 2) (sheet : RefT (List ℕ)) (before after : RefT (List ℤ)) (q : CuePlan) →
     sheet .now ≡ bytes s → before .now ≡ lent → plan.Learnt κs (sheet, (before, tt)) q (sheet, (after, tt)) → (q ≡ r) × (after .now ≡ left)
-Holds (keeps s r) = (κs : Lfts 1) (sheet : RefT (List ℕ)) (q : KeptTable) →
+CaseHolds (keeps s r) = (κs : Lfts 1) (sheet : RefT (List ℕ)) (q : KeptTable) →
     sheet .now ≡ bytes s → kept_table.Learnt κs (sheet, tt) q (sheet, tt) → q ≡ r
-Holds (tests s times r) = (κs : Lfts 1) (sheet : RefT (List ℕ)) (timing : Timing) (rest : List ℤ) (q : Tested) →
+CaseHolds (tests s times r) = (κs : Lfts 1) (sheet : RefT (List ℕ)) (timing : Timing) (rest : List ℤ) (q : Tested) →
     sheet .now ≡ bytes s → timing ≡ record { count = length times; at = times ++ rest } →
     test_timing.Learnt κs (sheet, (timing, tt)) q (sheet, (timing, tt)) → q ≡ r
 
@@ -159,7 +159,7 @@ Computed (plans s lent r left) =
 Computed (keeps s r) = kept-answer (keeping (bytes s)) ≡ r
 Computed (tests s times r) = (rest : List ℤ) → Testing (bytes s) (length times) (component (times ++ rest)) (test-answer r)
 
-holds : (c : Case) → Computed c → Holds c
+holds : (c : Case) → Computed c → CaseHolds c
 holds (plans s lent r left) (e, w) = λ κs sheet before after q b l (f, v). (
   f ∙ ap (λ s. plan-answer (planning s (before .now))) b ∙ ap (λ l. plan-answer (planning (bytes s) l)) l ∙ e,
   v ∙ ap (λ s. space-after (planning s (before .now)) (before .now)) b ∙ ap (λ l. space-after (planning (bytes s) l) l) l ∙ w,
@@ -170,7 +170,7 @@ holds (tests s times r) e = λ κs sheet timing rest q b t h.
     (subst (λ (t : Timing). Testing (bytes s) (t .count) (component (t .at)) (test-answer q)) t
     (subst (λ s. Testing s (timing .count) (component (timing .at)) (test-answer q)) b h)) (e rest)
 
-all-hold : {l : List Case} → Every Computed l → Every Holds l
+all-hold : {l : List Case} → Every Computed l → Every CaseHolds l
 all-hold done = done
 all-hold (_then_ {c} h k) = holds c h then all-hold k
 
@@ -187,7 +187,6 @@ whole =
     }
 
 whole-readable : Readable 2 (cue-of whole)
-unfolding row table
 whole-readable =
     record {
       trigger = lit< tt;
@@ -201,15 +200,21 @@ whole-readable =
     lagged (nat.suc (nat.suc i)) h = absurd (let e : ⊥ = omega arith in e)
 
 whole-ordered : Orderly whole
-unfolding row table orderly? no-gain? gain-or mm mv power idm sup supL _⊗_ _⊕_ ≼-dec all-or all-dec decide
+unfolding orderly? no-gain? gain-or mm mv power idm sup supL _⊗_ _⊕_ ≼-dec all-or all-dec decide
 whole-ordered = decide-yes (orderly? whole) tt
 
 -- ---- the whole table
-pub cases-hold : Every Holds cases
-unfolding planning space-after keeping kept-byte kept-count Testing tightest? keeps? Keeps same-entry? deviation shortfall ordered orderly? line-words list-words read sheet.lines sheet.line rows tables checked any ended items item signed value behind literal row table bytes least leastE steps selections lines minimal needed? others combination? asked? met? under-dec fixings walk kept cut serves-as-well floor-panels through pull pullE overdue need seed ray candidate candidates no-gain? gain-or mm mv star power idm normal sup supL at line put sift each mapL sum val inv _⊗_ _⊕_ maxz _+z_ neg decLe z-dec ≼-dec present-dec all-or all-dec any-dec dec-× dec-¬ dec-→ ltE-cmp ltL-cmp strict same? decide
+pub cases-hold : Every CaseHolds cases
+unfolding planning space-after keeping kept-byte kept-count Testing tightest? keeps? Keeps same-entry? deviation shortfall ordered orderly? line-words
+    list-words read sheet.lines sheet.line rows sections checked any ended items item signed value behind literal bytes least leastE steps
+    selections lines minimal needed? others combination? asked? met? under-dec fixings walk kept cut serves-as-well floor-panels through pull pullE
+    overdue need seed ray candidate candidates no-gain? gain-or mm mv star power idm normal sup supL at line put sift each mapL sum val inv _⊗_
+    _⊕_ maxz _+z_ neg decLe z-dec ≼-dec present-dec all-or all-dec any-dec dec-× dec-¬ dec-→ ltE-cmp ltL-cmp strict same? decide
 cases-hold =
     all-hold
-    ((refl, refl) then (refl, refl) then (refl, refl) then (refl, refl) then (refl, refl) then (refl, refl) then (refl, refl) then (refl, refl) then (refl, refl) then
+    ((refl, refl) then (refl, refl) then (refl, refl) then
+    (refl, refl) then (refl, refl) then (refl, refl) then
+    (refl, refl) then (refl, refl) then (refl, refl) then
     refl then refl then refl then refl then refl then refl then refl then
     (λ rest. tightest-cue whole _ .1 (decide-yes (asked 0 rest) tt)) then
     (λ rest. tightest-cue whole _ .1 (decide-yes (asked 1 rest) tt)) then
@@ -223,5 +228,9 @@ cases-hold =
 pub texts-hold : mapL program-text (bytes whole-case ∷ bytes (one-by-one "1") ∷ bytes "" ∷ []) ++ text (outcome.full 2) ∷ [] ≡
     bytes "deviation=2\nsteps=2\nselections=1\ncount=2\nline=-1,0\nline=0,-\n" ∷ bytes "refused=8\n" ∷ bytes "refused=2\n" ∷
     bytes "refused=9\ncount=2\n" ∷ []
-unfolding program-text text plan-text refusal-text full-text line-texts joined digits ordered orderly? line-words list-words read sheet.lines sheet.line rows tables checked any ended items item signed value behind literal row table bytes least leastE shortfall steps selections lines minimal needed? others combination? asked? met? under-dec fixings walk kept cut serves-as-well floor-panels through pull pullE overdue need seed ray candidate candidates no-gain? gain-or mm mv star power idm normal sup supL at line put sift each mapL sum val inv _⊗_ _⊕_ maxz _+z_ neg decLe z-dec ≼-dec present-dec all-or all-dec any-dec dec-× dec-¬ dec-→ ltE-cmp ltL-cmp strict same?
+unfolding program-text text plan-text refusal-text full-text line-texts joined digits ordered orderly? line-words list-words read sheet.lines sheet.line rows
+    sections checked any ended items item signed value behind literal bytes least leastE shortfall steps selections lines minimal needed? others
+    combination? asked? met? under-dec fixings walk kept cut serves-as-well floor-panels through pull pullE overdue need seed ray candidate candidates
+    no-gain? gain-or mm mv star power idm normal sup supL at line put sift each mapL sum val inv _⊗_ _⊕_ maxz _+z_ neg decLe z-dec ≼-dec
+    present-dec all-or all-dec any-dec dec-× dec-¬ dec-→ ltE-cmp ltL-cmp strict same?
 texts-hold = refl

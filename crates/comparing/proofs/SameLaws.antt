@@ -23,7 +23,7 @@ use Rattle.sheet.specs.Sheet as sheet
 use Rattle.reading.proofs.Refusals.{refusal-numbered}
 use Rattle.sheet.specs.Cue.{cue-of, Orderly, orderly?}
 use Rattle.tables.specs.Held.{Says}
-use Rattle.planning.specs.Planning.{Outcome, planned, full, refused, plan-of, planning, space-after, plan-answer}
+use Rattle.planning.specs.Planning.{PlanOutcome, planned, full, refused, plan-of, planning, space-after, plan-answer}
 use Rattle.sheet.specs.Ordered.{ordered}
 use Rattle.comparing.specs.Inner.{Refuses}
 use Rattle.planning.specs.Demands.{Planned, count-of}
@@ -34,6 +34,7 @@ use Rattle.planning.proofs.Demands.{known, demand-3}
 use Rattle.sheet.proofs.OrderedLaws.{ordered-by, ordered-refused}
 use Rattle.planning.proofs.PlanLaws.{planning-refused}
 use Rattle.maxplus.proofs.FiniteLaws.{equal, unequal}
+use Rattle.cue.specs.Written.{line-size}
 
 -- ---- the first words of two spaces
 pub same-at : (k i : ℕ) (a b : List ℤ) → i < k → take k a ≡ take k b → getD a i (pos 0) ≡ getD b i (pos 0)
@@ -112,21 +113,21 @@ module _ (g : Got Sheet) (p : CuePlan) (e : p ≡ plan-answer (plan-of 0 g)) (ro
             count = c ∙ sym (counted (t .triggers) _ _ _ L room);
           }
 
-module _ (s : List ℕ) (none : List ℤ) (few : length none / 7 ≡ 0) (p : CuePlan) (e : p ≡ plan-answer (planning s none)) (words : ℕ)
+module _ (s : List ℕ) (none : List ℤ) (few : length none / line-size ≡ 0) (p : CuePlan) (e : p ≡ plan-answer (planning s none)) (words : ℕ)
     (space : List ℤ) (same : length space ≡ words) where
   at-none : p ≡ plan-answer (plan-of 0 (ordered s))
   unfolding planning
   at-none = e ∙ ap (λ k. plan-answer (plan-of k (ordered s))) few
 
-  at-space : (k : ℕ) → Found (ordered s) p at-none (words / 7) k → Refuses (record { number = k; count = p .count }) (plan-answer (planning s space))
+  at-space : (k : ℕ) → Found (ordered s) p at-none (words / line-size) k → Refuses (record { number = k; count = p .count }) (plan-answer (planning s space))
   unfolding planning
-  at-space k = subst (λ w. Refuses (record { number = k; count = p .count }) (plan-answer (plan-of (w / 7) (ordered s)))) (sym same)
+  at-space k = subst (λ w. Refuses (record { number = k; count = p .count }) (plan-answer (plan-of (w / line-size) (ordered s)))) (sym same)
 
-  pub refused-enough : 0 < p .count → p .count ≤ words / 7 → Refuses (record { number = 0; count = p .count }) (plan-answer (planning s space))
-  refused-enough h f = at-space 0 (found-enough (ordered s) p at-none (words / 7) h f)
+  pub refused-enough : 0 < p .count → p .count ≤ words / line-size → Refuses (record { number = 0; count = p .count }) (plan-answer (planning s space))
+  refused-enough h f = at-space 0 (found-enough (ordered s) p at-none (words / line-size) h f)
 
-  pub refused-short : (0 < p .count → words / 7 < p .count) → Refuses (record { number = p .refusal; count = p .count }) (plan-answer (planning s space))
-  refused-short f = at-space (p .refusal) (found-short (ordered s) p at-none (words / 7) f)
+  pub refused-short : (0 < p .count → words / line-size < p .count) → Refuses (record { number = p .refusal; count = p .count }) (plan-answer (planning s space))
+  refused-short f = at-space (p .refusal) (found-short (ordered s) p at-none (words / line-size) f)
 
 -- ---- two sheets of which each is planned
 pub planned-read : (s : List ℕ) (space : List ℤ) → Planned (planning s space) → (t : Sheet) × (r : List ℕ) × (read s ≡ got t r)
@@ -136,26 +137,26 @@ planned-read s space h = go (read s) refl
     go (got t r) e = (t, r, e)
     go (sheet.refused k) e = absurd (subst Planned (planning-refused s space k e) h)
 
-pub front-fits : (s : List ℕ) (space : List ℤ) → Planned (planning s space) → 7 * plan-answer (planning s space) .count ≤ length space
+pub front-fits : (s : List ℕ) (space : List ℤ) → Planned (planning s space) → line-size * plan-answer (planning s space) .count ≤ length space
 unfolding planning
 front-fits s space = go (ordered s)
   where
-    whole : (n : ℕ) (D : ℤ) (k l : ℕ) (L : List (Line n)) (b : Bool) → (b ≡ true → length L ≤ length space / 7) →
-        Planned (cond b (planned n D k l L) (full (length L))) → 7 * plan-answer (cond b (planned n D k l L) (full (length L))) .count ≤ length space
+    whole : (n : ℕ) (D : ℤ) (k l : ℕ) (L : List (Line n)) (b : Bool) → (b ≡ true → length L ≤ length space / line-size) →
+        Planned (cond b (planned n D k l L) (full (length L))) → line-size * plan-answer (cond b (planned n D k l L) (full (length L))) .count ≤ length space
     whole n D k l L true f h = let q = f refl in omega arith
     whole n D k l L false f h = absurd h
 
-    go : (g : Got Sheet) → Planned (plan-of (length space / 7) g) → 7 * plan-answer (plan-of (length space / 7) g) .count ≤ length space
+    go : (g : Got Sheet) → Planned (plan-of (length space / line-size) g) → line-size * plan-answer (plan-of (length space / line-size) g) .count ≤ length space
     go (sheet.refused k) h = absurd h
-    go (got t r) h = whole _ _ _ _ (lines (t .triggers) (cue-of t)) (leb (length (lines (t .triggers) (cue-of t))) (length space / 7))
-        (leb-true (length (lines (t .triggers) (cue-of t))) (length space / 7)) h
+    go (got t r) h = whole _ _ _ _ (lines (t .triggers) (cue-of t)) (leb (length (lines (t .triggers) (cue-of t))) (length space / line-size))
+        (leb-true (length (lines (t .triggers) (cue-of t))) (length space / line-size)) h
 
-accepted : (o : Outcome) → Planned o → plan-answer o .refusal ≡ 0
+accepted : (o : PlanOutcome) → Planned o → plan-answer o .refusal ≡ 0
 accepted (planned n D k l L) h = refl
 accepted (full k) h = absurd h
 accepted (refused k) h = absurd h
 
-count-is : (o : Outcome) → plan-answer o .count ≡ count-of o
+count-is : (o : PlanOutcome) → plan-answer o .count ≡ count-of o
 count-is (planned n D k l L) = refl
 count-is (full k) = refl
 count-is (refused k) = refl
@@ -167,8 +168,13 @@ module _ (s₁ s₂ : List ℕ) (left right : List ℤ) (h₁ : Planned (plannin
       cond (not (eqb (P .triggers) (Q .triggers))) (r ≡ unlike (P .count) (Q .count)) (Likens (read s₁) (read s₂) (P .count) (Q .count) r) →
       Comparing s₁ s₂ left right r
   unfolding Comparing
-  comparing r h = subst (λ p. Compares p (plan-answer (planning s₂ right)) (read s₁) (read s₂) r) p (subst (λ q. Compares P q (read s₁) (read s₂) r) q
-      (rw (ap (λ (p : CuePlan). p .refusal) p ∙ accepted (planning s₁ left) h₁, ap (λ (p : CuePlan). p .refusal) q ∙ accepted (planning s₂ right) h₂) h))
+  comparing r h = subst (λ p. Compares p (plan-answer (planning s₂ right)) (read s₁) (read s₂) r) p
+      (subst (λ q. Compares P q (read s₁) (read s₂) r) q
+      (rw (
+        ap (λ (p : CuePlan). p .refusal) p ∙ accepted (planning s₁ left) h₁,
+        ap (λ (p : CuePlan). p .refusal) q ∙
+            accepted (planning s₂ right) h₂,
+      ) h))
 
   pub unlike-answer : ¬ (P .triggers ≡ Q .triggers) → Comparing s₁ s₂ left right (unlike (P .count) (Q .count))
   unlike-answer f = comparing _ (rw (unequal (P .triggers) (Q .triggers) f) refl)
@@ -176,7 +182,7 @@ module _ (s₁ s₂ : List ℕ) (left right : List ℤ) (h₁ : Planned (plannin
   module _ (front back : List ℤ) (w₁ : front ≡ space-after (planning s₁ left) left) (w₂ : back ≡ space-after (planning s₂ right) right)
       (k : P .triggers ≡ Q .triggers) where
     abbrev Equal : Type 0
-    Equal = (P .count ≡ Q .count) × (take (7 * P .count) front ≡ take (7 * P .count) back)
+    Equal = (P .count ≡ Q .count) × (take (line-size * P .count) front ≡ take (line-size * P .count) back)
 
     c₁ : P .count ≡ count-of (planning s₁ left)
     c₁ = ap (λ (p : CuePlan). p .count) p ∙ count-is (planning s₁ left)
@@ -194,13 +200,19 @@ module _ (s₁ s₂ : List ℕ) (left right : List ℤ) (h₁ : Planned (plannin
             let x = ap (λ (p : CuePlan). p .triggers) p ∙ ap (λ o. plan-answer o .triggers) (known s₁ t m e left h₁ .plan-is) in
             let y = ap (λ (p : CuePlan). p .triggers) q ∙ ap (λ o. plan-answer o .triggers) (known s₂ u w f right h₂ .plan-is) in
             let d = demand-3 s₁ s₂ t u m w left right e f (sym x ∙ k ∙ y) h₁ h₂ in
-            rw (e, f) (b, decided (Alike t u) (λ q. d .0 (sym c₁ ∙ q .0 ∙ c₂, cc (c₁, c₂))) (λ a. let l = d .1 a in (c₁ ∙ l .0 ∙ sym c₂, cc (c₁))) b h, refl)
+            rw (e, f) (
+              b,
+              decided (Alike t u) (λ q. d .0 (sym c₁ ∙ q .0 ∙ c₂, cc (c₁, c₂)))
+                  (λ a. let l = d .1 a in (c₁ ∙ l .0 ∙ sym c₂, cc (c₁))) b h,
+              refl,
+            )
           where
             decided : (A : Type 0) → (Equal → A) → (A → Equal) → (b : Bool) → cond b Equal (¬ Equal) → cond b A (¬ A)
             decided A f g true h = f h
             decided A f g false h = λ a. h (g a)
 
-    pub same-answer : P .count ≡ Q .count → take (7 * P .count) front ≡ take (7 * P .count) back → Comparing s₁ s₂ left right (answer true (P .count) (P .count))
+    pub same-answer : P .count ≡ Q .count → take (line-size * P .count) front ≡ take (line-size * P .count) back →
+        Comparing s₁ s₂ left right (answer true (P .count) (P .count))
     same-answer c e = subst (λ d. Comparing s₁ s₂ left right (answer true (P .count) d)) (sym c) (judged true (c, e))
 
     pub different-answer : ¬ Equal → Comparing s₁ s₂ left right (answer false (P .count) (Q .count))
@@ -227,17 +239,17 @@ none-refused s space = go (ordered s) refl
     whole n D k l L true h = tt
     whole n D k l L false h = let x : ⊥ = omega arith in absurd x
 
-    go : (g : Got Sheet) → ordered s ≡ g → plan-answer (plan-of (length space / 7) g) .refusal ≡ 0 → Planned (plan-of (length space / 7) g)
+    go : (g : Got Sheet) → ordered s ≡ g → plan-answer (plan-of (length space / line-size) g) .refusal ≡ 0 → Planned (plan-of (length space / line-size) g)
     go (sheet.refused k) e h = let x : ⊥ = omega (arith, orderly-numbered s k e) in absurd x
-    go (got t r) e h = whole _ _ _ _ (lines (t .triggers) (cue-of t)) (leb (length (lines (t .triggers) (cue-of t))) (length space / 7)) h
+    go (got t r) e h = whole _ _ _ _ (lines (t .triggers) (cue-of t)) (leb (length (lines (t .triggers) (cue-of t))) (length space / line-size)) h
 
-module _ (o p : Outcome) (space : List ℤ) where
+module _ (o p : PlanOutcome) (space : List ℤ) where
   -- the space of a refused sheet, and the one beside it
   own-kept : ¬ (plan-answer o .refusal ≡ 0) → space ≡ compared-space o p space
   unfolding compared-space space-after
   own-kept f = go o p f
     where
-      go : (o p : Outcome) → ¬ (plan-answer o .refusal ≡ 0) → space ≡ compared-space o p space
+      go : (o p : PlanOutcome) → ¬ (plan-answer o .refusal ≡ 0) → space ≡ compared-space o p space
       go (planned n D k l L) p f = absurd (f refl)
       go (full c) (planned n D k l L) f = refl
       go (full c) (full k) f = refl
@@ -250,7 +262,7 @@ module _ (o p : Outcome) (space : List ℤ) where
   unfolding compared-space
   other-kept f = go p f
     where
-      go : (p : Outcome) → ¬ (plan-answer p .refusal ≡ 0) → space ≡ compared-space o p space
+      go : (p : PlanOutcome) → ¬ (plan-answer p .refusal ≡ 0) → space ≡ compared-space o p space
       go (planned n D k l L) f = absurd (f refl)
       go (full k) f = refl
       go (refused k) f = refl
@@ -259,7 +271,7 @@ module _ (o p : Outcome) (space : List ℤ) where
   unfolding compared-space
   both-written = go p
     where
-      go : (p : Outcome) → Planned p → space-after o space ≡ compared-space o p space
+      go : (p : PlanOutcome) → Planned p → space-after o space ≡ compared-space o p space
       go (planned n D k l L) h = refl
       go (full k) h = absurd h
       go (refused k) h = absurd h
@@ -281,8 +293,10 @@ module _ (s₁ s₂ : List ℕ) (left right : List ℤ) where
       pub second-answer : a .number ≡ 0 → ¬ (b .number ≡ 0) → Refused (second-refused (b .number) (b .count))
       unfolding Comparing
       second-answer z f =
-          let g : ¬ (plan-answer (planning s₂ right) .refusal ≡ 0) = λ e. f (B .number ∙ e) in
-          (rw (equal (plan-answer (planning s₁ left) .refusal) 0 (sym (A .number) ∙ z), unequal (plan-answer (planning s₂ right) .refusal) 0 g) (cc), (other-kept _ _ left g, own-kept _ _ right g))
+          let g : ¬ (plan-answer (planning s₂ right) .refusal ≡ 0) = λ e. f (B .number ∙ e) in (
+            rw (equal (plan-answer (planning s₁ left) .refusal) 0 (sym (A .number) ∙ z), unequal (plan-answer (planning s₂ right) .refusal) 0 g) (cc),
+            (other-kept _ _ left g, own-kept _ _ right g),
+          )
 
 -- ---- no two answers for two sheets and two spaces
 module _ (o p : Comparison) where

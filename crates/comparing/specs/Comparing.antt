@@ -11,7 +11,7 @@ use lib.IntN.{ℤ}
 use Rattle.sheet.specs.Meaning.{Timing, Tightest}
 use Rattle.sheet.specs.Sheet.{Got, got, Sheet, read}
 use Rattle.sheet.specs.Sheet as sheet
-use Rattle.planning.specs.Planning.{Outcome, planned, full, refused, planning, space-after, plan-answer}
+use Rattle.planning.specs.Planning.{PlanOutcome, planned, full, refused, planning, space-after, plan-answer}
 use Rattle.planning.specs.declared.CuePlan.{CuePlan}
 use Rattle.comparing.specs.declared.Compared.{Compared}
 use Rattle.comparing.specs.declared.Compared.the-variants.{Same, Different, Unlike, FirstRefused, SecondRefused}
@@ -54,7 +54,7 @@ unfoldable pub Comparing : (first second : List ℕ) (left right : List ℤ) →
 Comparing s₁ s₂ left right r = Compares (plan-answer (planning s₁ left)) (plan-answer (planning s₂ right)) (read s₁) (read s₂) r
 
 -- a space afterwards: as planning leaves it, and as it was where the other sheet is refused, since "a refusal … changes no lent byte or word"
-unfoldable pub compared-space : (own other : Outcome) → List ℤ → List ℤ
+unfoldable pub compared-space : (own other : PlanOutcome) → List ℤ → List ℤ
 compared-space o (planned n D k l L) space = space-after o space
 compared-space o (full k) space = space
 compared-space o (refused k) space = space

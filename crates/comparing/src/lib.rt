@@ -10,6 +10,7 @@ ghost use Rattle.planning.specs.Demands.{Planned};
 ghost use Rattle.comparing.specs.Comparing.{Comparing, compared-space, compare-answer};
 ghost use Rattle.comparing.specs.Inner.{Refuses};
 use planning::plan;
+use words::LINE_SIZE;
 
 // Whether the same timings are tightest on two sheets, or that their numbers of triggers differ; with either go the numbers of lines written.
 // Or planning's refusal of the first sheet or of the second, with the count needed where it is 9.
@@ -54,7 +55,7 @@ fn refused(bytes: &[u8], words: usize) -> Refusal
     let mut none = [0i32; 1];
     let r = plan(bytes, &mut none);
     let count = r.count;
-    if 0 < count && count <= words / 7 {
+    if 0 < count && count <= words / LINE_SIZE {
         return Refusal {
             number: 0,
             count: count,
@@ -78,7 +79,7 @@ fn likened(first: &[u8], second: &[u8], left: &mut [i32], right: &mut [i32]) -> 
     if p.triggers != q.triggers {
         return Compared::Unlike(p.count, q.count);
     }
-    if p.count == q.count && same_words(left, right, 7 * p.count) {
+    if p.count == q.count && same_words(left, right, LINE_SIZE * p.count) {
         return Compared::Same(p.count);
     }
     Compared::Different(p.count, q.count)

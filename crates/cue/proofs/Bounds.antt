@@ -235,7 +235,8 @@ module _ (n m L B : ℕ) (P : Cue) (l : Limited n L B P) (few : n ≤ suc m) whe
                 (λ j hj. above-more (omega arith)
                 (above-⊗ (star n order i j) (seed n P D s t j) (star-within i j hi hj .low) (seed-above j hj)));
             high = up-to (ray n P D s t i) (due i) (overdue-at n due (ray n P D s t) i hi ▸
-                ≼-of (ap (overdue n (timing due)) (ray-is-from n P D s t)) ▸ ray-overdue n P D (need n P D s) (selection-serving n P D s hs) t) (l .dues i hi .high) (pull-within t ht .high);
+                ≼-of (ap (overdue n (timing due)) (ray-is-from n P D s t)) ▸ ray-overdue n P D (need n P D s) (selection-serving n P D s hs) t)
+                (l .dues i hi .high) (pull-within t ht .high);
           }
         where
           seed-above : (j : ℕ) → j < n → Above (2 * (m * B) + 6 * L) (seed n P D s t j)
@@ -278,7 +279,8 @@ pub record Results (L B : ℕ) (K : ℕ → ℕ → E → Type 0) (n : ℕ) (P :
   pub marks : (j : ℕ) → j < n → K (mark-down L B) (mark-up L B) (num (mark n P j))
   pub deviation : K (least-down L B) (least-up L B) (num (least n P))
   pub needs : (s : Selection) → In s (selections n P (least n P)) → (t : ℕ) → t < n → K (need-down L B) (need-up L B) (need n P (least n P) s t)
-  pub rays : (s : Selection) → In s (selections n P (least n P)) → (t i : ℕ) → t < n → i < n → K (ray-down L B) (ray-up L B) (ray n P (least n P) s t i)
+  pub rays : (s : Selection) → In s (selections n P (least n P)) → (t i : ℕ) → t < n → i < n →
+      K (ray-down L B) (ray-up L B) (ray n P (least n P) s t i)
   pub components : (c : Line n) → In c (lines n P) → (i : ℕ) → i < n → K (line-down L B) 0 (at n c i)
 
 pub results-six : (n L B : ℕ) (P : Cue) → NoGain n (P .order) → Limited n L B P → n ≤ 6 → Results L B Within n P
@@ -307,7 +309,8 @@ signed32 {k} {l} {a} hk hl w = record { fits = λ z e. go z (w .low .above z e) 
     go (pos z) h i = (omega arith, omega arith)
     go (negsuc z) h i = (omega arith, omega arith)
 
-pub results-32 : (n L B : ℕ) (P : Cue) → NoGain n (P .order) → Limited n L B P → n ≤ 6 → line-down L B < 2 ^ 31 → Results L B (λ k l. Signed32) n P
+pub results-32 : (n L B : ℕ) (P : Cue) → NoGain n (P .order) → Limited n L B P → n ≤ 6 → line-down L B < 2 ^ 31 →
+    Results L B (λ k l. Signed32) n P
 results-32 n L B P np l six fit =
     let r = results-six n L B P np l six in
     record {

@@ -11,7 +11,8 @@ use Rattle.maxplus.specs.Finite.{In}
 use Rattle.maxplus.specs.Tables.{sup, Vec, Mat, mv, idm, star, NoGain, normal}
 use Rattle.maxplus.specs.Line.{Line, at, line, Normal}
 use Rattle.maxplus.proofs.WholeLaws.{up-add, up-neg}
-use Rattle.maxplus.proofs.EntryLaws.{≼-refl, _▸_, ≼-anti, ≼-absent, ≼-of, ≼-back, ⊕-l, ⊕-r, ⊕-lub, ⊗-mono, ⊗-left, ⊗-right, ⊗-comm, ⊗-assoc}
+use Rattle.maxplus.proofs.EntryLaws.{≼-refl, _▸_, ≼-anti, ≼-absent, ≼-of, ≼-back, ⊕-l}
+use Rattle.maxplus.proofs.EntryLaws.{⊕-r, ⊕-lub, ⊗-mono, ⊗-left, ⊗-right, ⊗-comm, ⊗-assoc}
 use Rattle.maxplus.proofs.EntryLaws.{⊗-nothing, ⊗-unit, distrib, ⊗-unit-r, ⊗-left-comm, present-dec, absent-of}
 use Rattle.maxplus.proofs.FiniteLaws.{in-each, each-in, in-map, map-in}
 use Rattle.maxplus.proofs.SupLaws.{sup-lub, sup-⊗, sup-⊗r, supL-ub, supL-lub, supL-⊗}

@@ -14,7 +14,8 @@ use Rattle.maxplus.specs.Finite.{In}
 use Rattle.maxplus.specs.Tables.{Vec, mm, idm, power, star, NoGain}
 use Rattle.maxplus.specs.Line.{Line, at, Normal}
 use Rattle.maxplus.proofs.WholeLaws.{up-add}
-use Rattle.maxplus.proofs.EntryLaws.{_▸_, ≼-anti, ≼-absent, ≼-of, ≼-back, ⊗-left, ⊗-right, ⊗-assoc, ⊗-unit, ⊗-nums, present-dec, same-entry?}
+use Rattle.maxplus.proofs.EntryLaws.{_▸_, ≼-anti, ≼-absent, ≼-of, ≼-back, ⊗-left}
+use Rattle.maxplus.proofs.EntryLaws.{⊗-right, ⊗-assoc, ⊗-unit, ⊗-nums, present-dec, same-entry?}
 use Rattle.maxplus.proofs.FiniteLaws.{all-dec, dec-×, dec-⊎, dec-→, some-dec, decide-yes, decide-of}
 use Rattle.maxplus.proofs.SupLaws.{sup-at, sup-⊗r}
 use Rattle.maxplus.proofs.TableLaws.{idm-eq}
@@ -40,8 +41,8 @@ module _ (n : ℕ) (P : Cue) (D : ℤ) (c : Vec) where
   open Cue P using (panels, lag, floor, due, order)
 
   -- A(k): M*(k,j) + c(j) = c(k)
-  abbrev pub Holds : ℕ → ℕ → Type 0
-  Holds k j = star n order k j ⊗ c j ≡ c k
+  abbrev pub HeldBy : ℕ → ℕ → Type 0
+  HeldBy k j = star n order k j ⊗ c j ≡ c k
 
   -- R: the triggers that reach the largest c(j) − q(j)
   abbrev pub Foremost : ℕ → Type 0
@@ -49,32 +50,33 @@ module _ (n : ℕ) (P : Cue) (D : ℤ) (c : Vec) where
 
   -- the panel lands just where Δ asks, and all the triggers that reach its landing are in A(k)
   abbrev pub Fires : ℕ → ℕ → Type 0
-  Fires k i = Present (floor i) × ((ask n P D i ⊗ overdue n (timing due) c ≡ landing n P c i) × ((j : ℕ) → j < n → lag i j ⊗ c j ≡ landing n P c i →
-      Holds k j))
+  Fires k i = Present (floor i) ×
+      ((ask n P D i ⊗ overdue n (timing due) c ≡ landing n P c i) × ((j : ℕ) → j < n → lag i j ⊗ c j ≡ landing n P c i →
+      HeldBy k j))
 
   -- A(k), with A(R) where some panel fires
   abbrev pub Closure : ℕ → ℕ → Type 0
-  Closure k j = Holds k j ⊎ (((i : ℕ) × (i < panels) × Fires k i) × ((l : ℕ) × (l < n) × (Foremost l × Holds l j)))
+  Closure k j = HeldBy k j ⊎ (((i : ℕ) × (i < panels) × Fires k i) × ((l : ℕ) × (l < n) × (Foremost l × HeldBy l j)))
 
   unfoldable pub fires? : (k : ℕ) → Dec ((i : ℕ) × (i < panels) × Fires k i)
   fires? k = some-dec (Fires k) (λ i. dec-× (present-dec (floor i))
-      (dec-× (same-entry? _ _) (all-dec (λ j. lag i j ⊗ c j ≡ landing n P c i → Holds k j)
+      (dec-× (same-entry? _ _) (all-dec (λ j. lag i j ⊗ c j ≡ landing n P c i → HeldBy k j)
       (λ j. dec-→ (same-entry? _ _) (same-entry? _ _)) n))) panels
 
   unfoldable pub closure? : (k j : ℕ) → Dec (Closure k j)
   closure? k j = dec-⊎ (same-entry? _ _)
-      (dec-× (fires? k) (some-dec (λ l. Foremost l × Holds l j) (λ l. dec-× (same-entry? _ _) (same-entry? _ _)) n))
+      (dec-× (fires? k) (some-dec (λ l. Foremost l × HeldBy l j) (λ l. dec-× (same-entry? _ _) (same-entry? _ _)) n))
 
   module _ (np : NoGain n order) (cc : Cone n P D c) (g : ℤ) (eg : overdue n (timing due) c ≡ num g) where
-    holds-refl : (j : ℕ) → j < n → Holds j j
+    holds-refl : (j : ℕ) → j < n → HeldBy j j
     holds-refl j hj = ≼-anti (keeps-star n order c (cc .ordered) j j hj hj) (≼-back (⊗-unit (c j)) ▸ ⊗-left _ (star-diag n order j hj))
 
     -- order rules close in one round
-    holds-step : (k i l : ℕ) → k < n → i < n → l < n → Holds k i → order i l ⊗ c l ≡ c i → Holds k l
+    holds-step : (k i l : ℕ) → k < n → i < n → l < n → HeldBy k i → order i l ⊗ c l ≡ c i → HeldBy k l
     holds-step k i l hk hi hl h e = ≼-anti (keeps-star n order c (cc .ordered) k l hk hl)
         (≼-of (sym h ∙ ap (λ a. star n order k i ⊗ a) (sym e) ∙ sym (⊗-assoc _ _ _)) ▸ ⊗-left _ (star-step n order np k i l hk hi hl))
 
-    holds-present : (k j : ℕ) → Present (c k) → Holds k j → Present (c j)
+    holds-present : (k j : ℕ) → Present (c k) → HeldBy k j → Present (c j)
     holds-present k j (z, ez) h = let (x, y, ex, ey, l) = ⊗-nums (star n order k j) (c j) (≼-of (sym ez ∙ sym h)) in (y, ey)
 
     foremost-present : (j : ℕ) → Foremost j → Present (c j)
@@ -123,7 +125,7 @@ module _ (n : ℕ) (P : Cue) (D : ℤ) (c : Vec) where
           along-power m i j hi hj (y, ey) (≼-anti low (middle-E (order k i) (power n order m i j ⊗ c j) (c i) h' up-to))
           (a .ordered k i hk hi (≼-anti up-to reach ∙ sym ez) t)
 
-      along-star : (k j : ℕ) → k < n → j < n → Present (c k) → Holds k j → T (S k) → T (S j)
+      along-star : (k j : ℕ) → k < n → j < n → Present (c k) → HeldBy k j → T (S k) → T (S j)
       unfolding star
       along-star k j hk hj (z, ez) e t =
           let (m, hm, h) = sup-at n _ (≼-of (sym ez ∙ sym e) ▸ ≼-of (sup-⊗r n (c j) (λ m. power n order m k j))) in
@@ -144,7 +146,13 @@ module _ (n : ℕ) (P : Cue) (D : ℤ) where
       (λ j. all-dec (λ k. Present (at n c k) → Closure n P D (at n c) k j)
       (λ k. dec-→ (present-dec (at n c k)) (closure? n P D (at n c) k j)) n) n
 
--- c is extreme exactly when some trigger is in the closure of every trigger of c
+-- c is extreme exactly when some trigger is in the closure of every trigger of c. All numbers are whole, so lowering by one is the smallest
+-- change: if some v of the cone lies below c, meets it at j and is not c, then v joined with c lowered everywhere by one is in the cone, and
+-- it is c with just the triggers of some set S lowered by one, j not among them. So c is extreme exactly when all sets that can be lowered
+-- have a trigger in common (LocalTest). Which sets can be lowered is said by the rules that hold with equality at c, and such sets are closed
+-- under intersection; so it is enough to look at the least one with a given trigger k in it, the closure of k. It is what k holds by the
+-- order, A(k): lowering k lowers what waits for it just in time, in one round, as M* is transitive. And where some panel that lands just
+-- where Δ asks is reached by triggers of A(k) only, its landing falls, so α must fall: then all foremost triggers fall, with what they hold.
 module _ (n : ℕ) (P : Cue) (D : ℤ) (np : NoGain n (P .order)) where
   pub extreme-closure : (c : Line n) → Cone n P D (at n c) → Normal n c →
       Extreme n P D c ↔ Common n P D c

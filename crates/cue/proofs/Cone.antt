@@ -105,7 +105,8 @@ module _ (n : ℕ) (P : Cue) (R : Readable n P) (np : NoGain n (P .order)) where
       s = val (shortfall panels n lag floor x)
 
       parts : deviation n P x ≡ num (g +z s)
-      parts = unfold deviation in (ap (λ e. e ⊗ shortfall panels n lag floor x) (timing-overdue n P R X) ∙ ap (λ e. num g ⊗ e) (shortfall-there n P R X) ∙
+      parts = unfold deviation in (ap (λ e. e ⊗ shortfall panels n lag floor x) (timing-overdue n P R X) ∙
+          ap (λ e. num g ⊗ e) (shortfall-there n P R X) ∙
           num-⊗ g s)
 
       to : Tightest n P X → Cone n P (least n P) x
@@ -151,8 +152,8 @@ limit (num a) b (num g) h = go (⊕-or b (num (neg k) ⊗ num g))
     go (inr e) = absurd (no-way (h k ▸ ≼-of e))
 
 module _ (n : ℕ) (P Q : Cue) (D F : ℤ) where
-  pub timings-determine : (G : ℕ → ℤ) → Cone n P D (timing G) → ((X : ℕ → ℤ) → Cone n P D (timing X) → Cone n Q F (timing X)) → (v : Vec) →
-      Cone n P D v → Cone n Q F v
+  pub timings-determine : (G : ℕ → ℤ) → Cone n P D (timing G) → ((X : ℕ → ℤ) → Cone n P D (timing X) → Cone n Q F (timing X)) →
+      (v : Vec) → Cone n P D v → Cone n Q F v
   unfolding Keeps
   timings-determine G cG f v cv =
       record {

@@ -48,7 +48,10 @@ module _ (n : ℕ) (P : Cue) where
   cone-serves x g c e i hi p = let (j, hj, k, v) = cone-trigger n P (least n P) x g c e i hi p in
       (j, hj, k, unshift-E _ (x j) g (need-E (through n P i j) (x j) (ask n P (least n P) i) g (v .1)))
 
-  -- the list is the extreme ones among them: an extreme line is met by a line from a w below it, and that is the line itself
+  -- The list is the extreme ones among them. One way: an extreme line c, extreme at j, less α(c) serves every panel, so one of the w's lies
+  -- below it; the line drawn from that w and j lies, shifted, below c and meets it at j; being in the cone, it is c. The other way: what is
+  -- drawn is in the cone and its greatest component is 0, so where its closures have a trigger in common it is extreme, and the list has
+  -- every extreme line. So the program may draw from the least w's only, made panel by panel, and never walks for the list.
   pub lines-covered : NoGain n order → (C : List (Line n)) → Covering C → (c : Line n) →
       In c (lines n P) ↔ (In c C × Common n P (least n P) c)
   lines-covered np C v c = (to, from)

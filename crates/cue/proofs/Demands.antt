@@ -21,7 +21,7 @@ use Rattle.cue.specs.Method.{Entries, Selection, least, floor-panels, wa
 use Rattle.cue.proofs.Order.{keeps-iff-unchanged}
 use Rattle.cue.proofs.Deviation.{at-least, least-reached, tightest-least, order-possible}
 use Rattle.cue.proofs.Cone.{Cone}
-use Rattle.cue.proofs.Walk.{geometric, steps-bound, Reached, reached-left, reached-selection}
+use Rattle.cue.proofs.Walk.{geometric, steps-bound, Visited, reached-left, reached-selection}
 use Rattle.cue.proofs.Extreme.{Extreme, in-lines, lines-increasing, lines-normal, some-line}
 use Rattle.cue.proofs.Closure.{Common, extreme-closure, lines-common, lines-by-closure}
 use Rattle.cue.proofs.Bounds.{Within, Limited, Results, results-six, Signed32, results-32}
@@ -50,10 +50,10 @@ module _ (n : ℕ) (P : Cue) (R : Readable n P) (np : NoGain n (P .order)) where
 
   -- ---- "A selection is complete when each panel with a floor has its trigger": whatever was fixed, each panel still to come has a
   -- trigger left, and the walk goes on to a selection
-  pub trigger-left : {is : List ℕ} {o : Entries} → Reached n P (least n P) is o → (k : ℕ) → In k is → (j : ℕ) × (j < n) × T (o k j)
+  pub trigger-left : {is : List ℕ} {o : Entries} → Visited n P (least n P) is o → (k : ℕ) → In k is → (j : ℕ) × (j < n) × T (o k j)
   trigger-left = reached-left n P R np
 
-  pub no-dead-end : {is : List ℕ} {o : Entries} → Reached n P (least n P) is o → (s : Selection) × In s (walk n P is o)
+  pub no-dead-end : {is : List ℕ} {o : Entries} → Visited n P (least n P) is o → (s : Selection) × In s (walk n P is o)
   no-dead-end = reached-selection n P R np
 
   -- "With f panels that have a floor, steps is at most n + n² + ... + n to the power f."

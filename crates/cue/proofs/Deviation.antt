@@ -9,7 +9,8 @@ use Rattle.maxplus.specs.Whole.{_+z_, neg}
 use Rattle.maxplus.specs.Entry.{E, absent, num, _≼_, _⊗_, _⊕_, inv, unit, Present, val}
 use Rattle.maxplus.specs.Tables.{sup, Vec, mv, star, NoGain}
 use Rattle.maxplus.proofs.WholeLaws.{up-add, up-neg}
-use Rattle.maxplus.proofs.EntryLaws.{_▸_, ≼-anti, ≼-absent, ≼-of, ≼-back, ⊕-l, ⊕-r, ⊕-lub, ⊗-mono, ⊗-left, ⊗-right, ⊗-comm, ⊗-assoc, ⊗-unit}
+use Rattle.maxplus.proofs.EntryLaws.{_▸_, ≼-anti, ≼-absent, ≼-of, ≼-back, ⊕-l, ⊕-r}
+use Rattle.maxplus.proofs.EntryLaws.{⊕-lub, ⊗-mono, ⊗-left, ⊗-right, ⊗-comm, ⊗-assoc, ⊗-unit}
 use Rattle.maxplus.proofs.EntryLaws.{distrib, val-of, num-⊗, ⊗-left-comm, present-of, absent-not, same-entry?}
 use Rattle.maxplus.proofs.FiniteLaws.{dec-×}
 use Rattle.maxplus.proofs.SupLaws.{sup-ub, sup-lub, sup-mono, sup-ext, sup-⊗, sup-⊗r}

@@ -89,7 +89,8 @@ module _ (n : ℕ) (P : Cue) (D : ℤ) where
                 alone = λ v cv lv ev i hi. ≼-anti (lv i hi) (above v cv lv ev i hi);
               }
             where
-              above : (v : Vec) → Cone n P D v → ((i : ℕ) → i < n → v i ≼ at n c i) → v j ≡ at n c j → (i : ℕ) → i < n → at n c i ≼ v i
+              above : (v : Vec) → Cone n P D v → ((i : ℕ) → i < n → v i ≼ at n c i) → v j ≡ at n c j → (i : ℕ) → i < n →
+                  at n c i ≼ v i
               above v cv lv ev i hi =
                   let (d, hd, pd, ld) = cone-span n P D v cv j hj (z, ev ∙ ez) in
                   let e : d ≡ c = f d hd pd (λ i hi. ⊗-right _ (≼-back ev) ▸ ld i hi ▸ ⊗-left _ (lv i hi)) in

@@ -149,7 +149,8 @@ module _ (n : ℕ) (P : Cue) (D : ℤ) where
           dropped false t a = absurd t
 
       from : (j : ℕ) → Present (at n c j) → ((S : Triggers) → TriggerSet (at n c) S → Cone n P D (lower (at n c) S) → T (S j)) → (v : Vec) →
-          Cone n P D v → ((i : ℕ) → i < n → v i ≼ at n c i) → v j ≡ at n c j → (i : ℕ) → i < n → Dec (at n c i ≼ v i) → v i ≡ at n c i
+          Cone n P D v → ((i : ℕ) → i < n → v i ≼ at n c i) → v j ≡ at n c j → (i : ℕ) → i < n → Dec (at n c i ≼ v i) →
+          v i ≡ at n c i
       from j pj f v cv lv ev i hi (yes h) = ≼-anti (lv i hi) h
       from j pj f v cv lv ev i hi (no h) = absurd (T-not (leqE (at n c j) (v j)) (f S set cone) (leqE-of _ _ (≼-back ev)))
         where
@@ -180,10 +181,11 @@ module _ (n : ℕ) (P : Cue) (D : ℤ) where
   pub record Allowed (c : Vec) (S : Triggers) : Type 0 where
     pub ordered : (i k : ℕ) → i < n → k < n → order i k ⊗ c k ≡ c i → T (S i) → T (S k)
     pub landed : (i : ℕ) → i < panels → Present (floor i) → ask n P D i ⊗ overdue n (timing due) c ≡ landing n P c i →
-        ((j : ℕ) → j < n → lag i j ⊗ c j ≡ landing n P c i → T (S j)) → (j : ℕ) → j < n → c j ⊗ num (neg (due j)) ≡ overdue n (timing due) c →
-        T (S j)
+        ((j : ℕ) → j < n → lag i j ⊗ c j ≡ landing n P c i → T (S j)) → (j : ℕ) → j < n →
+        c j ⊗ num (neg (due j)) ≡ overdue n (timing due) c → T (S j)
 
-  module _ (c : Vec) (cc : Cone n P D c) (g : ℤ) (eg : overdue n (timing due) c ≡ num g) (S : Triggers) (s : (i : ℕ) → i < n → T (S i) → Present (c i)) where
+  module _ (c : Vec) (cc : Cone n P D c) (g : ℤ) (eg : overdue n (timing due) c ≡ num g) (S : Triggers)
+      (s : (i : ℕ) → i < n → T (S i) → Present (c i)) where
     -- c(j) − q(j), and a(i,j) + c(j)
     abbrev lateness : Vec
     lateness j = c j ⊗ num (neg (due j))
@@ -217,7 +219,8 @@ module _ (n : ℕ) (P : Cue) (D : ℤ) where
           landed = λ i hi p e a j hj r. landed i hi p e a j hj r (landing-lowered i _ (landing-there i hi p)) overdue-lowered;
         }
       where
-        ordered : (i l : ℕ) → i < n → l < n → order i l ⊗ c l ≡ c i → (b : Bool) → S i ≡ b → (b' : Bool) → S l ≡ b' → T (S i) → T (S l)
+        ordered : (i l : ℕ) → i < n → l < n → order i l ⊗ c l ≡ c i → (b : Bool) → S i ≡ b → (b' : Bool) → S l ≡ b' → T (S i) →
+            T (S l)
         ordered i l hi hl e b r true r' t = rw r' tt
         ordered i l hi hl e false r false r' t = absurd (rw r at t)
         ordered i l hi hl e true r false r' t = let (z, ez) = s i hi t in
@@ -241,7 +244,8 @@ module _ (n : ℕ) (P : Cue) (D : ℤ) where
           landed = λ i hi. landed i hi (present-dec (floor i));
         }
       where
-        ordered : (i l : ℕ) → i < n → l < n → (b : Bool) → S i ≡ b → (b' : Bool) → S l ≡ b' → order i l ⊗ drop (S l) (c l) ≼ drop (S i) (c i)
+        ordered : (i l : ℕ) → i < n → l < n → (b : Bool) → S i ≡ b → (b' : Bool) → S l ≡ b' →
+            order i l ⊗ drop (S l) (c l) ≼ drop (S i) (c i)
         ordered i l hi hl false r b' r' = rw r (⊗-right _ (drop-below (S l) (c l)) ▸ keeps-rule n order c (cc .ordered) i l hi hl)
         ordered i l hi hl true r true r' = rw (r, r') (≼-back (⊗-assoc _ _ _) ▸ ⊗-left _ (keeps-rule n order c (cc .ordered) i l hi hl))
         ordered i l hi hl true r false r' =

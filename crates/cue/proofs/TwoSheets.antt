@@ -46,13 +46,13 @@ module _ (n : ℕ) (P Q : Cue) (R : Readable n P) (S : Readable n Q) (np : NoGai
           )
 
 -- ---- as written
-abbrev pub Written : Type 0
-Written = ℕ × Line 6
+abbrev pub WrittenLine : Type 0
+WrittenLine = ℕ × Line 6
 
-unfoldable pub write : (n : ℕ) → Line n → Written
+unfoldable pub write : (n : ℕ) → Line n → WrittenLine
 write n c = (n, line 6 (at n c))
 
-unfoldable pub written : (n : ℕ) → List (Line n) → List Written
+unfoldable pub written : (n : ℕ) → List (Line n) → List WrittenLine
 written n L = mapL (write n) L
 
 -- k whole numbers are tightest on a sheet of n triggers

@@ -289,9 +289,9 @@ module _ (n : ℕ) (P : Cue) where
         )
 
   -- what the walk comes to: the panels still to fix, and the entries left
-  pub data Reached (D : ℤ) : List ℕ → Entries → Type 0 where
-    start : Reached D (floor-panels n P) (kept n P D)
-    down : {i : ℕ} {is : List ℕ} {o : Entries} (j : ℕ) → Reached D (i ∷ is) o → j < n → T (o i j) → Reached D is (cut n P i j o)
+  pub data Visited (D : ℤ) : List ℕ → Entries → Type 0 where
+    start : Visited D (floor-panels n P) (kept n P D)
+    down : {i : ℕ} {is : List ℕ} {o : Entries} (j : ℕ) → Visited D (i ∷ is) o → j < n → T (o i j) → Visited D is (cut n P i j o)
 
   -- ---- at a vector x that is g past due
   module _ (D : ℤ) (x : Vec) (g : ℤ) where
@@ -333,15 +333,15 @@ module _ (n : ℕ) (P : Cue) where
     abbrev any : ℕ → ℕ → Type 0
     any i j = Unit {0}
 
-    reached-any : {is : List ℕ} {o : Entries} → Reached (least n P) is o → (k : ℕ) → In k is → Left any o k
+    reached-any : {is : List ℕ} {o : Entries} → Visited (least n P) is o → (k : ℕ) → In k is → Left any o k
     reached-any start k q = let (j, hj, t, v) = cone-kept (least n P) (timing (mark n P)) _ (mark-cone n P R np)
         (timing-overdue n P R (mark n P)) k q in (j, hj, t, tt)
     reached-any (down {i} {is} {o} j r hj t) k q = cut-leaves any (λ i j k t v. tt) i j hj tt o k (reached-any r k (inr q))
 
     -- in every state that the walk reaches each panel still to fix has a trigger left
-    pub reached-left : {is : List ℕ} {o : Entries} → Reached (least n P) is o → (k : ℕ) → In k is → (j : ℕ) × (j < n) × T (o k j)
+    pub reached-left : {is : List ℕ} {o : Entries} → Visited (least n P) is o → (k : ℕ) → In k is → (j : ℕ) × (j < n) × T (o k j)
     reached-left r k q = let (j, hj, t, v) = reached-any r k q in (j, hj, t)
 
     -- and so from there it has a selection
-    pub reached-selection : {is : List ℕ} {o : Entries} → Reached (least n P) is o → (s : Selection) × In s (walk n P is o)
+    pub reached-selection : {is : List ℕ} {o : Entries} → Visited (least n P) is o → (s : Selection) × In s (walk n P is o)
     reached-selection {is} {o} r = let (s, hs, f) = greedy any (λ i j k t v. tt) is o (reached-any r) in (s, hs)

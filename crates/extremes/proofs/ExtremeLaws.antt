@@ -26,11 +26,11 @@ use Rattle.cue.proofs.Closure as cue
 use Rattle.cue.proofs.Closure.{Foremost, Fires, Closure, Common}
 use Rattle.tables.specs.Held.{meant, meantV, HoldsV, Says}
 use Rattle.candidates.specs.declared.Marks.{Marks}
-use Rattle.candidates.specs.Bits.{Has, Marked}
+use Rattle.trigger_sets.specs.Sets.{Has, SetOf}
 use Rattle.candidates.specs.Lines.{line-of}
 use Rattle.candidates.specs.Steps.{HeldSets, Tight, TightSets, Inside, Closed}
 use Rattle.candidates.specs.Prepared.{Prepared}
-use Rattle.extremes.proofs.BitLaws.{marked-inside, marked-some, marked-empty, never-inside}
+use Rattle.trigger_sets.proofs.SetLaws.{set-inside, set-some, set-empty, never-inside}
 use Rattle.candidates.proofs.WordLaws.{line-at}
 
 asked : (a : E) (z : ℤ) → Present (a ⊗ num z) ↔ Present a
@@ -50,7 +50,7 @@ module _ (n : ℕ) (P : Cue) (M : Marks) (stars lags needs : List (List ℕ)) (p
 
   -- ---- A(k)
   module _ (held : List ℕ) (hh : HeldSets n (meant stars) (meantV w) held) where
-    held-is : (k j : ℕ) → k < n → j < 6 → Has (getD held k 0) j ↔ (Present (x k) × ((j < n) × cue.Holds n P D x k j))
+    held-is : (k j : ℕ) → k < n → j < 6 → Has (getD held k 0) j ↔ (Present (x k) × ((j < n) × cue.HeldBy n P D x k j))
     held-is k j hk h = (
       λ t. let (q, (hj, e)) = hh .at k hk .has j h .0 t in
           (rw l q, (hj, ap₂ _⊗_ (sym (p .starred .at k j hk hj)) (line-at n w j hj) ∙ e ∙ sym l)),
@@ -120,20 +120,20 @@ module _ (n : ℕ) (P : Cue) (M : Marks) (stars lags needs : List (List ℕ)) (p
                 u .1,
                 λ j hj q. let h6 : j < 6 = omega (arith, p .few) in
                     held-is k j hk h6 .0 (hh .at k hk .has j h6 .1
-                    (marked-inside (ht .at i hi .tight (most-there k hk here) t) (hh .at k hk) .0 e j h6
+                    (set-inside (ht .at i hi .tight (most-there k hk here) t) (hh .at k hk) .0 e j h6
                     (hj, time-is i j h hj ∙ q ∙ sym (landing-is i h)))) .1 .1,
               ),
             )
 
             from : (i : ℕ) → i < panels → Present (floor i) → ask n P D i ⊗ overdue n (timing due) x ≡ landing n P x i →
-                ((j : ℕ) → j < n → lag i j ⊗ x j ≡ landing n P x i → cue.Holds n P D x k j) →
+                ((j : ℕ) → j < n → lag i j ⊗ x j ≡ landing n P x i → cue.HeldBy n P D x k j) →
                 bitAnd (getD tight i 0) (getD held k 0) ≡ getD tight i 0
-            from i hi q e f = marked-inside (ht .at i (omega (arith, p .panels)) .tight (most-there k hk here) (tight-is i hi .1 (q, e))) (hh .at k hk) .1
+            from i hi q e f = set-inside (ht .at i (omega (arith, p .panels)) .tight (most-there k hk here) (tight-is i hi .1 (q, e))) (hh .at k hk) .1
                 (λ j h6 u. hh .at k hk .has j h6 .0 (held-is k j hk h6 .1
                 (here, (u .0, f j (u .0) (sym (time-is i j hi (u .0)) ∙ u .1 ∙ landing-is i hi)))))
 
         -- ---- closures, and what they have in common
-        module _ (front : ℕ) (hf : Marked (λ j. (l : ℕ) × (l < n) × ((getD late l 0 ≡ most) × Has (getD held l 0) j)) front) where
+        module _ (front : ℕ) (hf : SetOf (λ j. (l : ℕ) × (l < n) × ((getD late l 0 ≡ most) × Has (getD held l 0) j)) front) where
           closed-is : (k j : ℕ) → k < n → j < 6 → Present (x k) →
               Closed tight (M .panels) front (getD held k 0) j ↔ ((j < n) × Closure n P D x k j)
           closed-is k j hk h6 here = (to, from)
@@ -151,9 +151,9 @@ module _ (n : ℕ) (P : Cue) (M : Marks) (stars lags needs : List (List ℕ)) (p
               )
 
           module _ (all : ℕ)
-              (ha : Marked (λ j. (k : ℕ) → k < n → Present (meantV w k) → Closed tight (M .panels) front (getD held k 0) j) all) where
+              (ha : SetOf (λ j. (k : ℕ) → k < n → Present (meantV w k) → Closed tight (M .panels) front (getD held k 0) j) all) where
             common-to : ¬ (all ≡ 0) → Common n P D (line-of n w)
-            common-to h = let (j, h6, f) = marked-some ha h in go j h6 f (some-dec (λ k. Present (x k)) (λ k. present-dec (x k)) n)
+            common-to h = let (j, h6, f) = set-some ha h in go j h6 f (some-dec (λ k. Present (x k)) (λ k. present-dec (x k)) n)
               where
                 go : (j : ℕ) → j < 6 → ((k : ℕ) → k < n → Present (meantV w k) → Closed tight (M .panels) front (getD held k 0) j) →
                     Dec ((k : ℕ) × (k < n) × Present (x k)) → Common n P D (line-of n w)
@@ -166,7 +166,7 @@ module _ (n : ℕ) (P : Cue) (M : Marks) (stars lags needs : List (List ℕ)) (p
 
             common-from : all ≡ 0 → ¬ (Common n P D (line-of n w))
             common-from e (j, hj, f) = let h6 : j < 6 = omega (arith, p .few) in
-                marked-empty ha e j h6 (λ k hk q. let here : Present (x k) = rw (line-at n w k hk) q in closed-is k j hk h6 here .1 (hj, f k hk here))
+                set-empty ha e j h6 (λ k hk q. let here : Present (x k) = rw (line-at n w k hk) q in closed-is k j hk h6 here .1 (hj, f k hk here))
 
             pub extreme-says : Says (Common n P D (line-of n w)) (not (eqb all 0))
             extreme-says = go (eqb all 0) (eqb-true all 0) (eqb-false all 0)

@@ -1,4 +1,3 @@
 -- Laws of the test for extreme.
-pub mod BitLaws
-pub mod SetLaws
+pub mod ClosureLaws
 pub mod ExtremeLaws

@@ -20,7 +20,7 @@ use Rattle.cue.specs.Cue.{Cue}
 use Rattle.cue.specs.Method.{least, lines}
 use Rattle.cue.proofs.Closure.{Common}
 use Rattle.cue.proofs.Covering.{Covering, lines-covered}
-use Rattle.sheet.specs.Sheet.{limit}
+use Rattle.sheet.specs.Sizes.{shifted-size}
 use Rattle.tables.specs.Held.{meant, meantV, HoldsV}
 use Rattle.candidates.specs.Lines.{line-of, Sized, Drawn}
 use Rattle.candidates.specs.Steps.{ray-of}
@@ -159,7 +159,7 @@ module _ {M : Marks} {stars lags : List (List ℕ)} {last y : List ℕ} {len₀ 
 
   module _ {t len : ℕ} {buf : List (List ℕ)} (s : Drawing M stars lags last y len₀ buf₀ t len buf) where
     pub drawing-more : t < M .triggers → {r : candidates.Line} {more : ℕ} {after : List (List ℕ)} →
-        Drawn (M .triggers) (52 * limit) (normal (M .triggers) (ray-of (meant stars) (meantV (M .pulls)) (meantV y) t)) r →
+        Drawn (M .triggers) shifted-size (normal (M .triggers) (ray-of (meant stars) (meantV (M .pulls)) (meantV y) t)) r →
         ((P : Cue) (needs : List (List ℕ)) (C : List (Line (M .triggers))) → Prepared (M .triggers) P M stars lags needs →
         Gathered (M .triggers) P last C len buf → Gathered (M .triggers) P last (C ++ line-of (M .triggers) (r .at) ∷ []) more after) →
         Drawing M stars lags last y len₀ buf₀ (t + 1) more after

@@ -27,20 +27,20 @@ use Rattle.cue.proofs.Candidates.{line-from, line-from-normal, Served, Serving,
 use Rattle.cue.proofs.Covering.{Covering}
 use Rattle.tables.specs.Held.{cell, meant, meantV}
 use Rattle.tables.proofs.Loops.{blank-word}
-use Rattle.candidates.specs.Bits.{Has}
+use Rattle.trigger_sets.specs.Sets.{Has}
 use Rattle.candidates.specs.Lines.{line-of}
 use Rattle.candidates.specs.Prepared.{Prepared}
 use Rattle.candidates.specs.declared.Marks.{Marks}
 use Rattle.candidates.proofs.WordLaws.{blank, sized-none, sized-set}
 use Rattle.candidates.proofs.PreparedLaws.{needs-close, drawn-from}
 use Rattle.buffer.specs.Buffer.{room, row, held}
-use Rattle.bounds.specs.Bounds.{places, Under, Raised, Expanded}
+use Rattle.bounds.specs.Bounds.{places, Under, BoundRaised, Expanded}
 use Rattle.gather.specs.Gathering.{first, Gathered, drawn, drawn-all, Met, Bound, Bounds, Below, Spread, Filled}
 use Rattle.buffer.proofs.HeldLaws.{held-row, stored-as}
 use Rattle.gather.proofs.GatherLaws.{gathered-as, all-none, all-snoc, all-append, in-drawn-all, drawn-all-in, first-all}
 
 -- ---- raised words
-module _ {w wants : List ℕ} {j : ℕ} {v : List ℕ} (z : length w ≡ 6) (hj : j < 6) (x : Raised w wants j v) where
+module _ {w wants : List ℕ} {j : ℕ} {v : List ℕ} (z : length w ≡ 6) (hj : j < 6) (x : BoundRaised w wants j v) where
   raised-word : getD v j 0 ≡ x .word
   raised-word = ap (λ v. getD v j 0) (x .is) ∙ getD-set-same w j (x .word) 0 (rw z hj)
 
@@ -89,7 +89,7 @@ module _ {M : Marks} {stars lags needs : List (List ℕ)} {P : Cue} (g : Prepare
 
   -- ---- a raised bound is a bound of one level more
   raised-bound : {l j : ℕ} {w v : List ℕ} → l < M .levels → Bound M needs l w → j < n → Has (getD (M .kept) l 0) j →
-      Raised w (getD needs l []) j v → Bound M needs (l + 1) v
+      BoundRaised w (getD needs l []) j v → Bound M needs (l + 1) v
   unfolding meant meantV
   raised-bound {l} {j} {w} {v} hl b hj m x = record {
     sized = rw (x .is) (sized-set w j (x .word) hj (b .sized));
@@ -107,7 +107,9 @@ module _ {M : Marks} {stars lags needs : List (List ℕ)} {P : Cue} (g : Prepare
     ];
     met = λ k hk. elim (ℕ-discrete k l) [
       | yes e ↦ rw e (j, hj, m, ⊕-l _ _ ▸ ≼-back (unfold meantV in raised-at (b .sized .size) six x))
-      | no d ↦ let (i, hi, q, y) = b .met k (omega arith) in (i, hi, q, (unfold meant meantV in y) ▸ (unfold meantV in raised-above (b .sized .size) six x i))
+      | no d ↦
+          let (i, hi, q, y) = b .met k (omega arith) in
+          (i, hi, q, (unfold meant meantV in y) ▸ (unfold meantV in raised-above (b .sized .size) six x i))
     ];
   }
     where
@@ -223,8 +225,8 @@ module _ {M : Marks} {stars lags needs : List (List ℕ)} {last : List ℕ} {s :
   }
 
   -- the bounds up to a place with one panel more, and then the others
-  pub spread-more : {to found held r : ℕ} {next mid after : List (List ℕ)} {P : Cue} → Prepared (M .triggers) P M stars lags needs → level < M .levels →
-      many ≤ places → to ≤ many → Bounds M needs level s many →
+  pub spread-more : {to found held r : ℕ} {next mid after : List (List ℕ)} {P : Cue} → Prepared (M .triggers) P M stars lags needs →
+      level < M .levels → many ≤ places → to ≤ many → Bounds M needs level s many →
       Expanded s from to (getD (M .kept) level 0) (getD needs level []) (M .triggers) next found →
       Spread M stars lags needs last next 0 found (level + 1) len buf held mid →
       Spread M stars lags needs last s to many level held mid r after →
@@ -273,7 +275,8 @@ none-gathered n P last buf h = record { stored = record { few = omega arith; siz
 
 module _ {M : Marks} {stars lags needs : List (List ℕ)} {last : List ℕ} where
   pub spread-filled : {buf : List (List ℕ)} {r : ℕ} {after : List (List ℕ)} → length buf ≡ room →
-      Spread M stars lags needs last none 0 1 0 0 buf r after → (P : Cue) → Prepared (M .triggers) P M stars lags needs → Filled (M .triggers) P last r after
+      Spread M stars lags needs last none 0 1 0 0 buf r after → (P : Cue) → Prepared (M .triggers) P M stars lags needs →
+      Filled (M .triggers) P last r after
   unfolding meantV
   spread-filled {buf} z s P g = record {
     stored = stored-as (s .gathered P [] g (none-gathered (M .triggers) P last buf z) .stored)

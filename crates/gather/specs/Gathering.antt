@@ -13,9 +13,9 @@ use Rattle.maxplus.proofs.SortedLaws.{gt?, above}
 use Rattle.cue.specs.Cue.{Cue}
 use Rattle.cue.specs.Method.{least, lines}
 use Rattle.cue.proofs.Closure.{Common, common?}
-use Rattle.sheet.specs.Sheet.{limit}
+use Rattle.sheet.specs.Sizes.{need-down}
 use Rattle.tables.specs.Held.{meant, meantV, CloselyV}
-use Rattle.candidates.specs.Bits.{Has}
+use Rattle.trigger_sets.specs.Sets.{Has}
 use Rattle.candidates.specs.Lines.{line-of, Sized}
 use Rattle.candidates.specs.Steps.{ray-of}
 use Rattle.candidates.specs.Prepared.{Prepared}
@@ -53,7 +53,7 @@ Met M needs l b = (j : ℕ) × (j < M .triggers) × Has (getD (M .kept) l 0) j �
 -- a bound of the first l levels, no more than r in any component
 pub record Bound (M : Marks) (needs : List (List ℕ)) (l : ℕ) (w : List ℕ) : Type 0 where
   pub sized : Sized (M .triggers) w
-  pub close : CloselyV (M .triggers) (15 * limit) w
+  pub close : CloselyV (M .triggers) need-down w
   pub marked : (t : ℕ) → t < M .triggers → meantV w t ⊗ meantV (M .pulls) t ≼ unit
   pub met : (k : ℕ) → k < l → Met M needs k (meantV w)
 

@@ -5,7 +5,7 @@ ghost use lib.ListN.{length, take};
 ghost use mathlib.Core.Path.{_≡_};
 ghost use Rattle.maxplus.specs.Line as maxplus;
 ghost use Rattle.cue.specs.Cue.{Cue};
-ghost use Rattle.sheet.specs.Sheet.{limit};
+ghost use Rattle.sheet.specs.Sizes.{need-down, shifted-size};
 ghost use Rattle.tables.specs.Held.{meant, meantV, CloselyV};
 ghost use Rattle.candidates.specs.Lines.{Sized, line-of};
 ghost use Rattle.candidates.specs.Prepared.{Prepared};
@@ -36,7 +36,7 @@ fn consider(
 ) -> usize
     requires { ⌜ ((P : Cue) × (needs : List (List ℕ)) × (C : List (maxplus.Line (marks .triggers)))
         × Prepared (marks .triggers) P marks (now star) (now lag) needs × Gathered (marks .triggers) P last C len (now buf))
-        × Sized (marks .triggers) last × Sized (marks .triggers) (line .at) × CloselyV (marks .triggers) (52 * limit) (line .at) ⌝ }
+        × Sized (marks .triggers) last × Sized (marks .triggers) (line .at) × CloselyV (marks .triggers) shifted-size (line .at) ⌝ }
     ensures { λ r. ⌜ ((P : Cue) (needs : List (List ℕ)) (C : List (maxplus.Line (marks .triggers))) →
         Prepared (marks .triggers) P marks (now (star .entry)) (now (lag .entry)) needs →
         Gathered (marks .triggers) P last C len (now (buf .entry)) →
@@ -68,7 +68,7 @@ fn consider_bound(
 ) -> usize
     requires { ⌜ ((P : Cue) × (needs : List (List ℕ)) × (C : List (maxplus.Line (marks .triggers)))
         × Prepared (marks .triggers) P marks (now star) (now lag) needs × Gathered (marks .triggers) P last C len (now buf))
-        × Sized (marks .triggers) last × CloselyV (marks .triggers) (15 * limit) bound ⌝ }
+        × Sized (marks .triggers) last × CloselyV (marks .triggers) need-down bound ⌝ }
     ensures { λ r. ⌜ ((P : Cue) (needs : List (List ℕ)) (C : List (maxplus.Line (marks .triggers))) →
         Prepared (marks .triggers) P marks (now (star .entry)) (now (lag .entry)) needs →
         Gathered (marks .triggers) P last C len (now (buf .entry)) → Gathered (marks .triggers) P last
@@ -105,7 +105,7 @@ fn consider_bounds(
     requires { ⌜ ((P : Cue) × (needs : List (List ℕ)) × (C : List (maxplus.Line (marks .triggers)))
         × Prepared (marks .triggers) P marks (now star) (now lag) needs × Gathered (marks .triggers) P last C len (now buf))
         × Sized (marks .triggers) last × (many ≤ places) × (length (now set) ≡ places)
-        × ((k : ℕ) → k < many → CloselyV (marks .triggers) (15 * limit) (row (now set) k)) ⌝ }
+        × ((k : ℕ) → k < many → CloselyV (marks .triggers) need-down (row (now set) k)) ⌝ }
     ensures { λ r. ⌜ ((P : Cue) (needs : List (List ℕ)) (C : List (maxplus.Line (marks .triggers))) →
         Prepared (marks .triggers) P marks (now (star .entry)) (now (lag .entry)) needs →
         Gathered (marks .triggers) P last C len (now (buf .entry)) → Gathered (marks .triggers) P last
@@ -205,7 +205,8 @@ pub fn gather(
     lag: &[[u64; 6]; 6],
     needs: &[[u64; 6]; 6],
 ) -> usize
-    requires { ⌜ ((P : Cue) × Prepared (marks .triggers) P marks (now star) (now lag) (now needs)) × Sized (marks .triggers) last × (length (now buf) ≡ room) ⌝ }
+    requires { ⌜ ((P : Cue) × Prepared (marks .triggers) P marks (now star) (now lag) (now needs)) × Sized (marks .triggers) last ×
+        (length (now buf) ≡ room) ⌝ }
     ensures { λ r. ⌜ ((P : Cue) → Prepared (marks .triggers) P marks (now (star .entry)) (now (lag .entry)) (now (needs .entry)) →
         Filled (marks .triggers) P last r (now (buf .exit))) ⌝ }
 {

@@ -37,7 +37,8 @@ none : Pair
 none = (0, 0)
 
 module _ (m : ℕ) (b c : ℕ → ℕ) (bytes : List ℕ) (few : m ≤ 6) (long : length bytes ≡ 6)
-    (here : (i : ℕ) → i < m → getD bytes i 0 ≡ b i) (past : (i : ℕ) → m ≤ i → getD bytes i 0 ≡ 0) (counted : (i : ℕ) → ones (b i) ≡ c i) where
+    (here : (i : ℕ) → i < m → getD bytes i 0 ≡ b i) (past : (i : ℕ) → m ≤ i → getD bytes i 0 ≡ 0)
+    (counted : (i : ℕ) → ones (b i) ≡ c i) where
   abbrev pub pairs : List Pair
   pairs = each m (λ i. pair b c i ∷ [])
 

@@ -77,7 +77,7 @@ fn ones_of(kept: [u8; 6]) -> [u8; 6]
     let mut r = [0u8; 6];
     let mut i: usize = 0;
     while i < 6 {
-        r[i] = thresholds::ones(kept[i]);
+        r[i] = trigger_sets::ones(kept[i]);
         i += 1;
     }
     r

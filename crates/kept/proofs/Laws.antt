@@ -87,7 +87,8 @@ complained (refused k) = refl
 
 module _ (s : List ℕ) (t : KeptTable) (e : t ≡ kept-answer (keeping s)) where
   pub refusal-out : ¬ (t .refusal ≡ 0) → refusal-text (t .refusal) ≡ kept-output (keeping s)
-  refusal-out h = subst (λ (t : KeptTable). ¬ (t .refusal ≡ 0) → refusal-text (t .refusal) ≡ kept-output (keeping s)) (sym e) (refused-out (keeping s)) h
+  refusal-out h =
+      subst (λ (t : KeptTable). ¬ (t .refusal ≡ 0) → refusal-text (t .refusal) ≡ kept-output (keeping s)) (sym e) (refused-out (keeping s)) h
 
   pub few-out : t .panels ≤ 6
   few-out = subst (λ (t : KeptTable). t .panels ≤ 6) (sym e) (few-kept (keeping s) (keeping-sound s))

@@ -18,10 +18,11 @@ use Rattle.maxplus.proofs.SortedLaws.{above, in-above, above-sorted, sorted-eq}
 use Rattle.cue.specs.Cue.{Cue}
 use Rattle.cue.specs.Method.{lines}
 use Rattle.cue.proofs.Extreme.{lines-increasing, lines-normal}
-use Rattle.cue.proofs.Bounds.{line-six}
+use Rattle.cue.proofs.Bounds.{line-within}
 use Rattle.words.specs.Words.{entry}
 use Rattle.words.proofs.Laws.{entry-zero, close-of}
 use Rattle.sheet.specs.Sheet.{limit}
+use Rattle.sheet.specs.Sizes.{order-limit, line-down}
 use Rattle.tables.specs.Held.{meantV, CloselyV}
 use Rattle.cue.proofs.Few as few
 use Rattle.cue.proofs.Few.{most}
@@ -106,18 +107,19 @@ module _ {n len : ℕ} {P : Cue} {last : List ℕ} {buf : List (List ℕ)} (few 
       after = sym (above-after (ltL n) (strict n) (line-of n last) b (lines n P) (take 127 left) (drop room left)
           (split-at left 127 (line-of n last) (omega (arith, filled-few)))) ∙ ap (rest n P) e
 
-pub lines-few : {P : Cue} {M : Marks} {stars lags needs : List (List ℕ)} → Prepared (M .triggers) P M stars lags needs → length (lines (M .triggers) P) ≤ most
+pub lines-few : {P : Cue} {M : Marks} {stars lags needs : List (List ℕ)} → Prepared (M .triggers) P M stars lags needs →
+    length (lines (M .triggers) P) ≤ most
 lines-few {P} {M} g = few.lines-few (M .triggers) P (g .few) (g .few-panels)
 
 -- ---- the words of lines that are held fit
 pub held-close : {n len : ℕ} {P : Cue} {M : Marks} {stars lags needs buf : List (List ℕ)} {last : List ℕ} → Prepared n P M stars lags needs →
-    Filled n P last len buf → (w : List ℕ) → In w (take len buf) → Sized n w × CloselyV n (28 * limit) w
+    Filled n P last len buf → (w : List ℕ) → In w (take len buf) → Sized n w × CloselyV n line-down w
 unfolding held meantV
 held-close {n} {len} {P} {buf = buf} {last} p s w h = (
   s .stored .sized w h,
   record {
-    at = λ j hj. close-of (28 * limit) (getD w j 0) (λ z e.
-        let b = line-six n limit P (p .limited) (p .few) (p .order) (line-of n w) member j hj in
+    at = λ j hj. close-of line-down (getD w j 0) (λ z e.
+        let b = line-within n 5 limit order-limit P (p .limited) (p .few) (p .order) (line-of n w) member j hj in
         let f = line-at n w j hj ∙ e in (b .low .above z f, omega (arith, b .high .below z f)));
   },
 )

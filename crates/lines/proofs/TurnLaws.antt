@@ -8,7 +8,7 @@ use lib.ListN.{length, drop, length-append}
 use Rattle.maxplus.specs.Line.{Line}
 use Rattle.cue.specs.Cue.{Cue}
 use Rattle.cue.specs.Method.{lines}
-use Rattle.cue.specs.Written.{list-words}
+use Rattle.cue.specs.Written.{line-size, list-words}
 use Rattle.cue.proofs.WrittenLaws.{list-words-length}
 use Rattle.candidates.specs.Lines.{line-of, Sized}
 use Rattle.candidates.specs.declared.Marks.{Marks}
@@ -25,13 +25,13 @@ use Rattle.lines.proofs.ListingLaws.{above-blank, filled-few, filled-al
 use Rattle.cue.proofs.Few.{most}
 
 -- words at the front
-laid-front : (before : List ℤ) (n : ℕ) (L : List (Line n)) → laid before 0 (list-words n L) ≡ list-words n L ++ drop (7 * length L) before
+laid-front : (before : List ℤ) (n : ℕ) (L : List (Line n)) → laid before 0 (list-words n L) ≡ list-words n L ++ drop (line-size * length L) before
 unfolding laid
-laid-front before n L = let e : 0 + length (list-words n L) ≡ 7 * length L = omega (arith, list-words-length n L) in
+laid-front before n L = let e : 0 + length (list-words n L) ≡ line-size * length L = omega (arith, list-words-length n L) in
     ap (λ k. list-words n L ++ drop k before) e
 
 -- a whole list at the front
-pub answers-lines : (n : ℕ) (L : List (Line n)) (before after : List ℤ) (k : ℕ) → k ≡ length L → k ≤ length before / 7 →
+pub answers-lines : (n : ℕ) (L : List (Line n)) (before after : List ℤ) (k : ℕ) → k ≡ length L → k ≤ length before / line-size →
     after ≡ laid before 0 (list-words n L) → Answers n L before after (Lines k)
 answers-lines n L before after k e h o = (e, omega arith, o ∙ laid-front before n L)
 
@@ -45,13 +45,13 @@ pub record Counted (M : Marks) (stars lags needs : List (List ℕ)) (last : List
 pub record Laid (n : ℕ) (P : Cue) (last : List ℕ) (before out : List ℤ) (at : ℕ) : Type 0 where
   pub done : List (Line n)
   pub parts : done ++ rest n P (line-of n last) ≡ lines n P
-  pub place : at ≡ 7 * length done
+  pub place : at ≡ line-size * length done
   pub words : out ≡ laid before 0 (list-words n done)
 
 pub record Writing (M : Marks) (stars lags needs : List (List ℕ)) (last : List ℕ) (before out : List ℤ) (at : ℕ) : Type 0 where
   pub sized : Sized (M .triggers) last
   pub size : length out ≡ length before
-  pub written : (P : Cue) → Prepared (M .triggers) P M stars lags needs → 7 * length (lines (M .triggers) P) ≤ length before →
+  pub written : (P : Cue) → Prepared (M .triggers) P M stars lags needs → line-size * length (lines (M .triggers) P) ≤ length before →
       Laid (M .triggers) P last before out at
 
 module _ {M : Marks} {stars lags needs : List (List ℕ)} where
@@ -114,12 +114,12 @@ module _ {M : Marks} {stars lags needs : List (List ℕ)} where
       }
 
     module _ {before out : List ℤ} {at : ℕ} (w : Writing M stars lags needs last before out at) where
-      module _ {P : Cue} (g : Prepared (M .triggers) P M stars lags needs) (h : 7 * length (lines (M .triggers) P) ≤ length before) where
+      module _ {P : Cue} (g : Prepared (M .triggers) P M stars lags needs) (h : line-size * length (lines (M .triggers) P) ≤ length before) where
         abbrev written : List (Line (M .triggers))
         written = w .written P g h .done
 
         -- what is held fits
-        pub writing-room : at + 7 * len ≤ length before
+        pub writing-room : at + line-size * len ≤ length before
         writing-room = let l = w .written P g h in omega (
           arith,
           l .place,
@@ -149,7 +149,7 @@ module _ {M : Marks} {stars lags needs : List (List ℕ)} where
           writing-end k = more-words ∙ ap (λ L. laid before 0 (list-words (M .triggers) L))
               (ap (λ L. written ++ L) (all-held g k) ∙ w .written P g h .parts)
 
-          laid-full : room ≤ len → Laid (M .triggers) P (row buf 127) before after (at + 7 * len)
+          laid-full : room ≤ len → Laid (M .triggers) P (row buf 127) before after (at + line-size * len)
           laid-full k = record {
             done = written ++ held (M .triggers) len buf;
             parts = append-assoc written (held (M .triggers) len buf) _ ∙ ap (λ L. written ++ L) (sym (full-held g k)) ∙ w .written P g h .parts;
@@ -157,9 +157,9 @@ module _ {M : Marks} {stars lags needs : List (List ℕ)} where
             words = more-words;
           }
 
-      pub writing-more : {P : Cue} → Prepared (M .triggers) P M stars lags needs → room ≤ len → {after : List ℤ} → length after ≡ length out →
-          after ≡ laid out at (list-words (M .triggers) (held (M .triggers) len buf)) →
-          Writing M stars lags needs (row buf 127) before after (at + 7 * len)
+      pub writing-more : {P : Cue} → Prepared (M .triggers) P M stars lags needs → room ≤ len → {after : List ℤ} →
+          length after ≡ length out → after ≡ laid out at (list-words (M .triggers) (held (M .triggers) len buf)) →
+          Writing M stars lags needs (row buf 127) before after (at + line-size * len)
       writing-more f k z e = record {
         sized = next-sized f k;
         size = z ∙ w .size;
@@ -175,7 +175,7 @@ module _ {M : Marks} {stars lags needs : List (List ℕ)} where
     pub whole-count : len ≡ length (lines (M .triggers) P)
     whole-count = sym (many-held s g) ∙ ap length whole-held
 
-    pub answers-held : (before after : List ℤ) → len ≤ length before / 7 →
+    pub answers-held : (before after : List ℤ) → len ≤ length before / line-size →
         after ≡ laid before 0 (list-words (M .triggers) (held (M .triggers) len buf)) →
         Answers (M .triggers) (lines (M .triggers) P) before after (Lines len)
     answers-held before after k e = answers-lines (M .triggers) (lines (M .triggers) P) before after len whole-count k

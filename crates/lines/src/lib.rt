@@ -9,6 +9,7 @@ use crate::write::write_lines;
 use buffer::ROOM;
 use candidates::Marks;
 use gather::gather;
+use words::LINE_SIZE;
 
 mod count;
 mod write;
@@ -33,7 +34,7 @@ pub fn list(
 {
     let mut buf = [[0u64; 6]; 128];
     let n = marks.triggers;
-    let room = out.len() / 7;
+    let room = out.len() / LINE_SIZE;
     let len = gather(&mut buf, [0u64; 6], marks, star, lag, needs);
     // A buffer that was not filled holds the whole list.
     if len < ROOM {

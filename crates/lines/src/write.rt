@@ -6,9 +6,9 @@ ghost use lib.ListN.{length, take};
 ghost use Rattle.maxplus.specs.Finite.{In};
 ghost use Rattle.cue.specs.Cue.{Cue};
 ghost use Rattle.cue.specs.Method.{lines};
-ghost use Rattle.cue.specs.Written.{signed, line-words, list-words};
+ghost use Rattle.cue.specs.Written.{line-size, signed, line-words, list-words};
 ghost use Rattle.words.specs.Words.{entry, Close};
-ghost use Rattle.sheet.specs.Sheet.{limit};
+ghost use Rattle.sheet.specs.Sizes.{line-down};
 ghost use Rattle.tables.specs.Held.{CloselyV};
 ghost use Rattle.candidates.specs.Lines.{Sized, line-of};
 ghost use Rattle.buffer.specs.Buffer.{room, held};
@@ -18,12 +18,13 @@ use buffer::ROOM;
 use candidates::Marks;
 use gather::gather;
 use words::BIAS;
+use words::LINE_SIZE;
 
 const ABSENT: i32 = -2147483648;
 
 // The signed word of an entry.
 fn signed_word(w: u64) -> i32
-    requires { ⌜ Close (28 * limit) w ⌝ }
+    requires { ⌜ Close line-down w ⌝ }
     ensures { λ r. ⌜ r ≡ signed (entry w) ⌝ }
 {
     if w == 0 {
@@ -37,7 +38,7 @@ fn signed_word(w: u64) -> i32
 
 // The words of one line from a place on.
 fn write_line(out: &mut [i32], at: usize, n: usize, c: [u64; 6])
-    requires { ⌜ (n ≤ 6) × (at + 7 ≤ length (now out)) × Sized n c × CloselyV n (28 * limit) c ⌝ }
+    requires { ⌜ (n ≤ 6) × (at + line-size ≤ length (now out)) × Sized n c × CloselyV n line-down c ⌝ }
     ensures { λ r. ⌜ now (out .exit) ≡ laid (now (out .entry)) at (line-words n (line-of n c)) ⌝ }
 {
     out[at] = n as i32;
@@ -50,13 +51,13 @@ fn write_line(out: &mut [i32], at: usize, n: usize, c: [u64; 6])
 
 // Those of the lines that the buffer holds.
 pub fn write_held(out: &mut [i32], at: usize, buf: &[[u64; 6]; 128], len: usize, n: usize)
-    requires { ⌜ (n ≤ 6) × (len ≤ room) × (length (now buf) ≡ room) × (at + 7 * len ≤ length (now out))
-        × ((w : List ℕ) → In w (take len (now buf)) → Sized n w × CloselyV n (28 * limit) w) ⌝ }
+    requires { ⌜ (n ≤ 6) × (len ≤ room) × (length (now buf) ≡ room) × (at + line-size * len ≤ length (now out))
+        × ((w : List ℕ) → In w (take len (now buf)) → Sized n w × CloselyV n line-down w) ⌝ }
     ensures { λ r. ⌜ now (out .exit) ≡ laid (now (out .entry)) at (list-words n (held n len (now (buf .entry)))) ⌝ }
 {
     let mut k: usize = 0;
     while k < len {
-        write_line(out, at + 7 * k, n, buf[k]);
+        write_line(out, at + LINE_SIZE * k, n, buf[k]);
         k += 1;
     }
 }
@@ -70,9 +71,9 @@ pub fn write_lines(
     needs: &[[u64; 6]; 6],
 )
     requires { ⌜ ((P : Cue) × Prepared (marks .triggers) P marks (now star) (now lag) (now needs)
-        × (7 * length (lines (marks .triggers) P) ≤ length (now out))) ⌝ }
+        × (line-size * length (lines (marks .triggers) P) ≤ length (now out))) ⌝ }
     ensures { λ r. ⌜ ((P : Cue) → Prepared (marks .triggers) P marks (now (star .entry)) (now (lag .entry)) (now (needs .entry)) →
-        7 * length (lines (marks .triggers) P) ≤ length (now (out .entry)) →
+        line-size * length (lines (marks .triggers) P) ≤ length (now (out .entry)) →
         now (out .exit) ≡ laid (now (out .entry)) 0 (list-words (marks .triggers) (lines (marks .triggers) P))) ⌝ }
 {
     let mut buf = [[0u64; 6]; 128];
@@ -84,7 +85,7 @@ pub fn write_lines(
         if len < ROOM {
             return;
         }
-        at += 7 * len;
+        at += LINE_SIZE * len;
         last = buf[ROOM - 1];
     }
 }

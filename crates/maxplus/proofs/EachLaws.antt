@@ -31,7 +31,8 @@ module _ {A : Type 0} where
           set (each n (λ j. f j ∷ []) ++ (f n ∷ [])) k a ≡ each n (λ j. g j ∷ []) ++ (g n ∷ [])
       go ih (yes r) = ap (λ i. set (each n (λ j. f j ∷ []) ++ (f n ∷ [])) i a) (r ∙ sym (length-each n f))
           ∙ set-append-seam (each n (λ j. f j ∷ [])) (f n) [] a
-          ∙ ap₂ (λ l b. l ++ (b ∷ [])) (each-same n _ _ (λ j p. ap (λ a. a ∷ []) (h j (omega arith) (λ x. let y : ⊥ = omega arith in y)))) (e ∙ ap g r)
+          ∙ ap₂ (λ l b. l ++ (b ∷ []))
+          (each-same n _ _ (λ j p. ap (λ a. a ∷ []) (h j (omega arith) (λ x. let y : ⊥ = omega arith in y)))) (e ∙ ap g r)
       go ih (no r) = set-append-left (each n (λ j. f j ∷ [])) (f n ∷ []) k a (let p = length-each n f in omega arith)
           ∙ ap₂ (λ l b. l ++ (b ∷ [])) (ih (omega arith))
           (h n (omega arith) (λ x. r (sym x)))

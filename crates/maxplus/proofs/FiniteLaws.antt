@@ -27,7 +27,8 @@ unequal a b f = go (eqb a b) (eqb-true a b)
     go false h = refl
 
 -- ---- decisions below a bound
-unfoldable pub all-or : (P : ℕ → Type 0) → ((k : ℕ) → Dec (P k)) → (n : ℕ) → ((k : ℕ) → k < n → P k) ⊎ ((k : ℕ) × (k < n) × ¬ (P k))
+unfoldable pub all-or : (P : ℕ → Type 0) → ((k : ℕ) → Dec (P k)) → (n : ℕ) →
+    ((k : ℕ) → k < n → P k) ⊎ ((k : ℕ) × (k < n) × ¬ (P k))
 all-or P d zero = inl (λ k h. let e : ⊥ = omega arith in absurd e)
 all-or P d (suc n) = go (all-or P d n) (d n)
   where

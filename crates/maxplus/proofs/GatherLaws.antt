@@ -15,7 +15,10 @@ module _ {A : Type 0} (lt : A → A → Type 0) (S : Strict lt) where
     where
       to : (c : A) → In c (sift lt S d (l ++ a ∷ [])) → In c (put lt S a (sift lt S d l))
       to c h = let (i, q) = sift-in lt S d (l ++ a ∷ []) c h in
-          in-put lt S a _ c (elim (in-app l (a ∷ []) c i) [ inl k ↦ inr (in-sift lt S d l c k q) | inr k ↦ elim k [ inl e ↦ inl e | inr e ↦ absurd e ] ])
+          in-put lt S a _ c (elim (in-app l (a ∷ []) c i) [
+            | inl k ↦ inr (in-sift lt S d l c k q)
+            | inr k ↦ elim k [ inl e ↦ inl e | inr e ↦ absurd e ]
+          ])
 
       from : (c : A) → In c (put lt S a (sift lt S d l)) → In c (sift lt S d (l ++ a ∷ []))
       from c h = elim (put-in lt S a _ c h) [

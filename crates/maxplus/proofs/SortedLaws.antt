@@ -63,7 +63,8 @@ module _ {A : Type 0} (lt : A → A → Type 0) (S : Strict lt) where
   put-sorted a [] s = (λ b h. absurd h, tt)
   put-sorted a (b ∷ l) s = go (put-sorted a l (s .1)) (S .cmp a b)
     where
-      go : Sorted lt S (put lt S a l) → (k : Cmp lt a b) → Sorted lt S (elim k [ less h ↦ a ∷ b ∷ l | same h ↦ b ∷ l | more h ↦ b ∷ put lt S a l ])
+      go : Sorted lt S (put lt S a l) → (k : Cmp lt a b) →
+          Sorted lt S (elim k [ less h ↦ a ∷ b ∷ l | same h ↦ b ∷ l | more h ↦ b ∷ put lt S a l ])
       go ih (less k) = (λ c h. elim h [ inl e ↦ rw e k | inr q ↦ S .trans a b c k (s .0 c q) ], s)
       go ih (same k) = s
       go ih (more k) = (λ c h. elim (put-in a l c h) [ inl e ↦ rw e k | inr q ↦ s .0 c q ], ih)
@@ -92,7 +93,8 @@ module _ {A : Type 0} (lt : A → A → Type 0) (S : Strict lt) where
   in-sift d [] c h p = h
   in-sift {P} d (a ∷ l) c h p = go (λ h. in-sift d l c h p) (d a) h
     where
-      go : (In c l → In c (sift lt S d l)) → (k : Dec (P a)) → (c ≡ a) ⊎ In c l → In c (elim k [ yes h ↦ put lt S a (sift lt S d l) | no h ↦ sift lt S d l ])
+      go : (In c l → In c (sift lt S d l)) → (k : Dec (P a)) → (c ≡ a) ⊎ In c l →
+          In c (elim k [ yes h ↦ put lt S a (sift lt S d l) | no h ↦ sift lt S d l ])
       go ih (yes k) (inl e) = in-put a _ c (inl e)
       go ih (yes k) (inr q) = in-put a _ c (inr (ih q))
       go ih (no k) (inl e) = absurd (k (rw e at p))

@@ -9,7 +9,8 @@ use native.Mathlib.Nat.{suc-add, zero-add, add-zero}
 use lib.IntN.{ℤ}
 use Rattle.maxplus.specs.Entry.{E, num, _≼_, _⊗_, unit}
 use Rattle.maxplus.specs.Tables.{Mat, mm, idm, power, star, NoGain}
-use Rattle.maxplus.proofs.EntryLaws.{≼-refl, _▸_, ≼-of, ≼-back, ⊗-mono, ⊗-right, ⊗-assoc, ⊗-unit, ≼-num, ⊗-split, ⊗-unit-r, ≼-dec}
+use Rattle.maxplus.proofs.EntryLaws.{≼-refl, _▸_, ≼-of, ≼-back, ≼-num, ≼-dec}
+use Rattle.maxplus.proofs.EntryLaws.{⊗-mono, ⊗-right, ⊗-assoc, ⊗-unit, ⊗-split, ⊗-unit-r}
 use Rattle.maxplus.proofs.FiniteLaws.{all-or, all-dec}
 use Rattle.maxplus.proofs.SupLaws.{sup-ub, sup-lub, sup-at, sup-mono, sup-⊗, sup-⊗r}
 use Rattle.maxplus.proofs.TableLaws.{idm-same, idm-in, idm-eq}

@@ -14,6 +14,7 @@ use Rattle.maxplus.proofs.SupLaws.{sup-ext}
 use Rattle.words.specs.Words.{word, entry, far}
 use Rattle.words.proofs.Laws.{entry-mono, entry-reflects}
 use Rattle.sheet.specs.Sheet.{limit}
+use Rattle.sheet.specs.Sizes.{order-limit}
 use Rattle.cue.specs.Cue.{Cue}
 use Rattle.cue.proofs.Bounds.{Limited, power-within}
 use Rattle.tables.specs.Held.{meant, Holds, Closely}
@@ -31,8 +32,8 @@ module _ (n : ℕ) (t : List (List ℕ)) where
   abbrev alone : Cue
   alone = record { panels = 0; lag = λ i j. absent; floor = λ i. absent; due = λ j. pos 0; order = meant t }
 
-  module _ (six : n ≤ 6) (c : Closely n n limit t) where
-    alone-limited : Limited n limit alone
+  module _ (six : n ≤ 6) (c : Closely n n order-limit t) where
+    alone-limited : Limited n limit order-limit alone
     alone-limited = record {
       lags = λ i j h. let e : ⊥ = omega arith in absurd e;
       floors = λ i h. let e : ⊥ = omega arith in absurd e;
@@ -40,11 +41,11 @@ module _ (n : ℕ) (t : List (List ℕ)) where
         low = record { above = λ z e. rw (← num-inj e) (omega arith) };
         high = record { below = λ z e. rw (← num-inj e) (omega arith) };
       };
-      afters = λ i j hi hj. meant-within c i j hi hj;
+      orders = λ i j hi hj. meant-within c i j hi hj;
     }
 
     pub power-near : (k : ℕ) {p : List (List ℕ)} → k ≤ 6 → Holds n n (power n (meant t) k) p → Closely n n far p
-    power-near k h e = closely-within (omega arith) (omega arith) e (λ i j hi hj. power-within n 5 limit alone alone-limited six k i j hi hj)
+    power-near k h e = closely-within (omega arith) (omega arith) e (λ i j hi hj. power-within n 5 limit order-limit alone alone-limited six k i j hi hj)
 
   pub power-none : {p : List (List ℕ)} → n ≤ 6 → Holds 6 6 idm p → Holds n n (power n (meant t) 0) p
   unfolding power

@@ -1,9 +1,9 @@
 // Step 1: whether timings that keep the order exist, and the star of the after table.
 ghost use Prim.Native.Nat.{ℕ, _≤_, _<_};
 ghost use Rattle.maxplus.specs.Entry.{_≼_, unit};
-ghost use Rattle.sheet.specs.Sheet.{limit};
 ghost use Rattle.tables.specs.Held.{meant, Closely, Says};
 ghost use Rattle.order.specs.Closed.{Closed};
+ghost use Rattle.sheet.specs.Sizes.{order-limit};
 use tables::identity;
 use tables::joined;
 use tables::product;
@@ -11,7 +11,7 @@ use tables::product;
 // "Timings that keep the order exist exactly when no diagonal entry of powers 1 to n is above 0." Then the lent table is M*, "the sum of the
 // powers 0 to n − 1 of the after table".
 pub fn closed(after: &[[u64; 6]; 6], star: &mut [[u64; 6]; 6], n: usize) -> bool
-    requires { ⌜ (n ≤ 6) × Closely n n limit (now after) ⌝ }
+    requires { ⌜ (n ≤ 6) × Closely n n order-limit (now after) ⌝ }
     ensures { λ r. ⌜ Closed n (meant (now (after .entry))) (now (star .exit)) r ⌝ }
 {
     let blank = [0u64; 6];

@@ -20,15 +20,17 @@ use Rattle.cue.specs.Cue.{Cue}
 use Rattle.cue.specs.Method.{least, steps, selections, lines}
 use Rattle.cue.proofs.Bounds.{results-32}
 use Rattle.cue.proofs.WrittenLaws.{Fitting, list-words-length}
-use Rattle.sheet.specs.Sheet.{Got, got, Sheet, read}
+use Rattle.sheet.specs.Sheet.{Got, got, Sheet, limit, read}
 use Rattle.sheet.specs.Sheet as sheet
+use Rattle.sheet.specs.Sizes.{order-limit}
 use Rattle.reading.proofs.Refusals.{refusal-known}
 use Rattle.sheet.specs.Cue.{cue-of, Orderly, orderly?}
-use Rattle.sheet.proofs.Good.{Good, read-good}
+use Rattle.sheet.specs.Good.{Good}
+use Rattle.sheet.proofs.Good.{read-good}
 use Rattle.advice.specs.Advice.{advice}
 use Rattle.writing.specs.Texts.{plan-text, refusal-text, full-text}
 use Rattle.writing.specs.Writing.{Stands}
-use Rattle.planning.specs.Planning.{Outcome, planned, full, refused, plan-of, planning, space-after, plan-answer}
+use Rattle.planning.specs.Planning.{PlanOutcome, planned, full, refused, plan-of, planning, space-after, plan-answer}
 use Rattle.sheet.specs.Ordered.{ordered}
 use Rattle.planning.specs.Text.{text, program-text}
 use Rattle.planning.specs.Demands.{Planned}
@@ -36,8 +38,9 @@ use Rattle.planning.specs.declared.CuePlan.{CuePlan}
 use Rattle.planning.proofs.PlanLaws.{planning-refused, planning-8, planning-listed}
 use Rattle.advice.proofs.AdviceLaws.{advised}
 use Rattle.plan.specs.Output.{complaint, program-complaint}
+use Rattle.cue.specs.Written.{line-size}
 
-abbrev pub Sound : ℕ → Outcome → Type 0
+abbrev pub Sound : ℕ → PlanOutcome → Type 0
 Sound room (planned n D k l L) = (n ≤ 6) × (length L ≤ room) × Fitting n L
 Sound room (full k) = 1 ≤ k
 Sound room (refused k) = (1 ≤ k) × (k ≤ 8)
@@ -53,46 +56,46 @@ listed-sound room t G np = go (leb (length (lines n P)) room) (leb-true (length 
 
     go : (b : Bool) → (b ≡ true → length (lines n P) ≤ room) → (b ≡ false → room < length (lines n P)) →
         Sound room (cond b (planned n (least n P) (steps n P (least n P)) (length (selections n P (least n P))) (lines n P)) (full (length (lines n P))))
-    go true f g = (G .triggers-few, f refl, λ c h i q. results-32 n P np (G .limited) (G .triggers-few) .components c h i q)
+    go true f g = (G .triggers-few, f refl, λ c h i q. results-32 n limit order-limit P np (G .limited) (G .triggers-few) (omega arith) .components c h i q)
     go false f g = let q = g refl in omega arith
 
-pub planning-sound : (s : List ℕ) (space : List ℤ) → Sound (length space / 7) (planning s space)
+pub planning-sound : (s : List ℕ) (space : List ℤ) → Sound (length space / line-size) (planning s space)
 planning-sound s space = go (read s) refl
   where
-    ordered-by : (t : Sheet) (r : List ℕ) → read s ≡ got t r → Dec (Orderly t) → Sound (length space / 7) (planning s space)
-    ordered-by t r e (yes np) = subst (Sound (length space / 7)) (planning-listed s space t r e np) (listed-sound (length space / 7) t (read-good s t r e) np)
-    ordered-by t r e (no f) = subst (Sound (length space / 7)) (sym (planning-8 s space t r e f)) (omega arith, omega arith)
+    ordered-by : (t : Sheet) (r : List ℕ) → read s ≡ got t r → Dec (Orderly t) → Sound (length space / line-size) (planning s space)
+    ordered-by t r e (yes np) = subst (Sound (length space / line-size)) (planning-listed s space t r e np) (listed-sound (length space / line-size) t (read-good s t r e) np)
+    ordered-by t r e (no f) = subst (Sound (length space / line-size)) (sym (planning-8 s space t r e f)) (omega arith, omega arith)
 
-    go : (g : Got Sheet) → read s ≡ g → Sound (length space / 7) (planning s space)
-    go (sheet.refused k) e = subst (Sound (length space / 7)) (sym (planning-refused s space k e))
+    go : (g : Got Sheet) → read s ≡ g → Sound (length space / line-size) (planning s space)
+    go (sheet.refused k) e = subst (Sound (length space / line-size)) (sym (planning-refused s space k e))
         (let n = refusal-known s k e in (n .0, let m = n .1 in omega arith))
     go (got t r) e = ordered-by t r e (orderly? t)
 
 -- ---- the answer's text is the outcome's
-pub record Lists (o : Outcome) (space : List ℤ) (p : CuePlan) : Type 0 where
+pub record Lists (o : PlanOutcome) (space : List ℤ) (p : CuePlan) : Type 0 where
   pub list : List (Line (p .triggers))
   pub stands : Stands (p .triggers) (p .count) (space-after o space) list
   pub text-is : plan-text (p .triggers) (p .deviation) (p .steps) (p .selections) list ≡ text o
 
-full-of : (room : ℕ) (o : Outcome) → ¬ (plan-answer o .refusal ≡ 0) → ¬ (plan-answer o .count ≡ 0) → full-text (plan-answer o .count) ≡ text o
+full-of : (room : ℕ) (o : PlanOutcome) → ¬ (plan-answer o .refusal ≡ 0) → ¬ (plan-answer o .count ≡ 0) → full-text (plan-answer o .count) ≡ text o
 unfolding text
 full-of room (planned n D k l L) h g = absurd (h refl)
 full-of room (full k) h g = refl
 full-of room (refused k) h g = absurd (g refl)
 
-refusal-of : (room : ℕ) (o : Outcome) → Sound room o → ¬ (plan-answer o .refusal ≡ 0) → plan-answer o .count ≡ 0 →
+refusal-of : (room : ℕ) (o : PlanOutcome) → Sound room o → ¬ (plan-answer o .refusal ≡ 0) → plan-answer o .count ≡ 0 →
     refusal-text (plan-answer o .refusal) ≡ text o
 unfolding text
 refusal-of room (planned n D k l L) q h g = absurd (h refl)
 refusal-of room (full k) q h g = let x : ⊥ = omega arith in absurd x
 refusal-of room (refused k) q h g = refl
 
-few-of : (room : ℕ) (o : Outcome) → Sound room o → plan-answer o .refusal ≡ 0 → (plan-answer o .triggers ≤ 6) × (plan-answer o .count ≤ room)
+few-of : (room : ℕ) (o : PlanOutcome) → Sound room o → plan-answer o .refusal ≡ 0 → (plan-answer o .triggers ≤ 6) × (plan-answer o .count ≤ room)
 few-of room (planned n D k l L) q h = (q .0, q .1)
 few-of room (full k) q h = let x : ⊥ = omega arith in absurd x
 few-of room (refused k) q h = let n = q .0 in let x : ⊥ = omega arith in absurd x
 
-lists-of : (room : ℕ) (o : Outcome) (space : List ℤ) → Sound room o → plan-answer o .refusal ≡ 0 → Lists o space (plan-answer o)
+lists-of : (room : ℕ) (o : PlanOutcome) (space : List ℤ) → Sound room o → plan-answer o .refusal ≡ 0 → Lists o space (plan-answer o)
 unfolding text space-after
 lists-of room (planned n D k l L) space q h =
     record { list = L; stands = record { many = refl; words = take-at _ _ _ (list-words-length n L); fitting = q .2 }; text-is = refl }
@@ -100,7 +103,7 @@ lists-of room (full k) space q h = let x : ⊥ = omega arith in absurd x
 lists-of room (refused k) space q h = let n = q .0 in let x : ⊥ = omega arith in absurd x
 
 -- the sentence of the answer's number is the outcome's
-complaint-of : (o : Outcome) → advice (plan-answer o .refusal) ≡ complaint o
+complaint-of : (o : PlanOutcome) → advice (plan-answer o .refusal) ≡ complaint o
 unfolding advice
 complaint-of (planned n D k l L) = refl
 complaint-of (full k) = refl
@@ -108,7 +111,7 @@ complaint-of (refused k) = refl
 
 -- ---- in the program, which lends 14,000 words
 module _ (s : List ℕ) (space : List ℤ) (sized : length space ≡ 14000) (p : CuePlan) (e : p ≡ plan-answer (planning s space)) where
-  room-is : length space / 7 ≡ 2000
+  room-is : length space / line-size ≡ 2000
   room-is = rw sized
 
   program-is : text (planning s space) ≡ program-text s
@@ -133,8 +136,9 @@ module _ (s : List ℕ) (space : List ℤ) (sized : length space ≡ 14000) (p :
   lists = subst (λ (p : CuePlan). p .refusal ≡ 0 → Lists (planning s space) space p) (sym e) (lists-of 2000 (planning s space) space sound)
 
   -- the text of a plan, its deviation read back from a signed word
-  pub plan-out : (after : List ℤ) → after ≡ space-after (planning s space) space → p .refusal ≡ 0 → SFits w64 (p .deviation) → (out : List ℕ) →
-      ((L : List (Line (p .triggers))) → Stands (p .triggers) (p .count) after L → out ≡ plan-text (p .triggers) (toZ w64 (ofZ w64 (p .deviation))) (p .steps) (p .selections) L) →
+  pub plan-out : (after : List ℤ) → after ≡ space-after (planning s space) space → p .refusal ≡ 0 → SFits w64 (p .deviation) →
+      (out : List ℕ) → ((L : List (Line (p .triggers))) → Stands (p .triggers) (p .count) after L →
+      out ≡ plan-text (p .triggers) (toZ w64 (ofZ w64 (p .deviation))) (p .steps) (p .selections) L) →
       out ≡ program-text s
   plan-out after w h f out t =
       let l = lists h in
@@ -149,7 +153,7 @@ module _ (s : List ℕ) (space : List ℤ) (sized : length space ≡ 14000) (p :
 pub bytes-for : (len count : ℕ) → 200200 ≤ len → count ≤ 2000 → 100 * count + 200 ≤ len
 bytes-for len count h q = omega arith
 
-pub words-for : (len count : ℕ) → 14000 ≤ len → count ≤ 2000 → 7 * count ≤ len
+pub words-for : (len count : ℕ) → 14000 ≤ len → count ≤ 2000 → line-size * count ≤ len
 words-for len count h q = omega arith
 
 -- whatever is not planned gets a sentence
@@ -157,7 +161,7 @@ pub explained : (s : List ℕ) → ¬ (Planned (plan-of 2000 (ordered s))) → 0
 unfolding program-complaint planning
 explained s n = go (plan-of 2000 (ordered s)) (sound s (replicate 14000 (pos 0)) (length-replicate 14000 (pos 0)) _ refl) n
   where
-    go : (o : Outcome) → Sound 2000 o → ¬ (Planned o) → 0 < length (complaint o)
+    go : (o : PlanOutcome) → Sound 2000 o → ¬ (Planned o) → 0 < length (complaint o)
     go (planned n D k l L) q h = absurd (h tt)
     go (full k) q h = advised 9 (omega arith) (omega arith)
     go (refused k) q h = advised k (q .0) (let m = q .1 in omega arith)

@@ -2,10 +2,10 @@
 use mathlib.Core.List.{List, []}
 use Prim.Native.Nat.{ℕ}
 use Rattle.advice.specs.Advice.{advice}
-use Rattle.planning.specs.Planning.{Outcome, planned, full, refused, plan-of}
+use Rattle.planning.specs.Planning.{PlanOutcome, planned, full, refused, plan-of}
 use Rattle.sheet.specs.Ordered.{ordered}
 
-abbrev pub complaint : Outcome → List ℕ
+abbrev pub complaint : PlanOutcome → List ℕ
 complaint (planned n D k l L) = []
 complaint (full k) = advice 9
 complaint (refused k) = advice k

@@ -20,6 +20,7 @@ use Rattle.sheet.proofs.Good.{read-good}
 use Rattle.planning.specs.Planning.{planned, full, plan-of, planning, plan-answer}
 use Rattle.keeping.specs.Keeping.{kept-of, keeping, kept-answer}
 use Rattle.sheet.specs.Ordered.{ordered}
+use Rattle.cue.specs.Written.{line-size}
 
 module _ (s : List ℕ) where
   abbrev Sized : Got Sheet → Type 0
@@ -30,11 +31,13 @@ module _ (s : List ℕ) where
   unfolding ordered
   sized = go (read s) refl
     where
-      ask : (t : Sheet) (r : List ℕ) → Sized (got t r) → (d : Dec (Orderly t)) → Sized (elim d [ yes h ↦ got t r | no h ↦ sheet.refused 8 ])
+      ask : (t : Sheet) (r : List ℕ) → Sized (got t r) → (d : Dec (Orderly t)) →
+          Sized (elim d [ yes h ↦ got t r | no h ↦ sheet.refused 8 ])
       ask t r z (yes h) = z
       ask t r z (no h) = tt
 
-      go : (g : Got Sheet) → read s ≡ g → Sized (sheet._>>=_ g (λ t r. elim (orderly? t) [ yes h ↦ got t r | no h ↦ sheet.refused 8 ]))
+      go : (g : Got Sheet) → read s ≡ g →
+          Sized (sheet._>>=_ g (λ t r. elim (orderly? t) [ yes h ↦ got t r | no h ↦ sheet.refused 8 ]))
       go (sheet.refused k) e = tt
       go (got t r) e = let G = read-good s t r e in ask t r (G .triggers-few, G .panels-few) (orderly? t)
 
@@ -42,13 +45,14 @@ module _ (s : List ℕ) where
   unfolding planning
   count-few space = go (ordered s) sized
     where
-      either : (n : ℕ) (D : ℤ) (k l : ℕ) (L : List (Line n)) (b : Bool) → length L ≤ most → plan-answer (cond b (planned n D k l L) (full (length L))) .count ≤ most
+      either : (n : ℕ) (D : ℤ) (k l : ℕ) (L : List (Line n)) (b : Bool) → length L ≤ most →
+          plan-answer (cond b (planned n D k l L) (full (length L))) .count ≤ most
       either n D k l L true h = h
       either n D k l L false h = h
 
-      go : (g : Got Sheet) → Sized g → plan-answer (plan-of (length space / 7) g) .count ≤ most
+      go : (g : Got Sheet) → Sized g → plan-answer (plan-of (length space / line-size) g) .count ≤ most
       go (sheet.refused k) z = omega arith
-      go (got t r) (hn, hm) = either _ _ _ _ (lines (t .triggers) (cue-of t)) (leb (length (lines (t .triggers) (cue-of t))) (length space / 7))
+      go (got t r) (hn, hm) = either _ _ _ _ (lines (t .triggers) (cue-of t)) (leb (length (lines (t .triggers) (cue-of t))) (length space / line-size))
           (lines-few (t .triggers) (cue-of t) hn hm)
 
   pub panels-few : kept-answer (keeping s) .panels ≤ 6
@@ -57,4 +61,7 @@ module _ (s : List ℕ) where
     where
       go : (g : Got Sheet) → Sized g → kept-answer (kept-of g) .panels ≤ 6
       go (sheet.refused k) z = omega arith
-      go (got t r) (hn, hm) = rw (length-each {A = ℕ × ℕ} (t .panels) (λ i. (kept-byte (t .triggers) (cue-of t) (least (t .triggers) (cue-of t)) i, kept-count (t .triggers) (cue-of t) (least (t .triggers) (cue-of t)) i))) hm
+      go (got t r) (hn, hm) =
+          let n = t .triggers in
+          let P = cue-of t in
+          rw (length-each {A = ℕ × ℕ} (t .panels) (λ i. (kept-byte n P (least n P) i, kept-count n P (least n P) i))) hm

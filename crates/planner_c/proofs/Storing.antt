@@ -1,14 +1,15 @@
 -- Words stored one after the other make the answers.
 use mathlib.Core.Path.{_≡_, refl, ap, sym, _∙_}
 use mathlib.Core.List.{List, [], _∷_, _++_}
-use Prim.Native.Nat.{ℕ, zero, suc, _+_, _*_}
+use Prim.Native.Nat.{ℕ, zero, suc, _+_, _*_, _^_, _<_}
 use native.Mathlib.Omega.{arith}
 use native.Mathlib.Numerals.{add-one}
 use lib.IntN.{ℤ, pos}
 use lib.ListN.{length, length-append, getD, set}
 use lib.Seq.{sets}
+use lib.Signed.{mag}
 use mir.Syntax.{w64}
-use mir.Val.{SFits, toZ, ofZ}
+use mir.Val.{hbits, toZ, ofZ}
 use mir.Facts.{toZ-ofZ}
 use Rattle.maxplus.specs.Finite.{each}
 use borrow.Author.Tests.{eq-eqb, ne-eqb}
@@ -17,8 +18,8 @@ use Rattle.planning.specs.declared.CuePlan.{CuePlan}
 use Rattle.planner_c.specs.Words.{pairs, plan-words, kept-words, six-times}
 
 -- a word comes back as it was
-pub back : {z t : ℤ} → SFits w64 z → z ≡ t → toZ w64 (ofZ w64 z) ≡ t
-back h e = toZ-ofZ h ∙ e
+pub back : {z t : ℤ} → mag z < 2 ^ hbits w64 → z ≡ t → toZ w64 (ofZ w64 z) ≡ t
+back h e = toZ-ofZ (record { sfits = h }) ∙ e
 
 sets-append : (vs ws l : List ℤ) (i k : ℕ) → i + length vs ≡ k → sets l i (vs ++ ws) ≡ sets (sets l i vs) k ws
 sets-append [] ws l i k e = ap (λ k. sets l k ws) (let q : i ≡ k = omega arith in q)
@@ -49,7 +50,8 @@ module _ (r : CuePlan) (lent : List ℤ) where
   unfolding plan-words
   planned-words h eD ea ek eb el ec en ed = ed ∙ rw (ec, eb, ea, eD, ek, el, en, eq-eqb (r .refusal) 0 h) refl
 
-  pub full-words : {d : List ℤ} {n : ℤ} → ¬ (r .refusal ≡ 0) → r .refusal ≡ 9 → n ≡ pos (r .count) → d ≡ set lent 3 n → d ≡ plan-words r lent
+  pub full-words : {d : List ℤ} {n : ℤ} → ¬ (r .refusal ≡ 0) → r .refusal ≡ 9 → n ≡ pos (r .count) → d ≡ set lent 3 n →
+      d ≡ plan-words r lent
   unfolding plan-words
   full-words f h en ed = ed ∙ rw (en, ne-eqb (r .refusal) 0 f, eq-eqb (r .refusal) 9 h) refl
 

@@ -19,7 +19,8 @@ mod answers;
 pub extern "C" fn tuzhelar_plan(sheet: &[u8], space: &mut [i32], answer: &mut [i64]) -> u32
     ensures returned { λ r. ⌜ r ≡ plan-answer (planning (now (sheet .entry)) (now (space .entry))) .refusal ⌝ }
     ensures listed { λ r. ⌜ now (space .exit) ≡ space-after (planning (now (sheet .entry)) (now (space .entry))) (now (space .entry)) ⌝ }
-    ensures answered { λ r. ⌜ now (answer .exit) ≡ plan-words (plan-answer (planning (now (sheet .entry)) (now (space .entry)))) (now (answer .entry)) ⌝ }
+    ensures answered { λ r. ⌜ now (answer .exit) ≡
+        plan-words (plan-answer (planning (now (sheet .entry)) (now (space .entry)))) (now (answer .entry)) ⌝ }
 {
     let r = planning::plan(sheet, space);
     write_plan(answer, r);

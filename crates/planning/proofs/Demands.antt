@@ -18,14 +18,15 @@ use Rattle.sheet.proofs.Demands as sheets
 use Rattle.sheet.specs.Sheet.{got, Sheet, read}
 use Rattle.sheet.specs.Sheet as sheet
 use Rattle.sheet.specs.Cue.{cue-size, cue-of, sheet-lines, Orderly, orderly?}
-use Rattle.sheet.proofs.Good.{Good, read-good}
-use Rattle.planning.specs.Planning.{Outcome, planned, full, refused, plan-of, planning, space-after}
+use Rattle.sheet.specs.Good.{Good}
+use Rattle.sheet.proofs.Good.{read-good}
+use Rattle.planning.specs.Planning.{PlanOutcome, planned, full, refused, plan-of, planning, space-after}
 use Rattle.sheet.specs.Ordered.{ordered}
 use Rattle.sheet.proofs.OrderedLaws.{ordered-by}
 use Rattle.planning.specs.Demands.{Planned, deviation-of, count-of, written, Least, Demand-2, Demand-8, Demand-3}
 
 -- ---- a planning without refusal is the plan of the sheet's tables
-abbrev pub plan : Sheet → Outcome
+abbrev pub plan : Sheet → PlanOutcome
 plan t =
     let n = cue-size t in
     let P = cue-of t in
@@ -102,7 +103,8 @@ refused-8 s t r space e = go (orderly? t) (ordered-by s t r e)
 
 -- ---- demand 3
 pub demand-3 : Demand-3
-demand-3 s₁ s₂ t₁ t₂ r₁ r₂ space₁ space₂ e₁ e₂ same h₁ h₂ = go (known s₁ t₁ r₁ e₁ space₁ h₁) (known s₂ t₂ r₂ e₂ space₂ h₂)
+demand-3 s₁ s₂ t₁ t₂ r₁ r₂ space₁ space₂ e₁ e₂ same h₁ h₂ =
+    go (known s₁ t₁ r₁ e₁ space₁ h₁) (known s₂ t₂ r₂ e₂ space₂ h₂)
   where
     go : Known s₁ t₁ r₁ e₁ space₁ → Known s₂ t₂ r₂ e₂ space₂ →
         ((count-of (planning s₁ space₁) ≡ count-of (planning s₂ space₂)) ×

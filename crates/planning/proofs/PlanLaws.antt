@@ -20,9 +20,10 @@ use Rattle.lines.specs.declared.Listed.{Listed}
 use Rattle.lines.specs.declared.Listed.the-variants.{Lines, NoRoom}
 use Rattle.sheet.specs.Ordered.{ordered}
 use Rattle.sheet.proofs.OrderedLaws.{ordered-refused, ordered-8, ordered-got}
-use Rattle.planning.specs.Planning.{Outcome, planned, full, refused, plan-of, planning, space-after, plan-answer}
+use Rattle.planning.specs.Planning.{PlanOutcome, planned, full, refused, plan-of, planning, space-after, plan-answer}
 use Rattle.planning.specs.Inner.{Does}
 use Rattle.planning.specs.declared.CuePlan.{CuePlan}
+use Rattle.cue.specs.Written.{line-size}
 
 -- ---- what became of the list
 module _ (n : ℕ) (P : Cue) (before after : List ℤ) where
@@ -30,12 +31,12 @@ module _ (n : ℕ) (P : Cue) (before after : List ℤ) where
   count = length (lines n P)
 
   abbrev room : ℕ
-  room = length before / 7
+  room = length before / line-size
 
-  abbrev whole : Outcome
+  abbrev whole : PlanOutcome
   whole = planned n (least n P) (steps n P (least n P)) (length (selections n P (least n P))) (lines n P)
 
-  abbrev plan-at : Outcome
+  abbrev plan-at : PlanOutcome
   plan-at = cond (leb count room) whole (full count)
 
   -- the same for another name of n
@@ -65,9 +66,9 @@ module _ (n : ℕ) (P : Cue) (before after : List ℤ) where
 
 -- ---- the outcomes
 module _ (s : List ℕ) (space : List ℤ) where
-  planning-of : {g : Got Sheet} → ordered s ≡ g → plan-of (length space / 7) g ≡ planning s space
+  planning-of : {g : Got Sheet} → ordered s ≡ g → plan-of (length space / line-size) g ≡ planning s space
   unfolding planning
-  planning-of e = sym (ap (plan-of (length space / 7)) e)
+  planning-of e = sym (ap (plan-of (length space / line-size)) e)
 
   pub planning-refused : (k : ℕ) → read s ≡ spec.refused k → planning s space ≡ refused k
   planning-refused k e = sym (planning-of (ordered-refused s k e))
@@ -76,11 +77,11 @@ module _ (s : List ℕ) (space : List ℤ) where
     pub planning-8 : ¬ (Orderly t) → planning s space ≡ refused 8
     planning-8 f = sym (planning-of (ordered-8 s t r e f))
 
-    pub planning-listed : Orderly t → plan-of (length space / 7) (got t []) ≡ planning s space
+    pub planning-listed : Orderly t → plan-of (length space / line-size) (got t []) ≡ planning s space
     planning-listed np = planning-of (ordered-got s t r e np)
 
   -- ---- what a planning does
-  does-same : {o : Outcome} {after : List ℤ} {r : CuePlan} → o ≡ planning s space → Does o space after r → Does (planning s space) space after r
+  does-same : {o : PlanOutcome} {after : List ℤ} {r : CuePlan} → o ≡ planning s space → Does o space after r → Does (planning s space) space after r
   does-same {o} {after} {r} e d = subst (λ o. Does o space after r) e d
 
   pub does-refused : (k : ℕ) {r : CuePlan} → ordered s ≡ spec.refused k → r ≡ plan-answer (refused k) → Does (planning s space) space space r
@@ -96,6 +97,7 @@ module _ (s : List ℕ) (space : List ℤ) where
     does-lines D C d c a =
         does-same (planning-of q) (lines-at (t .triggers) (cue-of t) space after m k D C same d c (moved (t .triggers) (cue-of t) space after (Lines k) same a))
 
-    pub does-full : {r : CuePlan} → r ≡ plan-answer (full k) → Answers m (lines m (cue-of t)) space after (NoRoom k) → Does (planning s space) space after r
+    pub does-full : {r : CuePlan} → r ≡ plan-answer (full k) → Answers m (lines m (cue-of t)) space after (NoRoom k) →
+        Does (planning s space) space after r
     does-full e a = does-same (planning-of q) (subst (Does _ space after) (sym e)
         (full-at (t .triggers) (cue-of t) space after k (moved (t .triggers) (cue-of t) space after (NoRoom k) same a)))

@@ -11,31 +11,31 @@ use Rattle.maxplus.specs.Combination.{Weighed}
 use Rattle.cue.specs.Written.{line-size, list-words}
 use Rattle.sheet.specs.Sheet.{got, Sheet, read}
 use Rattle.sheet.specs.Meaning.{Timing, Keeps, deviation, Tightest}
-use Rattle.planning.specs.Planning.{Outcome, planned, full, refused, planning, space-after}
+use Rattle.planning.specs.Planning.{PlanOutcome, planned, full, refused, planning, space-after}
 
 -- planned without refusal; the deviation and the number of lines that are returned
-abbrev pub Planned : Outcome → Type 0
+abbrev pub Planned : PlanOutcome → Type 0
 Planned (planned n D k l L) = Unit {0}
 Planned (full k) = ⊥
 Planned (refused k) = ⊥
 
-abbrev pub deviation-of : Outcome → ℤ
+abbrev pub deviation-of : PlanOutcome → ℤ
 deviation-of (planned n D k l L) = D
 deviation-of (full k) = pos 0
 deviation-of (refused k) = pos 0
 
-abbrev pub count-of : Outcome → ℕ
+abbrev pub count-of : PlanOutcome → ℕ
 count-of (planned n D k l L) = length L
 count-of (full k) = k
 count-of (refused k) = 0
 
 -- the words of the list at the front of the space
-abbrev pub written : Outcome → List ℤ → List ℤ
+abbrev pub written : PlanOutcome → List ℤ → List ℤ
 written o space = take (line-size * count-of o) (space-after o space)
 
 -- ---- demand 2: whatever the space held, a planning without refusal gives the least deviation of the times that keep the order, and
 -- writes lines L from which, with whole-number weights, one for each line, exactly the times that keep the order and reach it are made
-pub record Least (t : Sheet) (space : List ℤ) (o : Outcome) : Type 0 where
+pub record Least (t : Sheet) (space : List ℤ) (o : PlanOutcome) : Type 0 where
   pub list : List (Line (t .triggers))
   pub counted : count-of o ≡ length list
   pub front : written o space ≡ list-words (t .triggers) list
@@ -58,8 +58,8 @@ Demand-8 = (s : List ℕ) (t : Sheet) (r : List ℕ) (space : List ℤ) → read
 -- ---- demand 3: for two sheets with equal numbers of triggers, each planned without refusal, whatever the spaces held and however large
 -- each was: the counts and the words at the front are the same exactly when every timing is tightest on both or on neither
 abbrev pub Demand-3 : Type 0
-Demand-3 = (s₁ s₂ : List ℕ) (t₁ t₂ : Sheet) (r₁ r₂ : List ℕ) (space₁ space₂ : List ℤ) → read s₁ ≡ got t₁ r₁ → read s₂ ≡ got t₂ r₂ →
-    t₁ .triggers ≡ t₂ .triggers → Planned (planning s₁ space₁) → Planned (planning s₂ space₂) →
+Demand-3 = (s₁ s₂ : List ℕ) (t₁ t₂ : Sheet) (r₁ r₂ : List ℕ) (space₁ space₂ : List ℤ) → read s₁ ≡ got t₁ r₁ →
+    read s₂ ≡ got t₂ r₂ → t₁ .triggers ≡ t₂ .triggers → Planned (planning s₁ space₁) → Planned (planning s₂ space₂) →
     ((count-of (planning s₁ space₁) ≡ count-of (planning s₂ space₂)) ×
     (written (planning s₁ space₁) space₁ ≡ written (planning s₂ space₂) space₂)) ↔
     ((X : Timing) → Tightest t₁ X ↔ Tightest t₂ X)

@@ -15,13 +15,13 @@ use Rattle.planning.specs.declared.CuePlan.{CuePlan}
 use Rattle.sheet.specs.Sheet as sheet
 
 -- "A success returns Δ, steps, selections and count"
-pub data Outcome : Type 0 where
-  planned : (triggers : ℕ) (deviation : ℤ) (steps selections : ℕ) → List (Line triggers) → Outcome
-  full : (count : ℕ) → Outcome
-  refused : ℕ → Outcome
+pub data PlanOutcome : Type 0 where
+  planned : (triggers : ℕ) (deviation : ℤ) (steps selections : ℕ) → List (Line triggers) → PlanOutcome
+  full : (count : ℕ) → PlanOutcome
+  refused : ℕ → PlanOutcome
 
 -- "Reading's, 8, then 9: the list has more lines than the lent space holds; it also returns the count needed"
-abbrev pub plan-of : ℕ → Got Sheet → Outcome
+abbrev pub plan-of : ℕ → Got Sheet → PlanOutcome
 plan-of room (sheet.refused k) = refused k
 plan-of room (got t r) =
     let n = cue-size t in
@@ -30,17 +30,17 @@ plan-of room (got t r) =
     let L = sheet-lines t in
     cond (leb (length L) room) (planned (t .triggers) D (steps n P D) (length (selections n P D)) L) (full (length L))
 
-unfoldable pub planning : List ℕ → List ℤ → Outcome
+unfoldable pub planning : List ℕ → List ℤ → PlanOutcome
 planning s space = plan-of (length space / line-size) (ordered s)
 
 -- "writes exactly the list at the front of the space and leaves the rest"; "A refusal … changes no lent byte or word."
-unfoldable pub space-after : Outcome → List ℤ → List ℤ
+unfoldable pub space-after : PlanOutcome → List ℤ → List ℤ
 space-after (planned n D k l L) space = list-words n L ++ drop (line-size * length L) space
 space-after (full k) space = space
 space-after (refused k) space = space
 
 -- the answer in a program: the outcome's numbers and the sheet's number of triggers, and 0 wherever a refusal leaves nothing
-abbrev pub plan-answer : Outcome → CuePlan
+abbrev pub plan-answer : PlanOutcome → CuePlan
 plan-answer (planned n D k l L) = record { refusal = 0; triggers = n; deviation = D; steps = k; selections = l; count = length L }
 plan-answer (full k) = record { refusal = 9; triggers = 0; deviation = pos 0; steps = 0; selections = 0; count = k }
 plan-answer (refused k) = record { refusal = k; triggers = 0; deviation = pos 0; steps = 0; selections = 0; count = 0 }

@@ -2,10 +2,10 @@
 use mathlib.Core.List.{List}
 use Prim.Native.Nat.{ℕ}
 use Rattle.writing.specs.Texts.{plan-text, full-text, refusal-text}
-use Rattle.planning.specs.Planning.{Outcome, planned, full, refused, plan-of}
+use Rattle.planning.specs.Planning.{PlanOutcome, planned, full, refused, plan-of}
 use Rattle.sheet.specs.Ordered.{ordered}
 
-unfoldable pub text : Outcome → List ℕ
+unfoldable pub text : PlanOutcome → List ℕ
 text (planned n D k l L) = plan-text n D k l L
 text (full k) = full-text k
 text (refused k) = refusal-text k

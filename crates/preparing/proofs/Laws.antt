@@ -20,11 +20,13 @@ use Rattle.cue.specs.Cue.{Cue}
 use Rattle.cue.specs.Method.{through, pull, least, ask, kept, kept-byte, floor-panels, serves-as-well}
 use Rattle.words.specs.Words.{entry, far, Close, Near}
 use Rattle.sheet.specs.Sheet.{limit}
+use Rattle.sheet.specs.Sizes.{star-size, through-size, mark-down, least-up}
 use Rattle.tables.specs.Held.{meant, meantV, HoldsV, Closely, CloselyV}
 use Rattle.thresholds.specs.Steps.{pull-of, least-of, kept-of, KeptBytes, floored}
-use Rattle.preparing.proofs.Results.{floors-close, dues-close, star-close, through-close, pulls-held, pulls-close, least-held, least-close, kept-held, floored-is, level-floored, kept-bit, kept-small}
+use Rattle.preparing.proofs.Results.{floors-close, dues-close, star-close, through-close, pulls-held, pulls-close}
+use Rattle.preparing.proofs.Results.{least-held, least-close, kept-held, floored-is, level-floored, kept-bit, kept-small}
 use Rattle.words.proofs.Laws.{word-order, close-more, close-minus, entry-zero}
-use Rattle.masks.specs.Trace.{bit}
+use Rattle.trigger_sets.specs.Sets.{bit}
 use Rattle.walk.specs.Follows.{Follows}
 use Rattle.preparing.specs.Levels.{PackedAs, LevelsNear, Compared}
 use Rattle.preparing.specs.declared.Cue as words
@@ -56,26 +58,26 @@ module _ {P : Cue} {c : words.Cue} {orders lags stars throughs : List (List ℕ)
   floors-near = rw (F .held .panels-are) (floors-close (F .held))
 
   -- ---- the pulls
-  pub pulls-ask : (c .triggers ≤ 6) × Closely (c .triggers) (c .triggers) (5 * limit) stars × CloselyV (c .triggers) limit (c .due)
+  pub pulls-ask : (c .triggers ≤ 6) × Closely (c .triggers) (c .triggers) star-size stars × CloselyV (c .triggers) limit (c .due)
   pulls-ask = (F .held .few, star-close (F .held) (F .starred), dues-close (F .held))
 
   module _ {u : List ℕ} (hu : HoldsV (c .triggers) (pull-of (c .triggers) (meant stars) (meantV (c .due))) u) where
     pulled : HoldsV n (λ j. num (pull n P j)) u
     pulled = pulls-held (F .held) (F .starred) hu
 
-    pub pulls-near : CloselyV (c .triggers) (6 * limit) u
+    pub pulls-near : CloselyV (c .triggers) mark-down u
     pulls-near = pulls-close (F .held) pulled
 
     -- ---- Δ
-    pub least-ask : (c .panels ≤ 6) × (c .triggers ≤ 6) × Closely (c .panels) (c .triggers) (6 * limit) throughs ×
-        CloselyV (c .triggers) (6 * limit) u × CloselyV (c .panels) limit (c .floor)
+    pub least-ask : (c .panels ≤ 6) × (c .triggers ≤ 6) × Closely (c .panels) (c .triggers) through-size throughs ×
+        CloselyV (c .triggers) mark-down u × CloselyV (c .panels) limit (c .floor)
     least-ask = (six-panels, F .held .few, rw (F .held .panels-are) (through-close (F .held) (F .reached)), pulls-near, floors-near)
 
     module _ (e : ℕ) (he : entry e ≡ least-of (c .panels) (c .triggers) (meant throughs) (meantV u) (meantV (c .floor))) where
       pub deviation-is : entry e ≡ num (least (c .triggers) P)
       deviation-is = least-held (F .held) (F .reached) pulled (F .order) e (rw (F .held .panels-are) at he)
 
-      pub least-near : Close (8 * limit) e
+      pub least-near : Close least-up e
       least-near = least-close (F .held) (F .reached) pulled (F .order) e deviation-is
 
       pub asks-ask : (c .panels ≤ 6) × CloselyV (c .panels) far (c .floor) × Near e
@@ -134,7 +136,8 @@ module _ {P : Cue} {c : words.Cue} {orders lags stars throughs : List (List ℕ)
           asks-near : CloselyV (P .panels) far a
           unfolding meantV
           asks-near = record {
-            at = λ i h. close-more (omega arith) (close-minus (getD (c .floor) i 0) e _ (ha .at i (rw (F .held .panels-are) h)) (floors-close (F .held) .at i h) least-near);
+            at = λ i h. close-more (omega arith)
+                (close-minus (getD (c .floor) i 0) e _ (ha .at i (rw (F .held .panels-are) h)) (floors-close (F .held) .at i h) least-near);
           }
 
           pub levels-near : LevelsNear (k .panels) (c .triggers) throughs (c .floor) a (k .at)

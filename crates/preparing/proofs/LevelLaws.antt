@@ -75,12 +75,12 @@ module _ (kept : List ℕ) (p : Vec) where
   })
 
 -- a level's rows, by the panel's number as it was read
-pub gained-at : (t : List (List ℕ)) (w : List ℕ) {i k n : ℕ} {r : List ℕ} → i ≡ k → HoldsV n (λ j. meantV (getD t i []) j ⊗ inv (entry (getD w i 0))) r →
-    HoldsV n (λ j. meant t k j ⊗ inv (meantV w k)) r
+pub gained-at : (t : List (List ℕ)) (w : List ℕ) {i k n : ℕ} {r : List ℕ} → i ≡ k →
+    HoldsV n (λ j. meantV (getD t i []) j ⊗ inv (entry (getD w i 0))) r → HoldsV n (λ j. meant t k j ⊗ inv (meantV w k)) r
 unfolding meant meantV
 gained-at t w e h = rw (← e) h
 
-pub needed-at : (t : List (List ℕ)) (w : List ℕ) {i k n : ℕ} {r : List ℕ} → i ≡ k → HoldsV n (λ j. entry (getD w i 0) ⊗ inv (meantV (getD t i []) j)) r →
-    HoldsV n (λ j. meantV w k ⊗ inv (meant t k j)) r
+pub needed-at : (t : List (List ℕ)) (w : List ℕ) {i k n : ℕ} {r : List ℕ} → i ≡ k →
+    HoldsV n (λ j. entry (getD w i 0) ⊗ inv (meantV (getD t i []) j)) r → HoldsV n (λ j. meantV w k ⊗ inv (meant t k j)) r
 unfolding meant meantV
 needed-at t w e h = rw (← e) h

@@ -10,12 +10,14 @@ use Rattle.cue.specs.Cue as theory
 use Rattle.words.specs.Words.{far}
 use Rattle.sheet.specs.Sheet.{Got, got, refused, limit, read}
 use Rattle.sheet.specs.Sheet as spec
+use Rattle.sheet.specs.Sizes.{order-limit}
 use Rattle.sheet.specs.Cue.{cue-size, cue-of, Orderly}
 use Rattle.sheet.specs.Ordered.{ordered}
-use Rattle.sheet.proofs.Good.{Good, read-good}
+use Rattle.sheet.specs.Good.{Good}
+use Rattle.sheet.proofs.Good.{read-good}
 use Rattle.sheet.proofs.OrderedLaws.{ordered-refused, ordered-8, ordered-got}
 use Rattle.reading.specs.Reading.{answer}
-use Rattle.reading.specs.declared.Sheet.{Sheet}
+use Rattle.reading.specs.declared.SheetWords.{SheetWords}
 use Rattle.reading.specs.declared.Reading.{Reading}
 use Rattle.reading.proofs.Refusals.{refusal-numbered}
 use Rattle.rows.specs.declared.Row.{Row}
@@ -49,14 +51,15 @@ module _ (s : List ℕ) (R : Reading) (e : R ≡ answer (read s)) where
 abbrev Rows : List Row → List (List ℕ) → Type 0
 Rows rows table = (i : ℕ) → i < 6 → getD table i [] ≡ getD rows i (record { at = [] }) .at
 
-module _ {s : spec.Sheet} {t : Sheet} (W : Worded s t) where
+module _ {s : spec.Sheet} {t : SheetWords} (W : Worded s t) where
   pub triggers-of : t .triggers ≡ s .triggers
   triggers-of = rw (W .words)
 
   pub cue-words : (orders lags : List (List ℕ)) → Rows (t .after) orders → Rows (t .lag) lags →
       CueWords (cue-of s) orders lags (record { triggers = t .triggers; panels = t .panels; floor = t .floor; due = t .due })
   cue-words orders lags = subst (λ t. Rows (t .after) orders → Rows (t .lag) lags →
-      CueWords (cue-of s) orders lags (record { triggers = t .triggers; panels = t .panels; floor = t .floor; due = t .due })) (sym (W .words)) (by-good (W .good))
+      CueWords (cue-of s) orders lags (record { triggers = t .triggers; panels = t .panels; floor = t .floor; due = t .due })) (sym (W .words))
+      (by-good (W .good))
     where
       by-good : Good s → let t = answer (got s []) .sheet in Rows (t .after) orders → Rows (t .lag) lags →
           CueWords (cue-of s) orders lags (record { triggers = t .triggers; panels = t .panels; floor = t .floor; due = t .due })
@@ -70,12 +73,12 @@ module _ {s : spec.Sheet} {t : Sheet} (W : Worded s t) where
         lags-are = grid-held (s .lag) lags (G .panels-few) (G .triggers-few) (G .limited .lags) hl;
         floors-are = strip-held (s .floor) (G .panels-few) (G .limited .floors);
         dues-are = dues-held s G;
-        orders-are = grid-held (s .after) orders (G .triggers-few) (G .triggers-few) (G .limited .afters) ha;
+        orders-are = grid-held (s .after) orders (G .triggers-few) (G .triggers-few) (G .limited .orders) ha;
       }
 
 -- ---- the order check, M* and d
 module _ {P : theory.Cue} {orders lags : List (List ℕ)} {c : Cue} (H : CueWords P orders lags c) where
-  pub closed-asks : (c .triggers ≤ 6) × Closely (c .triggers) (c .triggers) limit orders
+  pub closed-asks : (c .triggers ≤ 6) × Closely (c .triggers) (c .triggers) order-limit orders
   closed-asks = (H .few, orders-close H)
 
   pub untabled : {stars throughs : List (List ℕ)} → ¬ (NoGain (c .triggers) (meant orders)) → Tabled P c orders lags stars throughs false

@@ -21,6 +21,7 @@ use Rattle.maxplus.proofs.SupLaws.{sup-ext}
 use Rattle.words.specs.Words.{word, entry, Close}
 use Rattle.words.proofs.Laws.{entry-word}
 use Rattle.sheet.specs.Sheet.{limit, Sheet}
+use Rattle.sheet.specs.Sizes.{order-limit, star-size, through-size, mark-down, least-up}
 use Rattle.rows.specs.Grid.{strip, grid}
 use Rattle.rows.proofs.PlaceLaws.{strip-at, grid-at}
 use Rattle.cue.specs.Cue.{Cue, timing, overdue, shortfall, Readable}
@@ -28,12 +29,13 @@ use Rattle.cue.specs.Method.{through, pullE, pull, mark, leastE, least, floor-p
 use Rattle.cue.proofs.Deviation.{pull-is, mv-through, mark-keeps, mark-shortfall}
 use Rattle.cue.proofs.Bounds.{Within, star-within, through-within, pull-within, least-within}
 use Rattle.tables.specs.Held.{meant, meantV, Holds, HoldsV, Closely, CloselyV, Says}
-use Rattle.thresholds.specs.Steps.{pull-of, landing-of, least-of, reaches, kept-of, byte-of, bit, KeptBytes, floored}
+use Rattle.trigger_sets.specs.Sets.{bit, byte-of}
+use Rattle.trigger_sets.proofs.ByteLaws.{byte-ext, byte-small, byte-ones, byte-bit}
+use Rattle.thresholds.specs.Steps.{pull-of, landing-of, least-of, reaches, kept-of, KeptBytes, floored}
 use Rattle.sheet.specs.Cue.{cue-of}
 use Rattle.tables.proofs.SquareLaws.{close-within, closely-within, closely-withinV}
 use Rattle.order.proofs.OrderLaws.{mm-held}
-use Rattle.thresholds.proofs.ByteLaws.{byte-ext, byte-small, byte-ones, byte-bit}
-use Rattle.sheet.proofs.Good.{Good}
+use Rattle.sheet.specs.Good.{Good}
 use Rattle.preparing.specs.declared.Cue as words
 use Rattle.preparing.specs.Prepared.{CueWords}
 
@@ -66,7 +68,8 @@ dues-held t G = record { at = λ j h. held .at j h ∙ there j h }
     held = strip-held _ (G .triggers-few) (λ j h. subst (Within limit limit) (sym (there j h)) (G .limited .dues j h))
 
 -- ---- tables that agree
-power-ext : (n : ℕ) (A B : Mat) → ((i j : ℕ) → i < n → j < n → A i j ≡ B i j) → (k i j : ℕ) → i < n → j < n → power n A k i j ≡ power n B k i j
+power-ext : (n : ℕ) (A B : Mat) → ((i j : ℕ) → i < n → j < n → A i j ≡ B i j) → (k i j : ℕ) → i < n → j < n →
+    power n A k i j ≡ power n B k i j
 unfolding power mm
 power-ext n A B h zero i j hi hj = refl
 power-ext n A B h (suc k) i j hi hj = sup-ext n (λ l hl. ap₂ _⊗_ (h i l hi hl) (power-ext n A B h k l j hl hj))
@@ -94,8 +97,8 @@ module _ {P : Cue} {orders lags : List (List ℕ)} {c : words.Cue} (H : CueWords
   pub lags-close : Closely (P .panels) n limit lags
   lags-close = closely-within (le-refl _) (le-refl _) (H .lags-are) (H .limited .lags)
 
-  pub orders-close : Closely n n limit orders
-  orders-close = closely-within (le-refl _) (le-refl _) (H .orders-are) (H .limited .afters)
+  pub orders-close : Closely n n order-limit orders
+  orders-close = closely-within (le-refl _) (le-refl _) (H .orders-are) (H .limited .orders)
 
   pub floors-close : CloselyV (P .panels) limit (c .floor)
   floors-close = closely-withinV (le-refl _) (le-refl _) (H .floors-are) (H .limited .floors)
@@ -116,8 +119,8 @@ module _ {P : Cue} {orders lags : List (List ℕ)} {c : words.Cue} (H : CueWords
   unfolding star
   star-held h = record { at = λ i j hi hj. h .at i j hi hj ∙ sup-ext n (λ k hk. same-power k i j hi hj) }
 
-  pub star-close : {s : List (List ℕ)} → Holds n n (star n (P .order)) s → Closely n n (5 * limit) s
-  star-close h = closely-within (le-refl _) (le-refl _) h (star-within n 5 limit P (H .limited) (H .few))
+  pub star-close : {s : List (List ℕ)} → Holds n n (star n (P .order)) s → Closely n n star-size s
+  star-close h = closely-within (le-refl _) (le-refl _) h (star-within n 5 limit order-limit P (H .limited) (H .few))
 
   -- ---- step 2
   pub through-held : {s d : List (List ℕ)} → Holds n n (star n (P .order)) s → Holds (P .panels) n (mm n (meant lags) (meant s)) d →
@@ -125,8 +128,8 @@ module _ {P : Cue} {orders lags : List (List ℕ)} {c : words.Cue} (H : CueWords
   unfolding through
   through-held hs hd = mm-held (H .lags-are) hs hd
 
-  pub through-close : {d : List (List ℕ)} → Holds (P .panels) n (through n P) d → Closely (P .panels) n (6 * limit) d
-  through-close h = closely-within (omega arith) (omega arith) h (through-within n 5 limit P (H .limited) (H .few))
+  pub through-close : {d : List (List ℕ)} → Holds (P .panels) n (through n P) d → Closely (P .panels) n through-size d
+  through-close h = closely-within (omega arith) (omega arith) h (through-within n 5 limit order-limit P (H .limited) (H .few))
 
   pub pulls-held : {s : List (List ℕ)} {u : List ℕ} → Holds n n (star n (P .order)) s → HoldsV n (pull-of n (meant s) (meantV (c .due))) u →
       HoldsV n (λ j. num (pull n P j)) u
@@ -135,8 +138,8 @@ module _ {P : Cue} {orders lags : List (List ℕ)} {c : words.Cue} (H : CueWords
     at = λ j hj. hu .at j hj ∙ sup-ext n (λ i hi. ap₂ _⊗_ (hs .at i j hi hj) (ap inv (H .dues-are .at i hi))) ∙ pull-is n P j hj;
   }
 
-  pub pulls-close : {u : List ℕ} → HoldsV n (λ j. num (pull n P j)) u → CloselyV n (6 * limit) u
-  pulls-close h = closely-withinV (omega arith) (omega arith) h (pull-within n 5 limit P (H .limited) (H .few))
+  pub pulls-close : {u : List ℕ} → HoldsV n (λ j. num (pull n P j)) u → CloselyV n mark-down u
+  pulls-close h = closely-withinV (omega arith) (omega arith) h (pull-within n 5 limit order-limit P (H .limited) (H .few))
 
   -- ---- step 5: "panels with a floor in sheet order"
   pub floored-is : floored (P .panels) (meantV (c .floor)) ≡ floor-panels n P
@@ -167,10 +170,11 @@ module _ {P : Cue} {orders lags : List (List ℕ)} {c : words.Cue} (H : CueWords
 
       pub least-held : (e : ℕ) → entry e ≡ least-of (P .panels) n (meant d) (meantV u) (meantV (c .floor)) → entry e ≡ num (least n P)
       unfolding least-of leastE shortfall
-      least-held e h = h ∙ sup-ext (P .panels) (λ i hi. ap₂ (λ p l. p ⊗ inv l) (H .floors-are .at i hi) (landing-is i hi)) ∙ unfold leastE shortfall in least-is
+      least-held e h = h ∙ sup-ext (P .panels) (λ i hi. ap₂ (λ p l. p ⊗ inv l) (H .floors-are .at i hi) (landing-is i hi)) ∙
+          unfold leastE shortfall in least-is
 
-      pub least-close : (e : ℕ) → entry e ≡ num (least n P) → Close (8 * limit) e
-      least-close e h = close-within (8 * limit) e h (omega arith) (omega arith) (least-within n 5 limit P (H .limited) (H .few) np)
+      pub least-close : (e : ℕ) → entry e ≡ num (least n P) → Close least-up e
+      least-close e h = close-within least-up e h (omega arith) (omega arith) (least-within n 5 limit order-limit P (H .limited) (H .few) np)
 
     -- ---- step 4, for any deviation D
     module _ (D : ℤ) (e : ℕ) (he : entry e ≡ num D) (r : List ℕ)

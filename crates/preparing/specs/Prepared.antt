@@ -13,10 +13,11 @@ use Rattle.cue.proofs.Bounds.{Limited}
 use Rattle.words.specs.Words.{entry, Near}
 use Rattle.sheet.specs.Sheet.{Got, got, refused, limit}
 use Rattle.sheet.specs.Sheet as spec
+use Rattle.sheet.specs.Sizes.{order-limit}
 use Rattle.sheet.specs.Cue.{cue-size, cue-of}
-use Rattle.sheet.proofs.Good.{Good}
+use Rattle.sheet.specs.Good.{Good}
 use Rattle.reading.specs.Reading.{answer}
-use Rattle.reading.specs.declared.Sheet.{Sheet}
+use Rattle.reading.specs.declared.SheetWords.{SheetWords}
 use Rattle.tables.specs.Held.{Holds, HoldsV, Says}
 use Rattle.walk.specs.Follows.{Follows}
 use Rattle.candidates.specs.Prepared as drawing
@@ -25,7 +26,7 @@ use Rattle.preparing.specs.declared.Marked.{Marked}
 use Rattle.preparing.specs.declared.Prepared.{Prepared}
 
 -- the words of a good sheet s
-pub record Worded (s : spec.Sheet) (t : Sheet) : Type 0 where
+pub record Worded (s : spec.Sheet) (t : SheetWords) : Type 0 where
   pub words : t ≡ answer (got s []) .sheet
   pub good : Good s
 
@@ -36,7 +37,7 @@ pub record CueWords (P : theory.Cue) (orders lags : List (List ℕ)) (c : Cue) :
   pub few-panels : P .panels ≤ 6
   pub panels-are : c .panels ≡ P .panels
   pub readable : Readable (c .triggers) P
-  pub limited : Limited (c .triggers) limit P
+  pub limited : Limited (c .triggers) limit order-limit P
   pub lags-are : Holds (P .panels) (c .triggers) (P .lag) lags
   pub floors-are : HoldsV (P .panels) (P .floor) (c .floor)
   pub dues-are : HoldsV (c .triggers) (timing (P .due)) (c .due)

@@ -12,7 +12,7 @@ ghost use Rattle.cue.specs.Cue as theory;
 ghost use Rattle.preparing.specs.Prepared.{Worded, CueWords, Tabled, Ready};
 use candidates::Marks;
 use reading::Reading;
-use reading::Sheet;
+use reading::SheetWords;
 
 mod levels;
 mod marks;
@@ -47,7 +47,7 @@ pub struct Prepared {
 }
 
 // The one place where the words of a sheet become those of its cue: the lent tables are its order and its lags.
-pub fn cue_of(t: Sheet, order: &mut [[u64; 6]; 6], lag: &mut [[u64; 6]; 6]) -> Cue
+pub fn cue_of(t: SheetWords, order: &mut [[u64; 6]; 6], lag: &mut [[u64; 6]; 6]) -> Cue
     ensures sized { λ r. ⌜ ((s : spec.Sheet) → Worded s t → r .triggers ≡ cue-size s) ⌝ }
     ensures held { λ r. ⌜ ((s : spec.Sheet) → Worded s t → CueWords (cue-of s) (now (order .exit)) (now (lag .exit)) r) ⌝ }
 {

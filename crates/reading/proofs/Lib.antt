@@ -1,3 +1,5 @@
 -- Laws of reading a sheet.
-pub mod SheetLaws
+pub mod SectionsRead
+pub mod EmptyLaws
+pub mod WordsLaws
 pub mod Refusals

@@ -11,8 +11,8 @@ use Rattle.maxplus.specs.Whole.{neg}
 use Rattle.maxplus.specs.Entry.{E, absent, num}
 use Rattle.sheet.specs.Sheet.{Got, got, refused, _>>=_, literal, leading, value, behind, signed, item}
 use Rattle.sheet.specs.Sheet.{ending, ended, items, Rule, size, entry, mark, out-of-range, no-size, absent?, any, all, checked}
-use Rattle.sheet.specs.Sheet.{line, rows, Sheet, count, finished, tables, lines, read}
-use Rattle.sheet.specs.Text.{bytes}
+use Rattle.sheet.specs.Sheet.{line, rows, Section, section, sections, sizes, tables, part, count, panels-line, triggers-line, lag-lines, floor-line}
+use Rattle.sheet.specs.Sheet.{sheet-of, finished, lines, read}
 
 abbrev Numbered : {A : Type 0} → Got A → Type 0
 Numbered (got a s) = Unit {0}
@@ -23,7 +23,8 @@ module _ {A : Type 0} where
   if-numbered true g h p q = p
   if-numbered false g h p q = q
 
-  then-numbered : {B : Type 0} (g : Got A) (f : A → List ℕ → Got B) → Numbered g → ((a : A) (s : List ℕ) → Numbered (f a s)) → Numbered (g >>= f)
+  then-numbered : {B : Type 0} (g : Got A) (f : A → List ℕ → Got B) → Numbered g → ((a : A) (s : List ℕ) → Numbered (f a s)) →
+      Numbered (g >>= f)
   then-numbered (got a s) f p q = q a s
   then-numbered (refused k) f p q = p
 
@@ -60,11 +61,11 @@ items-numbered (suc k) s =
 
 checked-numbered : (r : Rule) (es : List E) (s : List ℕ) → Numbered (checked r es s)
 unfolding checked
-checked-numbered size es s =
-    if-numbered (any absent? es) (refused 2) _ (omega arith, omega arith) (if-numbered (any no-size es) (refused 3) (got es s) (omega arith, omega arith) tt)
+checked-numbered size es s = if-numbered (any absent? es) (refused 2) _ (omega arith, omega arith)
+    (if-numbered (any no-size es) (refused 3) (got es s) (omega arith, omega arith) tt)
 checked-numbered entry es s = if-numbered (any out-of-range es) (refused 4) (got es s) (omega arith, omega arith) tt
-checked-numbered mark es s =
-    if-numbered (any out-of-range es) (refused 4) _ (omega arith, omega arith) (if-numbered (any absent? es) (refused 5) (got es s) (omega arith, omega arith) tt)
+checked-numbered mark es s = if-numbered (any out-of-range es) (refused 4) _ (omega arith, omega arith)
+    (if-numbered (any absent? es) (refused 5) (got es s) (omega arith, omega arith) tt)
 
 line-numbered : (key : List ℕ) (r : Rule) (k : ℕ) (s : List ℕ) → Numbered (line key r k s)
 unfolding line
@@ -77,25 +78,22 @@ rows-numbered key r zero k s = tt
 rows-numbered key r (suc i) k s = then-numbered (line key r k s) _ (line-numbered key r k s)
     (λ es s. then-numbered (rows key r i k s) _ (rows-numbered key r i k s) (λ t s. tt))
 
-finished-numbered : (lag : List (List E)) (floor : List E) (t : Sheet) (s : List ℕ) → Numbered (finished lag floor t s)
-finished-numbered lag floor t (b ∷ s) = (omega arith, omega arith)
-finished-numbered lag floor t [] = if-numbered (any (all absent?) lag) (refused 6) _ (omega arith, omega arith)
-    (if-numbered (all absent? floor) (refused 7) (got t []) (omega arith, omega arith) tt)
+sections-numbered : (ks : List Section) (s : List ℕ) → Numbered (sections ks s)
+unfolding sections
+sections-numbered [] s = tt
+sections-numbered (k ∷ ks) s = then-numbered (section k s) _ (rows-numbered (k .key) (k .rule) (k .lines) (k .items) s)
+    (λ t s. then-numbered (sections ks s) _ (sections-numbered ks s) (λ ts s. tt))
 
-tables-numbered : (m n : ℕ) (s : List ℕ) → Numbered (tables m n s)
-unfolding tables
-tables-numbered m n s =
-    then-numbered (rows (bytes "lag=") entry m n s) _ (rows-numbered (bytes "lag=") entry m n s) (λ lag s.
-    then-numbered (line (bytes "floor=") entry m s) _ (line-numbered (bytes "floor=") entry m s) (λ floor s.
-    then-numbered (line (bytes "due=") mark n s) _ (line-numbered (bytes "due=") mark n s) (λ due s.
-    then-numbered (rows (bytes "after=") entry n n s) _ (rows-numbered (bytes "after=") entry n n s) (λ after s.
-    finished-numbered lag floor _ s))))
+finished-numbered : (m n : ℕ) (ts : List (List (List E))) (s : List ℕ) → Numbered (finished m n ts s)
+finished-numbered m n ts (b ∷ s) = (omega arith, omega arith)
+finished-numbered m n ts [] = if-numbered (any (all absent?) (part ts lag-lines)) (refused 6) _ (omega arith, omega arith)
+    (if-numbered (any (all absent?) (part ts floor-line)) (refused 7) (got (sheet-of m n ts) []) (omega arith, omega arith) tt)
 
 lines-numbered : (s : List ℕ) → Numbered (lines s)
 unfolding lines
-lines-numbered s =
-    then-numbered (line (bytes "panels=") size 1 s) _ (line-numbered (bytes "panels=") size 1 s) (λ p s.
-    then-numbered (line (bytes "triggers=") size 1 s) _ (line-numbered (bytes "triggers=") size 1 s) (λ q s. tables-numbered (count p) (count q) s))
+lines-numbered s = then-numbered (sections sizes s) _ (sections-numbered sizes s) (λ ps s.
+    then-numbered (sections (tables (count (part ps panels-line)) (count (part ps triggers-line))) s) _ (sections-numbered _ s) (λ ts s.
+    finished-numbered _ _ ts s))
 
 pub refusal-known : (s : List ℕ) (k : ℕ) → read s ≡ refused k → (1 ≤ k) × (k ≤ 7)
 unfolding read

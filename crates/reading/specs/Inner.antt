@@ -1,32 +1,57 @@
 -- What the inner functions of reading promise. Nothing public is stated here.
 use mathlib.Core.Path.{_≡_}
-use mathlib.Core.List.{List}
+use mathlib.Core.List.{List, [], _∷_}
 use mathlib.Core.Bool.{Bool, true, false}
 use Prim.Native.Nat.{ℕ, _≤_, _<_}
 use lib.ListN.{length, drop, getD}
 use Rattle.maxplus.specs.Entry.{E}
+use Rattle.maxplus.specs.Finite.{each}
 use Rattle.sheet.specs.Sheet as sheet
-use Rattle.sheet.specs.Sheet.{Got, got, refused, any, all, absent?, count, table}
-use Rattle.rows.specs.Grid.{grid}
+use Rattle.sheet.specs.Sheet.{Got, got, any, all, absent?, table, Section, section, sections, part, sizes, tables}
+use Rattle.sheet.proofs.SectionLaws.{RowsOf}
+use Rattle.rows.specs.Grid.{strips}
+use Rattle.rows.specs.Inner.{RowsAre, Reads}
 use Rattle.rows.specs.declared.Row.{Row}
+use Rattle.rows.specs.declared.Place.{Place}
+use Rattle.reading.specs.Reading.{answer}
 use Rattle.reading.specs.declared.Reading.{Reading}
-use Rattle.reading.specs.declared.SizeLine.{SizeLine}
-use Rattle.rows.specs.Inner.{Read}
+use Rattle.reading.specs.declared.Group.{Group}
+use Rattle.reading.specs.declared.Group.the-variants as group
 
--- a size line's number and the place behind it
-abbrev pub SizeIs : Got (List E) → List ℕ → SizeLine → Type 0
-SizeIs (got es rest) s r = (r .refusal ≡ 0) × (drop (r .next) s ≡ rest) × (r .next ≤ length s) × (r .size ≡ count es) × (r .size ≤ 6)
-SizeIs (refused k) s r = (r .refusal ≡ k) × (1 ≤ k)
+abbrev pub kinds : Group → ℕ → ℕ → List Section
+kinds group.Sizes m n = sizes
+kinds group.Tables m n = tables m n
+
+-- the most kinds of a group
+abbrev pub most : ℕ
+most = 4
+
+-- the rows of the i-th of the kinds
+abbrev pub SectionIs : List Section → ℕ → List ℕ → ℕ → Place → List (List ℕ) → Type 0
+SectionIs ks i s from r held = (k : Section) (rest : List Section) → drop i ks ≡ k ∷ rest → RowsAre (section k (drop from s)) s r held
+
+-- the words of the rows of each kind that was read
+pub record Stacked (ts : List (List (List E))) (ws : List (List (List ℕ))) : Type 0 where
+  pub room : length ws ≡ most
+  pub at : (i : ℕ) → i < length ts → getD ws i [] ≡ strips (table (part ts i))
+
+abbrev pub SectionsAre : Got (List (List (List E))) → List ℕ → Place → List (List (List ℕ)) → Type 0
+SectionsAre g s r held = Reads Stacked g s (r .refusal) (r .next) held
+
+-- six rows, each in its struct
+abbrev pub each-row : List (List ℕ) → List Row
+each-row ws = each 6 (λ i. (record { at = getD ws i [] }) ∷ [])
+
+-- the answer to the rows that were read of each kind
+abbrev pub FinishedIs : List (List (List ℕ)) → ℕ → ℕ → Reading → Type 0
+FinishedIs ps m n r = (s x : List ℕ) (ts : List (List (List E))) → sections (tables m n) s ≡ got ts x → Stacked ts ps →
+    r ≡ answer (sheet.finished m n ts [])
 
 -- some of the rows that were read has no entry
-abbrev pub EmptyRow : List Row → ℕ → Bool → Type 0
-EmptyRow rs lines b = (n : ℕ) (t : List (List E)) → n ≤ 6 → Read sheet.entry lines n t → rs ≡ grid (table t) → b ≡ any (all absent?) t
+abbrev pub EmptyRow : List (List ℕ) → ℕ → Bool → Type 0
+EmptyRow rs lines b = (n : ℕ) (t : List (List E)) → n ≤ 6 → RowsOf sheet.entry lines n t → rs ≡ strips (table t) → b ≡ any (all absent?) t
 
 -- all six words are 0
 abbrev pub EmptyWords : List ℕ → Bool → Type 0
 EmptyWords ws true = (j : ℕ) → j < 6 → getD ws j 0 ≡ 0
 EmptyWords ws false = (j : ℕ) × (j < 6) × (getD ws j 0 ≡ 0 → ⊥)
-
-abbrev pub good-of : ℕ → ℕ → List Row → Row → Row → List Row → Reading
-good-of m n lag floor due after =
-    record { refusal = 0; sheet = record { panels = m; triggers = n; lag = lag; floor = floor .at; due = due .at; after = after } }

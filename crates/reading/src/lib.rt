@@ -1,20 +1,41 @@
 // Reading a sheet: from any bytes to the sheet's tables, or to the refusal of the first fault met.
 ghost use mathlib.Core.Path.{_≡_};
-ghost use Prim.Native.Nat.{_≤_};
-ghost use lib.ListN.{length, drop};
+ghost use mathlib.Core.List.{[]};
+ghost use Prim.Native.Nat.{_+_, _≤_, _<_};
+ghost use lib.ListN.{length, drop, getD};
+ghost use Rattle.words.specs.Words.{bias};
 ghost use Rattle.sheet.specs.Sheet as sheet;
-ghost use Rattle.sheet.specs.Sheet.{read, line, size, tables};
+ghost use Rattle.sheet.specs.Sheet.{read, sections};
 ghost use Rattle.reading.specs.Reading.{answer};
-ghost use Rattle.reading.specs.Inner.{SizeIs, EmptyRow, EmptyWords, good-of};
+ghost use Rattle.reading.specs.Inner.{kinds, most, SectionIs, SectionsAre, FinishedIs, EmptyRow, EmptyWords, each-row};
+use rows::Items;
+use rows::Place;
 use rows::Row;
-use rows::Rule;
 use rows::read_rows;
 
 // The most bytes that a sheet may have.
 const LONGEST: usize = 2048;
 
+// How many kinds of line give sizes, and the place of each.
+const SIZES: usize = 2;
+
+const PANELS: usize = 0;
+
+const TRIGGERS: usize = 1;
+
+// How many kinds of line give tables, and the place of each.
+const TABLES: usize = 4;
+
+const LAG: usize = 0;
+
+const FLOOR: usize = 1;
+
+const DUE: usize = 2;
+
+const AFTER: usize = 3;
+
 // A good sheet. A struct can't hold an array of arrays, so a table in it is an array of rows.
-pub struct Sheet {
+pub struct SheetWords {
     pub panels: usize,
     pub triggers: usize,
     pub lag: [Row; 6],
@@ -26,14 +47,13 @@ pub struct Sheet {
 // Document 01's refusal, 1 to 7, and no sheet; or 0 and the sheet.
 pub struct Reading {
     pub refusal: u8,
-    pub sheet: Sheet,
+    pub sheet: SheetWords,
 }
 
-// A size line's number and the place behind it; or a refusal, 2 or 3.
-struct SizeLine {
-    refusal: u8,
-    next: usize,
-    size: usize,
+// The kinds of line of a sheet: first those that give the sizes, then those that give the tables.
+enum Group {
+    Sizes,
+    Tables,
 }
 
 // Reads a sheet: any bytes have one answer.
@@ -43,102 +63,151 @@ pub fn read_sheet(s: &[u8]) -> Reading
     if LONGEST < s.len() {
         return refused(1);
     }
-    let panels = read_size(s, 0, b"panels=");
-    if panels.refusal != 0 {
-        return refused(panels.refusal);
+    let mut parts = [[[0u64; 6]; 6]; TABLES];
+    let sizes = read_sections(s, 0, Group::Sizes, SIZES, 0, 0, &mut parts);
+    if sizes.refusal != 0 {
+        return refused(sizes.refusal);
     }
-    let triggers = read_size(s, panels.next, b"triggers=");
-    if triggers.refusal != 0 {
-        return refused(triggers.refusal);
+    let panels = size(parts[PANELS]);
+    let triggers = size(parts[TRIGGERS]);
+    let tables = read_sections(
+        s,
+        sizes.next,
+        Group::Tables,
+        TABLES,
+        panels,
+        triggers,
+        &mut parts,
+    );
+    if tables.refusal != 0 {
+        return refused(tables.refusal);
     }
-    read_tables(s, triggers.next, panels.size, triggers.size)
-}
-
-// Reads a size line.
-fn read_size(s: &[u8], from: usize, key: &[u8]) -> SizeLine
-    requires { ⌜ from ≤ length (now s) ⌝ }
-    ensures { λ r. ⌜ SizeIs (line (now (key .entry)) size 1 (drop from (now (s .entry)))) (now (s .entry)) r ⌝ }
-{
-    let read = read_rows(s, from, key, Rule::Size, 1, 1);
-    if read.refusal != 0 {
-        return SizeLine {
-            refusal: read.refusal,
-            next: 0,
-            size: 0,
-        };
-    }
-    let rows = read.rows;
-    let row = rows[0];
-    let word = row.at[0];
-    SizeLine {
-        refusal: 0,
-        next: read.next,
-        size: (word - words::BIAS) as usize,
-    }
-}
-
-// Reads the tables behind the two sizes.
-fn read_tables(s: &[u8], from: usize, panels: usize, triggers: usize) -> Reading
-    requires { ⌜ (from ≤ length (now s)) × (panels ≤ 6) × (triggers ≤ 6) ⌝ }
-    ensures { λ r. ⌜ r ≡ answer (tables panels triggers (drop from (now (s .entry)))) ⌝ }
-{
-    let lag = read_rows(s, from, b"lag=", Rule::Entry, panels, triggers);
-    if lag.refusal != 0 {
-        return refused(lag.refusal);
-    }
-    let floor = read_rows(s, lag.next, b"floor=", Rule::Entry, 1, panels);
-    if floor.refusal != 0 {
-        return refused(floor.refusal);
-    }
-    let due = read_rows(s, floor.next, b"due=", Rule::Mark, 1, triggers);
-    if due.refusal != 0 {
-        return refused(due.refusal);
-    }
-    let after = read_rows(s, due.next, b"after=", Rule::Entry, triggers, triggers);
-    if after.refusal != 0 {
-        return refused(after.refusal);
-    }
-    if after.next < s.len() {
+    if tables.next < s.len() {
         return refused(2);
     }
-    let lags = lag.rows;
-    let floors = floor.rows;
-    if empty_row(lags, panels) {
-        return refused(6);
-    }
-    if empty_row(floors, 1) {
-        return refused(7);
-    }
-    let dues = due.rows;
-    let afters = after.rows;
-    good(panels, triggers, lags, floors[0], dues[0], afters)
+    finished(&parts, panels, triggers)
 }
 
-// The answer of a good sheet.
-fn good(
+// Reads the lines of the `k`-th kind of a group: this is the list of the kinds, each with its key, what its items may be, how many lines it
+// has and how many items in each; the last of a group has no number.
+fn read_section(
+    s: &[u8],
+    from: usize,
+    group: Group,
+    k: usize,
     panels: usize,
     triggers: usize,
-    lag: [Row; 6],
-    floor: Row,
-    due: Row,
-    after: [Row; 6],
-) -> Reading
-    ensures { λ r. ⌜ r ≡ good-of panels triggers lag floor due after ⌝ }
+    rows: &mut [[u64; 6]; 6],
+) -> Place
+    requires { ⌜ (from ≤ length (now s)) × (k < length (kinds group panels triggers)) × (panels ≤ 6) × (triggers ≤ 6) ⌝ }
+    ensures { λ r. ⌜ SectionIs (kinds group panels triggers) k (now (s .entry)) from r (now (rows .exit)) ⌝ }
 {
-    let floors = floor.at;
-    let dues = due.at;
-    let sheet = Sheet {
+    match group {
+        Group::Sizes => match k {
+            PANELS => read_rows(s, from, b"panels=", Items::Size, 1, 1, rows),
+            _ => read_rows(s, from, b"triggers=", Items::Size, 1, 1, rows),
+        },
+        Group::Tables => match k {
+            LAG => read_rows(s, from, b"lag=", Items::Entry, panels, triggers, rows),
+            FLOOR => read_rows(s, from, b"floor=", Items::Entry, 1, panels, rows),
+            DUE => read_rows(s, from, b"due=", Items::Mark, 1, triggers, rows),
+            _ => read_rows(s, from, b"after=", Items::Entry, triggers, triggers, rows),
+        },
+    }
+}
+
+// Reads the `count` kinds of a group, one after the other, up to the first refusal.
+fn read_sections(
+    s: &[u8],
+    from: usize,
+    group: Group,
+    count: usize,
+    panels: usize,
+    triggers: usize,
+    parts: &mut [[[u64; 6]; 6]; TABLES],
+) -> Place
+    requires { ⌜ (from ≤ length (now s)) × (count ≡ length (kinds group panels triggers)) × (panels ≤ 6) × (triggers ≤ 6) ×
+        (length (now parts) ≡ most) ⌝ }
+    ensures { λ r. ⌜ SectionsAre (sections (kinds group panels triggers) (drop from (now (s .entry)))) (now (s .entry)) r (now (parts .exit)) ⌝ }
+{
+    let mut at = from;
+    let mut refusal: u8 = 0;
+    let mut k: usize = 0;
+    while k < count {
+        let read = read_section(s, at, group, k, panels, triggers, &mut parts[k]);
+        refusal = read.refusal;
+        if refusal != 0 {
+            break;
+        }
+        at = read.next;
+        k += 1;
+    }
+    Place {
+        refusal: refusal,
+        next: at,
+    }
+}
+
+// The number of a size line.
+fn size(line: [[u64; 6]; 6]) -> usize
+    requires { ⌜ bias ≤ getD (getD line 0 []) 0 0 ⌝ }
+    ensures { λ r. ⌜ bias + r ≡ getD (getD line 0 []) 0 0 ⌝ }
+{
+    let at = line[0];
+    (at[0] - words::BIAS) as usize
+}
+
+// The answer once all lines are read: the one place where the rows of each kind are used.
+fn finished(parts: &[[[u64; 6]; 6]; TABLES], panels: usize, triggers: usize) -> Reading
+    requires { ⌜ (panels ≤ 6) × (triggers ≤ 6) ⌝ }
+    ensures { λ r. ⌜ FinishedIs (now (parts .entry)) panels triggers r ⌝ }
+{
+    let lag = parts[LAG];
+    if empty_row(lag, panels) {
+        return refused(6);
+    }
+    let floor = parts[FLOOR];
+    if empty_row(floor, 1) {
+        return refused(7);
+    }
+    let due = parts[DUE];
+    let after = parts[AFTER];
+    let lags = table(lag);
+    let afters = table(after);
+    let floors = floor[0];
+    let dues = due[0];
+    let sheet = SheetWords {
         panels: panels,
         triggers: triggers,
-        lag: lag,
+        lag: lags,
         floor: floors,
         due: dues,
-        after: after,
+        after: afters,
     };
     Reading {
         refusal: 0,
         sheet: sheet,
     }
+}
+
+// The rows of a table, each in its struct.
+fn table(rows: [[u64; 6]; 6]) -> [Row; 6]
+    ensures { λ r. ⌜ r ≡ each-row rows ⌝ }
+{
+    let a = rows[0];
+    let b = rows[1];
+    let c = rows[2];
+    let d = rows[3];
+    let e = rows[4];
+    let f = rows[5];
+    [
+        Row { at: a },
+        Row { at: b },
+        Row { at: c },
+        Row { at: d },
+        Row { at: e },
+        Row { at: f },
+    ]
 }
 
 // The answer of a refusal: its number and nothing else.
@@ -148,7 +217,7 @@ fn refused(refusal: u8) -> Reading
     let none = Row { at: [0u64; 6] };
     let table = [none; 6];
     let marks = [0u64; 6];
-    let sheet = Sheet {
+    let sheet = SheetWords {
         panels: 0,
         triggers: 0,
         lag: table,
@@ -163,14 +232,13 @@ fn refused(refusal: u8) -> Reading
 }
 
 // One of the first `lines` rows has no entry.
-fn empty_row(rows: [Row; 6], lines: usize) -> bool
+fn empty_row(rows: [[u64; 6]; 6], lines: usize) -> bool
     requires { ⌜ lines ≤ 6 ⌝ }
     ensures { λ r. ⌜ EmptyRow rows lines r ⌝ }
 {
     let mut i: usize = 0;
     while i < lines {
-        let row = rows[i];
-        let at = row.at;
+        let at = rows[i];
         if empty(at) {
             return true;
         }

@@ -1,25 +1,21 @@
 -- Laws of faults: of the word of one entry, of a line as the least of its entries', and of the entries of a line that has none.
 use mathlib.Core.Path.{_≡_, refl, ap, sym, _∙_}
-use mathlib.Core.Logic.{inl, inr}
-use mathlib.Core.List.{List, [], _∷_}
+use mathlib.Core.List.{List, [], _∷_, _++_}
 use mathlib.Core.Bool.{Bool, true, false, cond, _||_}
 use Prim.Native.Nat.{ℕ, zero, suc, _+_, _-_, _≤_, _<_, min}
-use native.Mathlib.Numerals.{add-one}
 use native.Mathlib.Omega.{arith}
 use borrow.Author.Tests.{ltb-false, lt-ltb, le-ltb, eq-eqb, ne-eqb}
 use lib.Dec.{ltb, eqb}
 use lib.IntN.{ℤ, pos, negsuc}
-use lib.ListN.{length, drop, getD, drop-of-length-le}
 use Rattle.maxplus.specs.Whole.{up, dn}
 use Rattle.maxplus.specs.Entry.{E, absent, num}
-use Rattle.maxplus.specs.Finite.{In, mapL}
+use Rattle.maxplus.specs.Finite.{mapL}
 use Rattle.words.specs.Words.{bias, word}
 use Rattle.sheet.specs.Sheet as sheet
 use Rattle.sheet.specs.Sheet.{got, refused, limit, absent?, no-size, out-of-range, any, checked, row}
-use Rattle.sheet.proofs.LineLaws.{none-or}
+use Rattle.sheet.proofs.LineLaws.{true-not-false, none-or, none-at, any-none, Passes, checked-passes}
 use Rattle.rows.specs.Grid.{strip}
-use Rattle.rows.specs.Inner.{clip, verdict, earlier-of, words-of, fault-of, FaultIs}
-use Rattle.rows.proofs.PlaceLaws.{strip-at}
+use Rattle.rows.specs.Inner.{clip, verdict, earlier-of, words-of, fault-of, least, FaultIs}
 
 -- a clipped number's word by the number's two parts, of which one is 0
 parts : (w : ℕ) (z : ℤ) → w ≡ word (clip (num z)) → (w + min (dn z) (suc limit) ≡ bias + min (up z) (suc limit)) × (min (up z) (dn z) ≡ 0)
@@ -106,10 +102,10 @@ earlier-assoc (suc a) zero c = refl
 earlier-assoc (suc a) (suc b) zero = refl
 earlier-assoc (suc a) (suc b) (suc c) = omega arith
 
--- the least fault of a line
-unfoldable pub least : (E → ℕ) → List E → ℕ
-least f [] = 0
-least f (e ∷ es) = earlier-of (f e) (least f es)
+pub least-last : (f : E → ℕ) (es : List E) (e : E) → earlier-of (least f es) (f e) ≡ least f (es ++ e ∷ [])
+unfolding least
+least-last f [] e = earlier-first (f e) 0 refl
+least-last f (a ∷ es) e = earlier-assoc (f a) (least f es) (f e) ∙ ap (earlier-of (f a)) (least-last f es e)
 
 module _ (p q : ℕ) (h : p ≤ q) where
   abbrev kind : Bool → Bool → ℕ
@@ -139,81 +135,26 @@ module _ (p q : ℕ) (h : p ≤ q) where
       → cond (any f es) (refused (suc p)) (cond (any g es) (refused (suc q)) (got es s)) ≡ verdict (least (λ e. kind (f e) (g e)) es) es s
   checked-kind f g es s = verdict-kind (any f es) (any g es) es s ∙ ap (λ k. verdict k es s) (sym (least-kind f g es))
 
-any-none : (es : List E) → any (λ e. false) es ≡ false
-unfolding any
-any-none [] = refl
-any-none (e ∷ es) = any-none es
-
 pub checked-least : (r : sheet.Rule) (es : List E) (s : List ℕ) → checked r es s ≡ verdict (least (fault-of r) es) es s
 unfolding checked
 checked-least sheet.size es s = checked-kind 1 2 (omega arith) absent? no-size es s
 checked-least sheet.entry es s =
     let e = checked-kind 3 4 (omega arith) out-of-range (λ e. false) es s in
-    rw (any-none es) at e
+    rw (any-none (λ e. false) absent es (λ j q. refl)) at e
 checked-least sheet.mark es s = checked-kind 3 4 (omega arith) out-of-range absent? es s
 
-pub row-clip : (es : List E) (k : ℕ) → row (mapL clip es) k ≡ clip (row es k)
-unfolding row mapL
-row-clip [] k = refl
-row-clip (e ∷ es) zero = refl
-row-clip (e ∷ es) (suc k) = row-clip es k
-
-pub drop-row : (es : List E) (k : ℕ) → k < length es → drop k es ≡ row es k ∷ drop (suc k) es
-unfolding row
-drop-row [] k h = absurd (omega arith)
-drop-row (e ∷ es) zero h = refl
-drop-row (e ∷ es) (suc k) h = drop-row es k (omega arith)
-
--- the first k words of a line are passed, with the least fault so far
-pub record Passed (r : sheet.Rule) (ws : List ℕ) (count k found : ℕ) : Type 0 where
-  pub within : k ≤ count
-  pub left : (es : List E) → length es ≡ count → ws ≡ words-of es → earlier-of found (least (fault-of r) (drop k es)) ≡ least (fault-of r) es
-
-least-at : (r : sheet.Rule) (es : List E) (k : ℕ) → k < length es
-    → least (fault-of r) (drop k es) ≡ earlier-of (fault-of r (row es k)) (least (fault-of r) (drop (suc k) es))
-unfolding least
-least-at r es k h = rw (drop-row es k h)
-
-word-at : (es : List E) (k : ℕ) → k < 6 → getD (words-of es) k 0 ≡ word (clip (row es k))
-word-at es k h = strip-at (row (mapL clip es)) k h ∙ ap word (row-clip es k)
-
-module _ {r : sheet.Rule} {ws : List ℕ} {count : ℕ} where
-  pub passed-none : Passed r ws count 0 0
-  passed-none = record { within = omega arith; left = λ es l q. refl }
-
-  module _ {k found : ℕ} (p : Passed r ws count k found) where
-    pub passed-more : (f n : ℕ) → count ≤ 6 → k < count → FaultIs r (getD ws k 0) f → n ≡ earlier-of found f → Passed r ws count (k + 1) n
-    passed-more f n six h is e =
-        record {
-          within = omega arith;
-          left = λ es l q.
-              let f-is = is (row es k) (rw q (word-at es k (omega arith))) in
-              rw (add-one, e, f-is, earlier-assoc, ← least-at r es k (omega arith)) (p .left es l q);
-        }
-
-    pub passed-all : count ≤ k → (es : List E) → length es ≡ count → ws ≡ words-of es → (s : List ℕ) → checked r es s ≡ verdict found es s
-    unfolding least
-    passed-all h es l q s =
-        let none : drop k es ≡ [] = drop-of-length-le es {i = k} (omega arith) in
-        let e : found ≡ least (fault-of r) es = earlier-first found _ refl ∙ rw none at (p .left es l q) in
-        checked-least r es s ∙ ap (λ n. verdict n es s) (sym e)
-
 -- the entries of a line without fault
-kind-none : (t : Bool) (k n : ℕ) → cond t (suc k) n ≡ 0 → t ≡ false
-kind-none true k n e = absurd (omega arith)
-kind-none false k n e = refl
-
-good-size : (e : E) → fault-of sheet.size e ≡ 0 → out-of-range e ≡ false
-good-size absent h = refl
-good-size (num (pos n)) h =
-    let small = ltb-false 6 n (none-or (ltb 6 n) (eqb n 0) (kind-none _ 2 0 h) .0) in
+size-in-range : (e : E) → no-size e ≡ false → out-of-range e ≡ false
+size-in-range absent h = refl
+size-in-range (num (pos n)) h =
+    let small = ltb-false 6 n (none-or (ltb 6 n) (eqb n 0) h .0) in
     rw (le-ltb limit n (omega arith))
-good-size (num (negsuc n)) h = absurd (omega arith)
+size-in-range (num (negsuc n)) h = absurd (true-not-false h)
 
-good-in-range : (r : sheet.Rule) (e : E) → fault-of r e ≡ 0 → out-of-range e ≡ false
-good-in-range sheet.size e h = good-size e h
-good-in-range sheet.entry e h = kind-none (out-of-range e) 3 0 h
-good-in-range sheet.mark e h = kind-none (out-of-range e) 3 _ h
+in-range : (r : sheet.Rule) (es : List E) → Passes r es → any out-of-range es ≡ false
+in-range sheet.size es p = any-none out-of-range absent es (λ j h. size-in-range (row es j) (none-at no-size absent es j (p .1) h))
+in-range sheet.entry es p = p
+in-range sheet.mark es p = p .0
 
 in-range-clip : (e : E) → out-of-range e ≡ false → clip e ≡ e
 in-range-clip absent h = refl
@@ -226,31 +167,12 @@ in-range-clip (num (negsuc n)) h =
     let m : min n limit ≡ n = omega arith in
     rw m
 
-earlier-none : (a b : ℕ) → earlier-of a b ≡ 0 → (a ≡ 0) × (b ≡ 0)
-earlier-none zero b h = (refl, h)
-earlier-none (suc a) zero h = (h, refl)
-earlier-none (suc a) (suc b) h = omega arith
+clip-same : (es : List E) → any out-of-range es ≡ false → mapL clip es ≡ es
+unfolding any mapL
+clip-same [] h = refl
+clip-same (e ∷ es) h = let (p, q) = none-or (out-of-range e) (any out-of-range es) h in rw (in-range-clip e p, clip-same es q)
 
-least-clip : (r : sheet.Rule) (es : List E) → least (fault-of r) es ≡ 0 → mapL clip es ≡ es
-unfolding least mapL
-least-clip r [] h = refl
-least-clip r (e ∷ es) h =
-    let n = earlier-none (fault-of r e) (least (fault-of r) es) h in
-    rw (in-range-clip e (good-in-range r e (n .0)), least-clip r es (n .1))
-
-verdict-none : (k : ℕ) (es : List E) (s : List ℕ) → verdict k es s ≡ got es s → k ≡ 0
-verdict-none zero es s h = refl
-verdict-none (suc k) es s h = cc
-
-in-fixed : (es : List E) → mapL clip es ≡ es → (e : E) → In e es → clip e ≡ e
-unfolding mapL
-in-fixed [] h e i = absurd i
-in-fixed (a ∷ es) h e (inl i) = cc
-in-fixed (a ∷ es) h e (inr i) = in-fixed es (cc) e i
-
-module _ (r : sheet.Rule) (es : List E) (s : List ℕ) (h : checked r es s ≡ got es s) where
-  pub good-clip : mapL clip es ≡ es
-  good-clip = least-clip r es (verdict-none _ es s (sym (checked-least r es s) ∙ h))
-
-  pub good-words : words-of es ≡ strip (row es)
-  good-words = rw good-clip
+pub good-words : (r : sheet.Rule) (es : List E) → least (fault-of r) es ≡ 0 → words-of es ≡ strip (row es)
+good-words r es h =
+    let e : checked r es [] ≡ got es [] = checked-least r es [] ∙ ap (λ k. verdict k es []) h in
+    rw (clip-same es (in-range r es (checked-passes r es [] e .0)))

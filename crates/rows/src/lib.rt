@@ -5,7 +5,7 @@ ghost use lib.ListN.{length, drop};
 ghost use Rattle.sheet.specs.Sheet.{limit, ended};
 ghost use Rattle.sheet.specs.Sheet as sheet;
 ghost use Rattle.items.specs.Inner.{ItemIs};
-ghost use Rattle.rows.specs.Inner.{LiteralAt, FaultIs, FaultsAre, RowsAre, earlier-of, rule-of};
+ghost use Rattle.rows.specs.Inner.{LiteralAt, FaultIs, RowsAre, earlier-of, rule-of};
 use items::Item;
 use items::item_at;
 
@@ -18,27 +18,35 @@ pub struct Row {
 }
 
 // What the items of a line may be: a size, an entry, a due mark.
-pub enum Rule {
+pub enum Items {
     Size,
     Entry,
     Mark,
 }
 
-// The rows of some lines and the place behind them; or a refusal, 2 to 5.
-pub struct Rows {
+// The place behind what was read; or a refusal, 2 to 5.
+pub struct Place {
     pub refusal: u8,
     pub next: usize,
-    pub rows: [Row; 6],
 }
 
-// Reads `lines` lines of `count` items, each with the same key. The first fault met is the answer: for each line the items' form (2), then
-// what they may be (2 to 5).
-pub fn read_rows(s: &[u8], from: usize, key: &[u8], rule: Rule, lines: usize, count: usize) -> Rows
+// Reads `lines` lines of `count` items, each with the same key, into lent rows. The first fault met is the answer: for each line the items'
+// form (2), then the least fault of what they are (2 to 5), so that a line's 2 comes before its 3, 4 and 5, by kind and not by item.
+pub fn read_rows(
+    s: &[u8],
+    from: usize,
+    key: &[u8],
+    rule: Items,
+    lines: usize,
+    count: usize,
+    rows: &mut [[u64; 6]; 6],
+) -> Place
     requires { ⌜ (from ≤ length (now s)) × (lines ≤ 6) × (count ≤ 6) ⌝ }
-    ensures { λ r. ⌜ RowsAre (rule-of rule) (sheet.rows (now (key .entry)) (rule-of rule) lines count (drop from (now (s .entry)))) (now (s .entry)) lines count r ⌝ }
+    ensures { λ r. ⌜ RowsAre (sheet.rows (now (key .entry)) (rule-of rule) lines count (drop from (now (s .entry)))) (now (s .entry)) r
+        (now (rows .exit)) ⌝ }
 {
-    let none = Row { at: [0u64; 6] };
-    let mut rows = [none; 6];
+    let cleared = [[0u64; 6]; 6];
+    *rows = cleared;
     let mut at = from;
     let mut refusal: u8 = 0;
     let mut i: usize = 0;
@@ -54,6 +62,7 @@ pub fn read_rows(s: &[u8], from: usize, key: &[u8], rule: Rule, lines: usize, co
             match ended_item(s, at, count - k - 1) {
                 Item::Entry(word, next) => {
                     row[k] = word;
+                    refusal = earlier(refusal, fault(rule, word));
                     at = next;
                 }
                 Item::Faulty => {
@@ -63,17 +72,15 @@ pub fn read_rows(s: &[u8], from: usize, key: &[u8], rule: Rule, lines: usize, co
             }
             k += 1;
         }
-        refusal = first_fault(rule, row, count);
         if refusal != 0 {
             break 'lines;
         }
-        rows[i] = Row { at: row };
+        rows[i] = row;
         i += 1;
     }
-    Rows {
+    Place {
         refusal: refusal,
         next: at,
-        rows: rows,
     }
 }
 
@@ -115,20 +122,6 @@ fn literal_at(s: &[u8], at: usize, key: &[u8]) -> bool
     true
 }
 
-// The least fault of the first `count` words, or 0: so a line's 2 comes before its 3, 4 and 5, by kind and not by item.
-fn first_fault(rule: Rule, row: [u64; 6], count: usize) -> u8
-    requires { ⌜ count ≤ 6 ⌝ }
-    ensures { λ r. ⌜ FaultsAre rule row count r ⌝ }
-{
-    let mut least: u8 = 0;
-    let mut k: usize = 0;
-    while k < count {
-        least = earlier(least, fault(rule, row[k]));
-        k += 1;
-    }
-    least
-}
-
 // The earlier of two faults, where 0 is none.
 fn earlier(a: u8, b: u8) -> u8
     ensures { λ r. ⌜ r ≡ earlier-of a b ⌝ }
@@ -143,13 +136,13 @@ fn earlier(a: u8, b: u8) -> u8
 }
 
 // The fault of one entry, or 0.
-fn fault(rule: Rule, word: u64) -> u8
+fn fault(rule: Items, word: u64) -> u8
     ensures { λ r. ⌜ FaultIs (rule-of rule) word r ⌝ }
 {
     match rule {
-        Rule::Size => size_fault(word),
-        Rule::Entry => entry_fault(word),
-        Rule::Mark => {
+        Items::Size => size_fault(word),
+        Items::Entry => entry_fault(word),
+        Items::Mark => {
             if word == 0 {
                 return 5;
             }

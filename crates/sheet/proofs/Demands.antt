@@ -2,6 +2,7 @@
 use mathlib.Core.Path.{_≡_, ap, subst, _∙_}
 use mathlib.Core.Logic.{_↔_}
 use Prim.Native.Nat.{ℕ, _≤_}
+use native.Mathlib.Omega.{arith}
 use lib.ListN.{length}
 use Rattle.maxplus.specs.Entry.{num, _≼_}
 use Rattle.maxplus.specs.Tables.{NoGain}
@@ -13,10 +14,11 @@ use Rattle.cue.specs.Written.{list-words}
 use Rattle.cue.proofs.Bounds.{results-32}
 use Rattle.cue.proofs.WrittenLaws.{Fitting, list-words-one}
 use Rattle.cue.proofs.Demands as theory
-use Rattle.sheet.specs.Sheet.{Sheet}
+use Rattle.sheet.specs.Sheet.{Sheet, limit}
+use Rattle.sheet.specs.Sizes.{order-limit}
 use Rattle.sheet.specs.Meaning.{Timing, Keeps, deviation, Tightest}
 use Rattle.sheet.specs.Cue.{cue-size, cue-of, Orderly, sheet-lines}
-use Rattle.sheet.proofs.Good.{Good}
+use Rattle.sheet.specs.Good.{Good}
 use Rattle.sheet.proofs.Seam.{keeps-cue, deviation-cue, tightest-cue}
 
 -- "8: no timing keeps the order"
@@ -53,7 +55,7 @@ module _ (t : Sheet) (G : Good t) (o : Orderly t) where
 
   -- the components of a listed line fit the words of the lent space
   pub fitting : Fitting (t .triggers) (sheet-lines t)
-  fitting c h i q = results-32 (cue-size t) (cue-of t) o (G .limited) (G .triggers-few) .components c h i q
+  fitting c h i q = results-32 (cue-size t) limit order-limit (cue-of t) o (G .limited) (G .triggers-few) (omega arith) .components c h i q
 
 -- ---- demand 3: for equal numbers of triggers the words of the lists are the same exactly when the same timings are tightest
 same-lists : (n k : ℕ) → n ≡ k → (P Q : Cue) → n ≤ 6 → Readable n P → Readable k Q → NoGain n (P .order) → NoGain k (Q .order) →
@@ -73,7 +75,8 @@ pub demand-3 : (t u : Sheet) → Good t → Good u → Orderly t → Orderly u �
     ((length (sheet-lines t) ≡ length (sheet-lines u)) × (list-words (t .triggers) (sheet-lines t) ≡ list-words (u .triggers) (sheet-lines u))) ↔
     ((X : Timing) → Tightest t X ↔ Tightest u X)
 demand-3 t u G H o p e =
-    let both = same-lists (cue-size t) (cue-size u) e (cue-of t) (cue-of u) (G .triggers-few) (G .readable) (H .readable) o p (fitting t G o) (fitting u H p) in (
+    let both = same-lists (cue-size t) (cue-size u) e (cue-of t) (cue-of u) (G .triggers-few) (G .readable) (H .readable) o p (fitting t G o)
+    (fitting u H p) in (
       λ q X. let b = both .0 q X in (λ h. tightest-cue u X .1 (b .0 (tightest-cue t X .0 h)), λ h. tightest-cue t X .1 (b .1 (tightest-cue u X .0 h))),
       λ f. both .1 (λ X. let b = f X in (λ h. tightest-cue u X .0 (b .0 (tightest-cue t X .1 h)), λ h. tightest-cue t X .0 (b .1 (tightest-cue u X .1 h)))),
     )

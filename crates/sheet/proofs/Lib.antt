@@ -1,5 +1,6 @@
--- What is true of every sheet that reading gives.
+-- Laws of the sheet's lines and sections, and what is true of every sheet that reading gives.
 pub mod LineLaws
+pub mod SectionLaws
 pub mod Good
 pub mod OrderedLaws
 pub mod Seam

@@ -1,18 +1,56 @@
--- Laws of a sheet's lines: what was not refused, lines without fault, sizes, rows whose entries are all there.
-use mathlib.Core.Path.{_≡_, refl}
-use mathlib.Core.List.{List, [], _∷_}
-use mathlib.Core.Bool.{Bool, true, false, cond, _||_}
+-- Laws of a sheet's lines: members of a list that pass a test, what was not refused, what was read in front of what is left, lists with one
+-- more at the end, and entries that pass their line's rule.
+use mathlib.Core.Path.{_≡_, refl, ap, sym}
+use mathlib.Core.List.{List, [], _∷_, _++_, append-assoc}
+use mathlib.Core.Bool.{Bool, true, false, cond, not, _||_}
 use Prim.Native.Nat.{ℕ, zero, suc, _≤_, _<_}
 use native.Mathlib.Omega.{arith}
 use borrow.Author.Tests.{ltb-false}
+use lib.Dec.{ltb, eqb}
 use lib.IntN.{pos, negsuc}
-use lib.ListN.{length}
+use lib.ListN.{length, getD}
 use Rattle.maxplus.specs.Entry.{E, absent, num, val}
-use Rattle.sheet.specs.Sheet.{Got, got, refused, _>>=_, size, entry, mark, out-of-range, no-size, absent?, any, checked, row, table, Sheet}
+use Rattle.sheet.specs.Sheet.{Got, got, refused, _>>=_, Rule, size, entry, mark, out-of-range, no-size, absent?, any, checked}
+
+-- ---- members that pass a test
+pub true-not-false : true ≡ false → ⊥
+true-not-false e = let z : _≡_ {A = ℕ} 0 1 = cc in omega arith
 
 pub none-or : (t u : Bool) → t || u ≡ false → (t ≡ false) × (u ≡ false)
 none-or true u e = (e, cc)
 none-or false u e = (refl, e)
+
+or-true : (t u : Bool) → u ≡ true → t || u ≡ true
+or-true true u e = refl
+or-true false u e = e
+
+module _ {A : Type 0} (f : A → Bool) (d : A) where
+  pub none-at : (l : List A) (j : ℕ) → any f l ≡ false → j < length l → f (getD l j d) ≡ false
+  unfolding any
+  none-at [] j e h = absurd (let x : ⊥ = omega arith in x)
+  none-at (a ∷ l) zero e h = none-or (f a) (any f l) e .0
+  none-at (a ∷ l) (suc j) e h = none-at l j (none-or (f a) (any f l) e .1) (omega arith)
+
+  pub any-none : (l : List A) → ((j : ℕ) → j < length l → f (getD l j d) ≡ false) → any f l ≡ false
+  unfolding any
+  any-none [] h = refl
+  any-none (a ∷ l) h = rw (h 0 (omega arith)) (any-none l (λ j q. h (suc j) (omega arith)))
+
+  pub any-at : (l : List A) (j : ℕ) → j < length l → f (getD l j d) ≡ true → any f l ≡ true
+  unfolding any
+  any-at [] j h e = absurd (let x : ⊥ = omega arith in x)
+  any-at (a ∷ l) zero h e = rw e
+  any-at (a ∷ l) (suc j) h e = or-true (f a) (any f l) (any-at l j (omega arith) e)
+
+  pub at-any : (l : List A) → any f l ≡ true → (j : ℕ) × (j < length l) × (f (getD l j d) ≡ true)
+  unfolding any
+  at-any [] e = absurd (true-not-false (sym e))
+  at-any (a ∷ l) e = go (f a) refl e (at-any l)
+    where
+      go : (t : Bool) → f a ≡ t → t || any f l ≡ true → (any f l ≡ true → (j : ℕ) × (j < length l) × (f (getD l j d) ≡ true)) →
+          (j : ℕ) × (j < length (a ∷ l)) × (f (getD (a ∷ l) j d) ≡ true)
+      go true p q ih = (0, omega arith, p)
+      go false p q ih = let (j, h, r) = ih q in (suc j, omega arith, r)
 
 -- ---- what was read was not refused
 pub not-got : {A : Type 0} {k : ℕ} {a : A} {s : List ℕ} → refused k ≡ got a s → ⊥
@@ -23,60 +61,66 @@ pub bind-got : {A B : Type 0} (g : Got A) {f : A → List ℕ → Got B} {b : B}
 bind-got (got a x) e = (a, x, refl, e)
 bind-got (refused k) e = absurd (not-got e)
 
-pub passed : {A : Type 0} (b : Bool) (k : ℕ) (g : Got A) {a : A} {s : List ℕ} → cond b (refused k) g ≡ got a s → (b ≡ false) × (g ≡ got a s)
-passed true k g e = absurd (not-got e)
-passed false k g e = (refl, e)
+module _ {A : Type 0} where
+  pub passed : (b : Bool) (k : ℕ) (g : Got A) {a : A} {s : List ℕ} → cond b (refused k) g ≡ got a s → (b ≡ false) × (g ≡ got a s)
+  passed true k g e = absurd (not-got e)
+  passed false k g e = (refl, e)
 
--- ---- lines without fault
-pub entry-good : (es : List E) (s : List ℕ) → checked entry es s ≡ got es s → any out-of-range es ≡ false
+  -- ---- what was read, in front of what is left
+  abbrev pub onto : List A → Got (List A) → Got (List A)
+  onto t (got u s) = got (t ++ u) s
+  onto t (refused k) = refused k
+
+  pub onto-onto : (t u : List A) (g : Got (List A)) → onto t (onto u g) ≡ onto (t ++ u) g
+  onto-onto t u (got v s) = ap (λ w. got w s) (sym (append-assoc t u v))
+  onto-onto t u (refused k) = refl
+
+  pub onto-nil : (g : Got (List A)) → onto [] g ≡ g
+  onto-nil (got u s) = refl
+  onto-nil (refused k) = refl
+
+  pub front : (a : A) (g : Got (List A)) → (g >>= λ l s. got (a ∷ l) s) ≡ onto (a ∷ []) g
+  front a (got l s) = refl
+  front a (refused k) = refl
+
+  -- ---- a list with one more at its end
+  pub at-last : (l : List A) (a d : A) → getD (l ++ a ∷ []) (length l) d ≡ a
+  at-last [] a d = refl
+  at-last (b ∷ l) a d = at-last l a d
+
+  pub at-other : (l : List A) (a d : A) (j : ℕ) → ¬ (j ≡ length l) → getD l j d ≡ getD (l ++ a ∷ []) j d
+  at-other [] a d zero h = absurd (h refl)
+  at-other [] a d (suc j) h = refl
+  at-other (b ∷ l) a d zero h = refl
+  at-other (b ∷ l) a d (suc j) h = at-other l a d j (λ x. h (ap suc x))
+
+-- ---- entries that pass their line's rule
+abbrev pub Passes : Rule → List E → Type 0
+Passes size es = (any absent? es ≡ false) × (any no-size es ≡ false)
+Passes entry es = any out-of-range es ≡ false
+Passes mark es = (any out-of-range es ≡ false) × (any absent? es ≡ false)
+
+pub checked-passes : (r : Rule) (es : List E) (s : List ℕ) {fs : List E} {x : List ℕ} → checked r es s ≡ got fs x →
+    Passes r es × (got es s ≡ got fs x)
 unfolding checked
-entry-good es s e = passed (any out-of-range es) 4 (got es s) e .0
+checked-passes size es s e =
+    let (a, f) = passed (any absent? es) 2 (cond (any no-size es) (refused 3) (got es s)) e in
+    let (b, g) = passed (any no-size es) 3 (got es s) f in
+    ((a, b), g)
+checked-passes entry es s e = passed (any out-of-range es) 4 (got es s) e
+checked-passes mark es s e =
+    let (a, f) = passed (any out-of-range es) 4 (cond (any absent? es) (refused 5) (got es s)) e in
+    let (b, g) = passed (any absent? es) 5 (got es s) f in
+    ((a, b), g)
 
-pub mark-good : (es : List E) (s : List ℕ) → checked mark es s ≡ got es s → any absent? es ≡ false
-unfolding checked
-mark-good es s e = passed (any absent? es) 5 (got es s) (passed (any out-of-range es) 4 _ e .1) .0
+pub there : (e : E) → absent? e ≡ false → e ≡ num (val e)
+unfolding val
+there absent h = absurd (true-not-false h)
+there (num z) h = refl
 
-size-good : (es : List E) (s : List ℕ) → checked size es s ≡ got es s → (any absent? es ≡ false) × (any no-size es ≡ false)
-unfolding checked
-size-good es s e = let p = passed (any absent? es) 2 _ e in (p .0, passed (any no-size es) 3 (got es s) (p .1) .0)
-
-true-not-false : true ≡ false → ⊥
-true-not-false e = let z : _≡_ {A = ℕ} 0 1 = cc in omega arith
-
--- a good size line has one number, 1 to 6
-not-absent : any absent? (absent ∷ []) ≡ false → ⊥
-unfolding any
-not-absent e = true-not-false e
-
-not-negative : (n : ℕ) → any no-size (num (negsuc n) ∷ []) ≡ false → ⊥
-unfolding any
-not-negative n e = true-not-false e
-
-not-zero : any no-size (num (pos zero) ∷ []) ≡ false → ⊥
-unfolding any
-not-zero e = true-not-false e
-
-at-most-six : (m : ℕ) → any no-size (num (pos (suc m)) ∷ []) ≡ false → suc m ≤ 6
-unfolding any
-at-most-six m e = ltb-false 6 (suc m) (none-or _ _ (none-or _ _ e .0) .0)
-
-pub one-size : (es : List E) → length es ≡ 1 → (s : List ℕ) → checked size es s ≡ got es s → (m : ℕ) × (es ≡ num (pos (suc m)) ∷ []) × (suc m ≤ 6)
-one-size [] h s g = absurd (let e : ⊥ = omega arith in e)
-one-size (a ∷ b ∷ es) h s g = absurd (let e : ⊥ = omega arith in e)
-one-size (absent ∷ []) h s g = absurd (not-absent (size-good (absent ∷ []) s g .0))
-one-size (num (negsuc n) ∷ []) h s g = absurd (not-negative n (size-good (num (negsuc n) ∷ []) s g .1))
-one-size (num (pos zero) ∷ []) h s g = absurd (not-zero (size-good (num (pos zero) ∷ []) s g .1))
-one-size (num (pos (suc m)) ∷ []) h s g = (m, refl, at-most-six m (size-good (num (pos (suc m)) ∷ []) s g .1))
-
--- ---- the due marks, all present
-pub row-present : (es : List E) (j : ℕ) → any absent? es ≡ false → j < length es → row es j ≡ num (val (row es j))
-unfolding any row val
-row-present [] j g h = let x : ⊥ = omega arith in absurd x
-row-present (absent ∷ es) j g h = absurd (true-not-false g)
-row-present (num z ∷ es) zero g h = refl
-row-present (num z ∷ es) (suc j) g h = row-present es j g (omega arith)
-
--- ---- the parts of a sheet
-abbrev pub sheet-of : ℕ → ℕ → List (List E) → List E → List E → List (List E) → Sheet
-sheet-of m n lag floor due after =
-    record { panels = m; triggers = n; lag = table lag; floor = row floor; due = λ j. val (row due j); after = table after }
+-- a good size is a number 1 to 6
+pub size-there : (e : E) → absent? e ≡ false → no-size e ≡ false → (m : ℕ) × (e ≡ num (pos (suc m))) × (suc m ≤ 6)
+size-there absent h g = absurd (true-not-false h)
+size-there (num (negsuc n)) h g = absurd (true-not-false g)
+size-there (num (pos zero)) h g = absurd (true-not-false g)
+size-there (num (pos (suc m))) h g = (m, refl, ltb-false 6 (suc m) (none-or (ltb 6 (suc m)) (eqb (suc m) 0) g .0))

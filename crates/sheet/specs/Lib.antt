@@ -4,4 +4,5 @@ pub mod Sheet
 pub mod Sizes
 pub mod Meaning
 pub mod Cue
+pub mod Good
 pub mod Ordered

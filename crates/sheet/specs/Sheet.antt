@@ -2,8 +2,9 @@
 use mathlib.Core.List.{List, [], _∷_}
 use mathlib.Core.Bool.{Bool, false, cond, not, _&&_, _||_}
 use Prim.Native.Nat.{ℕ, zero, suc, _+_, _-_, _*_}
+use Prim.Native.String.{String}
 use lib.Dec.{leb, ltb, eqb}
-use lib.ListN.{length}
+use lib.ListN.{length, getD}
 use lib.IntN.{ℤ, pos}
 use Rattle.maxplus.specs.Whole.{up, dn, neg}
 use Rattle.maxplus.specs.Entry.{E, absent, num, val, present?}
@@ -114,15 +115,60 @@ rows key r zero k s = got [] s
 rows key r (suc i) k s = line key r k s >>= λ es s. rows key r i k s >>= λ t s. got (es ∷ t) s
 
 -- the i-th of a list of entries, counted from 0, absent past the last; "the i-th lag or after line is row i"
-unfoldable pub row : List E → Vec
-row [] j = absent
-row (e ∷ es) zero = e
-row (e ∷ es) (suc j) = row es j
+abbrev pub row : List E → Vec
+row es j = getD es j absent
 
-unfoldable pub table : List (List E) → Mat
-table [] i = row []
-table (es ∷ t) zero = row es
-table (es ∷ t) (suc i) = table t i
+abbrev pub table : List (List E) → Mat
+table t i = row (getD t i [])
+
+-- A kind of line: its key, what its items may be, how many lines, how many items in each.
+pub record Section : Type 0 where
+  pub key : List ℕ
+  pub rule : Rule
+  pub lines : ℕ
+  pub items : ℕ
+
+abbrev pub kind : String → Rule → ℕ → ℕ → Section
+kind key r lines items = record { key = bytes key; rule = r; lines = lines; items = items }
+
+-- "Lines in order: panels, triggers, m lines lag, floor, due, n lines after. A lag, due or after line has n items, the floor line m, a size
+-- line one"
+abbrev pub sizes : List Section
+sizes = kind "panels=" size 1 1 ∷ kind "triggers=" size 1 1 ∷ []
+
+abbrev pub tables : ℕ → ℕ → List Section
+tables m n = kind "lag=" entry m n ∷ kind "floor=" entry 1 m ∷ kind "due=" mark 1 n ∷ kind "after=" entry n n ∷ []
+
+-- their places, counted from 0
+abbrev pub panels-line : ℕ
+panels-line = 0
+
+abbrev pub triggers-line : ℕ
+triggers-line = 1
+
+abbrev pub lag-lines : ℕ
+lag-lines = 0
+
+abbrev pub floor-line : ℕ
+floor-line = 1
+
+abbrev pub due-line : ℕ
+due-line = 2
+
+abbrev pub after-lines : ℕ
+after-lines = 3
+
+-- the lines of one kind, as rows; of one kind after the other
+abbrev pub section : Section → List ℕ → Got (List (List E))
+section k s = rows (k .key) (k .rule) (k .lines) (k .items) s
+
+unfoldable pub sections : List Section → List ℕ → Got (List (List (List E)))
+sections [] s = got [] s
+sections (k ∷ ks) s = section k s >>= λ t s. sections ks s >>= λ ts s. got (t ∷ ts) s
+
+-- the rows of the k-th kind, none past the last
+abbrev pub part : List (List (List E)) → ℕ → List (List E)
+part ts k = getD ts k []
 
 pub record Sheet : Type 0 where
   pub panels : ℕ
@@ -133,38 +179,35 @@ pub record Sheet : Type 0 where
   pub after : Mat
 
 -- a size line's one number
-abbrev pub count : List E → ℕ
-count es = up (val (row es 0))
+abbrev pub count : List (List E) → ℕ
+count t = up (val (table t 0 0))
 
--- "After the lines: bytes left over are 2; then 6: a panel with no lag; then 7: no floor at all."
-abbrev pub finished : List (List E) → List E → Sheet → List ℕ → Got Sheet
-finished lag floor t (b ∷ s) = refused 2
-finished lag floor t [] = cond (any (all absent?) lag) (refused 6) (cond (all absent? floor) (refused 7) (got t []))
-
--- "Lines in order: panels, triggers, m lines lag, floor, due, n lines after. A lag, due or after line has n items, the floor line m, a size
--- line one"
-unfoldable pub tables : ℕ → ℕ → List ℕ → Got Sheet
-tables m n s =
-    rows (bytes "lag=") entry m n s >>= λ lag s.
-    line (bytes "floor=") entry m s >>= λ floor s.
-    line (bytes "due=") mark n s >>= λ due s.
-    rows (bytes "after=") entry n n s >>= λ after s.
-    finished lag floor
-    (record {
+-- The tables of a sheet. The rows of a kind are used here and in the refusals below, nowhere else.
+abbrev pub sheet-of : ℕ → ℕ → List (List (List E)) → Sheet
+sheet-of m n ts =
+    record {
       panels = m;
       triggers = n;
-      lag = table lag;
-      floor = row floor;
-      due = λ j. val (row due j);
-      after = table after;
-    })
-    s
+      lag = table (part ts lag-lines);
+      floor = table (part ts floor-line) 0;
+      due = λ j. val (table (part ts due-line) 0 j);
+      after = table (part ts after-lines);
+    }
+
+-- "After the lines: bytes left over are 2; then 6: a panel with no lag; then 7: no floor at all."
+abbrev pub finished : ℕ → ℕ → List (List (List E)) → List ℕ → Got Sheet
+finished m n ts (b ∷ s) = refused 2
+finished m n ts [] =
+    cond (any (all absent?) (part ts lag-lines)) (refused 6)
+    (cond (any (all absent?) (part ts floor-line)) (refused 7)
+    (got (sheet-of m n ts) []))
+
+-- the rest of a sheet with m panels and n triggers
+abbrev pub sized : ℕ → ℕ → List ℕ → Got Sheet
+sized m n s = sections (tables m n) s >>= λ ts s. finished m n ts s
 
 unfoldable pub lines : List ℕ → Got Sheet
-lines s =
-    line (bytes "panels=") size 1 s >>= λ p s.
-    line (bytes "triggers=") size 1 s >>= λ q s.
-    tables (count p) (count q) s
+lines s = sections sizes s >>= λ ps s. sized (count (part ps panels-line)) (count (part ps triggers-line)) s
 
 -- "1: over 2,048 bytes. Then line by line"
 unfoldable pub read : List ℕ → Got Sheet

@@ -42,8 +42,8 @@ module _ {s : E} {y : Vec} {before : List ℕ} where
   pub raising-none : length before ≡ 6 → Raising s y before before 0
   raising-none z = record { size = z; done = λ i h. let e : ⊥ = omega arith in absurd e; later = λ i h. refl }
 
-  pub raising-more : {r : List ℕ} {j : ℕ} (t v : ℕ) → j < 6 → Raising s y before r j → entry t ≡ s ⊗ y j → entry v ≡ entry t ⊕ entry (getD r j 0) →
-      Raising s y before (set r j v) (j + 1)
+  pub raising-more : {r : List ℕ} {j : ℕ} (t v : ℕ) → j < 6 → Raising s y before r j → entry t ≡ s ⊗ y j →
+      entry v ≡ entry t ⊕ entry (getD r j 0) → Raising s y before (set r j v) (j + 1)
   unfolding meantV
   raising-more {r} {j} t v h k e f = record {
     size = simp length-set (k .size);
@@ -85,7 +85,8 @@ pub meant-within : {m n c : ℕ} {t : List (List ℕ)} → Closely m n c t → (
 unfolding meant
 meant-within {c} h i j hi hj = within-close c _ (h .at i j hi hj)
 
-pub closely-withinV : {n c k l : ℕ} {x : Vec} {w : List ℕ} → k ≤ c → l ≤ c → HoldsV n x w → ((j : ℕ) → j < n → Within k l (x j)) → CloselyV n c w
+pub closely-withinV : {n c k l : ℕ} {x : Vec} {w : List ℕ} → k ≤ c → l ≤ c → HoldsV n x w →
+    ((j : ℕ) → j < n → Within k l (x j)) → CloselyV n c w
 unfolding meantV
 closely-withinV {c} p q h w = record { at = λ j hj. close-within c _ (h .at j hj) p q (w j hj) }
 

@@ -1,7 +1,7 @@
 -- Laws of counting: how many fixings and selections there are hangs on the triggers left alone, and what is remembered stays so.
 use mathlib.Core.Path.{_≡_, refl, ap, ap₂, sym, _∙_}
 use mathlib.Core.List.{List, [], _∷_, _++_}
-use Prim.Native.Nat.{ℕ, zero, suc, _+_, _-_, _*_, _<_, _≤_}
+use Prim.Native.Nat.{ℕ, zero, suc, _+_, _-_, _<_, _≤_}
 use native.Mathlib.Omega.{arith}
 use native.Mathlib.Decide.{ℕ-discrete}
 use lib.Bits.{bitAnd}
@@ -9,14 +9,15 @@ use lib.Count.{trailingZeros}
 use lib.ListN.{length, getD, set, replicate, getD-replicate, length-set, length-append}
 use lib.Seq.{getD-set-same, getD-set-other}
 use Rattle.tables.proofs.Loops.{blank-word}
-use Rattle.masks.specs.Trace.{Event, fixing, whole, bitsFrom, members, forEach, cut, serves, walkFrom, walkOf, fixings, selections, Masks}
+use Rattle.trigger_sets.specs.Sets.{members}
+use Rattle.walk.specs.Trace.{Event, fixing, whole, forEach, cut, serves, walkFrom, walkOf, fixings, selections, Masks}
 use Rattle.walk.specs.State.{countsOf}
 use Rattle.walk.specs.declared.Counts.{Counts}
-use Rattle.masks.proofs.Bytes.{members-split, members-none, cut-small}
-use Rattle.masks.proofs.Small.{set-below}
+use Rattle.trigger_sets.proofs.MemberLaws.{members-split, members-none, members-few}
+use Rattle.walk.proofs.NarrowLaws.{cut-small}
 use Rattle.walk.proofs.TraceLaws.{fixings-append, selections-append, selections-few}
-use Rattle.walk.proofs.Whole.{bits-few, forEach-few, most, most-few}
-use Rattle.tally.specs.Counting.{row, SameFrom, CutBelow, ahead, tried, Remembered, Ready, Counted}
+use Rattle.walk.proofs.Whole.{forEach-few, levels-few, most, most-few}
+use Rattle.tally.specs.Counting.{row, SameFrom, CutBelow, ahead, tried, Remembered, CountReady, Counted}
 
 -- ---- as many fixings and as many selections
 pub record Alike (a b : List Event) : Type 0 where
@@ -55,12 +56,6 @@ walk-alike gains (suc l) i o p q r e = rw (e i (omega arith) (omega arith)) (ali
     (walk-alike gains l (suc i) _ _ _ _ (λ k a b. ap (cut j (serves gains i j k)) (e k (omega arith) (omega arith))))))
 
 -- ---- how many there are at most
-walk-least : (gains : List (List ℕ)) (l i : ℕ) (o : ℕ → ℕ) (q : List ℕ) → length (walkFrom gains l i o q) ≤ most l
-unfolding walkFrom most members
-walk-least gains zero i o q = omega arith
-walk-least gains (suc l) i o q = forEach-few 6 (suc (most l)) (members (o i)) _ (bits-few 6 0 (o i))
-    (λ j. let r = walk-least gains l (suc i) (λ k. cut j (serves gains i j k) (o k)) (q ++ j ∷ []) in omega arith)
-
 fixings-few : (es : List Event) → fixings es ≤ length es
 unfolding fixings
 fixings-few [] = omega arith
@@ -88,10 +83,11 @@ module _ (gains : List (List ℕ)) (f : ℕ) where
     tried-more m h k = rw (members-split m h k)
 
     tried-few : (m : ℕ) → length (tried gains f l masks m) ≤ 615858
-    unfolding tried members
-    tried-few m = let k = most-few (f - (l + 1)) (omega arith) in
-        let r : length (tried gains f l masks m) ≤ 6 * suc (most (f - (l + 1))) = forEach-few 6 (suc (most (f - (l + 1)))) (bitsFrom 6 0 m) (λ j. fixing ∷ under j) (bits-few 6 0 m)
-        (λ j. let r = walk-least gains (f - (l + 1)) (l + 1) (λ k. cut j (serves gains l j k) (getD masks k 0)) (j ∷ []) in omega arith) in
+    unfolding tried
+    tried-few m =
+        let k = most-few (f - (l + 1)) (omega arith) in
+        let r = forEach-few 6 (suc (most (f - (l + 1)))) (members m) (λ j. fixing ∷ under j) (members-few m)
+        (λ j. let r = levels-few gains (f - (l + 1)) (l + 1) (λ k. cut j (serves gains l j k) (getD masks k 0)) (j ∷ []) in omega arith) in
         omega arith
 
 -- ---- the loops: the levels from l up to k have been compared, and cut
@@ -113,6 +109,14 @@ same-end s h = record { at = λ i j k. s .at i j (omega arith) }
 
 pub not-same : {a b : List ℕ} {l k : ℕ} → SameTo a b l k → k < 6 → ¬ (getD a k 0 ≡ getD b k 0) → ¬ (SameFrom a b l)
 not-same {k = k} s h d f = d (f .at k (s .from) h)
+
+-- a list whose entries are all below a bound stays so
+set-below : (b : ℕ) (l : List ℕ) (i v : ℕ) → ((k : ℕ) → getD l k 0 < b) → v < b → (k : ℕ) → getD (set l i v) k 0 < b
+set-below b [] i v h hv k = h k
+set-below b (a ∷ l) zero v h hv zero = hv
+set-below b (a ∷ l) zero v h hv (suc k) = h (suc k)
+set-below b (a ∷ l) (suc i) v h hv zero = h 0
+set-below b (a ∷ l) (suc i) v h hv (suc k) = set-below b l i v (λ k. h (suc k)) hv k
 
 pub record CutTo (gains : List (List ℕ)) (masks : List ℕ) (l j : ℕ) (r : List ℕ) (k : ℕ) : Type 0 where
   pub from : l < k
@@ -152,12 +156,15 @@ module _ {gains : List (List ℕ)} {f : ℕ} where
     size = (refl, refl, refl);
     at = λ l h. let z : row (replicate 6 (replicate 6 0)) l ≡ replicate 6 0 = getD-replicate 6 l (replicate 6 0) [] (omega arith) in
         let e : ahead gains f l (row (replicate 6 (replicate 6 0)) l) ≡ [] = ap (ahead gains f l) z ∙ ahead-tried gains f few h (replicate 6 0) ∙
-        ap (tried gains f l (replicate 6 0)) (zero-at l) ∙ tried-none gains f few h (replicate 6 0) in
-        (zero-at l ∙ sym (ap fixings e ∙ (unfold fixings in refl)), zero-at l ∙ sym (ap (λ es. length (selections es)) e ∙ (unfold selections in refl)));
+        ap (tried gains f l (replicate 6 0)) (zero-at l) ∙ tried-none gains f few h (replicate 6 0) in (
+          zero-at l ∙ sym (ap fixings e ∙ (unfold fixings in refl)),
+          zero-at l ∙
+              sym (ap (λ es. length (selections es)) e ∙ (unfold selections in refl)),
+        );
   }
 
   -- ---- from a level on
-  module _ {seen : List (List ℕ)} {steps sels masks : List ℕ} (y : Ready gains f seen steps sels masks) where
+  module _ {seen : List (List ℕ)} {steps sels masks : List ℕ} (y : CountReady gains f seen steps sels masks) where
     pub counted-whole : {l : ℕ} → l ≡ f → Counted gains f (ahead gains f l masks) (record { steps = 0; selections = 1 }) seen steps sels
     unfolding ahead walkFrom
     counted-whole {l} e = let z : f - l ≡ 0 = omega arith in record {
@@ -208,8 +215,8 @@ module _ {gains : List (List ℕ)} {f : ℕ} where
       z = t .remembered .size
 
   -- ---- a level's triggers: none, and one before the others
-  pub counted-none : {l : ℕ} (masks : List ℕ) {seen : List (List ℕ)} {steps sels : List ℕ} → f ≤ 6 → l < f → Remembered gains f seen steps sels →
-      Counted gains f (tried gains f l masks 0) (record { steps = 0; selections = 0 }) seen steps sels
+  pub counted-none : {l : ℕ} (masks : List ℕ) {seen : List (List ℕ)} {steps sels : List ℕ} → f ≤ 6 → l < f →
+      Remembered gains f seen steps sels → Counted gains f (tried gains f l masks 0) (record { steps = 0; selections = 0 }) seen steps sels
   counted-none {l} masks few h r = record {
     steps-are = sym (ap fixings (tried-none gains f few h masks) ∙ (unfold fixings in refl));
     selections-are = sym (ap (λ es. length (selections es)) (tried-none gains f few h masks) ∙ (unfold selections in refl));

@@ -3,7 +3,8 @@ use mathlib.Core.Path.{_≡_}
 use mathlib.Core.List.{List, [], _∷_}
 use Prim.Native.Nat.{ℕ, _+_, _-_, _<_, _≤_}
 use lib.ListN.{length, getD}
-use Rattle.masks.specs.Trace.{Event, fixing, members, forEach, cut, serves, walkFrom, fixings, selections, Masks}
+use Rattle.trigger_sets.specs.Sets.{members}
+use Rattle.walk.specs.Trace.{Event, fixing, forEach, cut, serves, walkFrom, fixings, selections, Masks}
 use Rattle.walk.specs.declared.Counts.{Counts}
 
 abbrev pub row : List (List ℕ) → ℕ → List ℕ
@@ -36,7 +37,7 @@ module _ (gains : List (List ℕ)) where
       pub at : (l : ℕ) → l < f →
           (getD steps l 0 ≡ fixings (ahead l (row seen l))) × (getD sels l 0 ≡ length (selections (ahead l (row seen l))))
 
-    pub record Ready (seen : List (List ℕ)) (steps sels masks : List ℕ) : Type 0 where
+    pub record CountReady (seen : List (List ℕ)) (steps sels masks : List ℕ) : Type 0 where
       pub few : f ≤ 6
       pub small : Masks masks
       pub size : length masks ≡ 6

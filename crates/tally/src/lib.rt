@@ -5,18 +5,14 @@ ghost use mathlib.Core.Path.{_≡_};
 ghost use Prim.Native.Nat.{_≤_, _<_};
 ghost use lib.ListN.{length};
 ghost use Rattle.tables.specs.Held.{Says};
-ghost use Rattle.masks.specs.Trace.{Masks};
+ghost use Rattle.walk.specs.Trace.{Masks};
 ghost use Rattle.walk.specs.State.{countsOf};
-ghost use Rattle.tally.specs.Counting.{CutBelow, SameFrom, Ready, Counted, ahead, tried};
-use masks::cut_by;
-use masks::low;
+ghost use Rattle.tally.specs.Counting.{CutBelow, SameFrom, CountReady, Counted, ahead, tried};
+use trigger_sets::low;
+use trigger_sets::others;
+use trigger_sets::wide;
 use walk::Counts;
-
-fn wide(x: u8) -> usize
-    ensures { λ r. ⌜ r ≡ x ⌝ }
-{
-    x as usize
-}
+use walk::narrowing::cut_by;
 
 // The triggers left to all levels when trigger j has been fixed at one.
 fn cut_below(masks: [u8; 6], gains: &[[u64; 6]; 6], level: usize, j: usize) -> [u8; 6]
@@ -57,7 +53,7 @@ fn below(
     panels: usize,
     gains: &[[u64; 6]; 6],
 ) -> Counts
-    requires { ⌜ Ready (now gains) panels (now seen) (now steps) (now selections) masks × (level ≤ panels) ⌝ }
+    requires { ⌜ CountReady (now gains) panels (now seen) (now steps) (now selections) masks × (level ≤ panels) ⌝ }
     ensures { λ r. ⌜ Counted (now (gains .entry)) panels (ahead (now (gains .entry)) panels level masks) r
         (now (seen .exit)) (now (steps .exit)) (now (selections .exit)) ⌝ }
 {
@@ -100,7 +96,7 @@ fn each(
     panels: usize,
     gains: &[[u64; 6]; 6],
 ) -> Counts
-    requires { ⌜ Ready (now gains) panels (now seen) (now steps) (now selections) masks × (level < panels) × (m < 64) ⌝ }
+    requires { ⌜ CountReady (now gains) panels (now seen) (now steps) (now selections) masks × (level < panels) × (m < 64) ⌝ }
     ensures { λ r. ⌜ Counted (now (gains .entry)) panels (tried (now (gains .entry)) panels level masks m) r
         (now (seen .exit)) (now (steps .exit)) (now (selections .exit)) ⌝ }
 {
@@ -110,21 +106,13 @@ fn each(
             selections: 0,
         };
     }
+    let rest = others(m);
     let cut = cut_below(masks, gains, level, wide(low(m)));
     let first = below(seen, steps, selections, level + 1, cut, panels, gains);
-    let others = each(
-        seen,
-        steps,
-        selections,
-        level,
-        masks,
-        m & (m - 1),
-        panels,
-        gains,
-    );
+    let after = each(seen, steps, selections, level, masks, rest, panels, gains);
     Counts {
-        steps: 1 + first.steps + others.steps,
-        selections: first.selections + others.selections,
+        steps: 1 + first.steps + after.steps,
+        selections: first.selections + after.selections,
     }
 }
 

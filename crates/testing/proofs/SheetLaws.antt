@@ -10,7 +10,8 @@ use Rattle.cue.specs.Method.{least}
 use Rattle.words.specs.Words.{entry}
 use Rattle.timing.specs.Deviation.{SheetClose}
 use Rattle.timing.specs.Test.{SheetWords, Tested}
-use Rattle.sheet.specs.Sheet.{Sheet, limit}
+use Rattle.sheet.specs.Sheet.{Sheet}
+use Rattle.sheet.specs.Sizes.{order-limit}
 use Rattle.sheet.specs.Meaning.{Timing, Tightest}
 use Rattle.sheet.specs.Cue.{cue-size, cue-of}
 use Rattle.sheet.proofs.Seam.{tightest-cue}
@@ -48,7 +49,8 @@ over-seam t X true h = tightest-cue t X .1 h
 over-seam t X false h = λ g. h (tightest-cue t X .0 g)
 
 module _ {s : Sheet} {orders lags stars gains needs : List (List ℕ)} {r : Prepared} (M : Made s orders lags stars gains needs r) where
-  pub tested-asks : SheetClose (r .cue .panels) (r .cue .triggers) lags (r .cue .floor) (r .cue .due) × Closely (r .cue .triggers) (r .cue .triggers) limit orders
+  pub tested-asks : SheetClose (r .cue .panels) (r .cue .triggers) lags (r .cue .floor) (r .cue .due) ×
+      Closely (r .cue .triggers) (r .cue .triggers) order-limit orders
   tested-asks = (sheet-close (M .held), orders-close (M .held))
 
   pub tested-says : (X : Timing) (v : Bool) →

@@ -109,6 +109,7 @@ back Yes = refl
 back No = refl
 back (Refused k) = refl
 
-pub tested-one : (s : List ℕ) (count : ℕ) (X : ℕ → ℤ) (q r : Tested) → Testing s count X (test-answer q) → Testing s count X (test-answer r) → q ≡ r
+pub tested-one : (s : List ℕ) (count : ℕ) (X : ℕ → ℤ) (q r : Tested) → Testing s count X (test-answer q) →
+    Testing s count X (test-answer r) → q ≡ r
 unfolding Testing
 tested-one s count X q r a b = sym (back q) ∙ ap tested-as (tests-one (read s) count X _ _ a b) ∙ back r

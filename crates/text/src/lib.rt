@@ -8,6 +8,7 @@ ghost use Rattle.maxplus.specs.Finite.{each};
 ghost use Rattle.maxplus.specs.Line.{Line};
 ghost use Rattle.writing.specs.Texts.{plan-text, kept-text, refusal-text, full-text};
 ghost use Rattle.writing.specs.Writing.{Writes, Stands};
+ghost use Rattle.cue.specs.Written.{line-size};
 use crate::lines::put_lines;
 use crate::lines::put_panels;
 use writing::natural_field;
@@ -31,9 +32,10 @@ pub fn plan_text(
     words: &[i32],
     count: usize,
 ) -> usize
-    requires { ⌜ (100 * count + 200 ≤ length (now out)) × (n ≤ 6) × (7 * count ≤ length (now words)) ⌝ }
+    requires { ⌜ (100 * count + 200 ≤ length (now out)) × (n ≤ 6) × (line-size * count ≤ length (now words)) ⌝ }
     ensures within { λ r. ⌜ r ≤ length (now (out .exit)) ⌝ }
-    ensures text { λ r. ⌜ ((L : List (Line n)) → Stands n count (now (words .entry)) L → take r (now (out .exit)) ≡ plan-text n deviation steps selections L) ⌝ }
+    ensures text { λ r. ⌜ ((L : List (Line n)) → Stands n count (now (words .entry)) L →
+        take r (now (out .exit)) ≡ plan-text n deviation steps selections L) ⌝ }
 {
     let mut end = number_field(out, 0, b"deviation=", deviation);
     end = natural_field(out, end, b"steps=", steps);

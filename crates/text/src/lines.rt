@@ -6,6 +6,8 @@ ghost use Rattle.maxplus.specs.Finite.{each};
 ghost use Rattle.writing.specs.Numerals.{item};
 ghost use Rattle.writing.specs.Texts.{line-texts, panel-texts};
 ghost use Rattle.writing.specs.Writing.{Puts, entry, next-item, items, line-at, lines-of};
+ghost use Rattle.cue.specs.Written.{line-size};
+use words::LINE_SIZE;
 use writing::put_byte;
 use writing::put_bytes;
 use writing::put_item;
@@ -26,7 +28,7 @@ fn put_next_item(out: &mut [u8], at: usize, j: usize, w: i32) -> usize
 
 // The items of the line whose seven words begin at `from`: at most 12 bytes each with the comma, and put_next_item asks 25 for the sixth.
 fn put_items(out: &mut [u8], at: usize, words: &[i32], from: usize, n: usize) -> usize
-    requires { ⌜ (at + 90 ≤ length (now out)) × (n ≤ 6) × (from + 7 ≤ length (now words)) ⌝ }
+    requires { ⌜ (at + 90 ≤ length (now out)) × (n ≤ 6) × (from + line-size ≤ length (now words)) ⌝ }
     ensures { λ r. ⌜ Puts (now (out .entry)) (now (out .exit)) at r (items n (line-at n (now (words .entry)) from)) ⌝ }
     ensures short { λ r. ⌜ r ≤ at + 72 ⌝ }
 {
@@ -41,7 +43,7 @@ fn put_items(out: &mut [u8], at: usize, words: &[i32], from: usize, n: usize) ->
 
 // A line: 5 bytes of key, at most 72 of items and commas, LF.
 pub fn put_line(out: &mut [u8], at: usize, words: &[i32], from: usize, n: usize) -> usize
-    requires { ⌜ (at + 100 ≤ length (now out)) × (n ≤ 6) × (from + 7 ≤ length (now words)) ⌝ }
+    requires { ⌜ (at + 100 ≤ length (now out)) × (n ≤ 6) × (from + line-size ≤ length (now words)) ⌝ }
     ensures { λ r. ⌜ Puts (now (out .entry)) (now (out .exit)) at r (line-texts n (line-at n (now (words .entry)) from ∷ [])) ⌝ }
     ensures short { λ r. ⌜ r ≤ at + 78 ⌝ }
 {
@@ -52,13 +54,13 @@ pub fn put_line(out: &mut [u8], at: usize, words: &[i32], from: usize, n: usize)
 
 // The first `count` lines of the words, 100 bytes for each.
 pub fn put_lines(out: &mut [u8], at: usize, words: &[i32], n: usize, count: usize) -> usize
-    requires { ⌜ (at + 100 * count ≤ length (now out)) × (n ≤ 6) × (7 * count ≤ length (now words)) ⌝ }
+    requires { ⌜ (at + 100 * count ≤ length (now out)) × (n ≤ 6) × (line-size * count ≤ length (now words)) ⌝ }
     ensures { λ r. ⌜ Puts (now (out .entry)) (now (out .exit)) at r (line-texts n (lines-of n count (now (words .entry)))) ⌝ }
 {
     let mut end = at;
     let mut k: usize = 0;
     while k < count {
-        end = put_line(out, end, words, 7 * k, n);
+        end = put_line(out, end, words, LINE_SIZE * k, n);
         k += 1;
     }
     end

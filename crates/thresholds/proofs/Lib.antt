@@ -1,3 +1,2 @@
 -- Laws of bytes of kept triggers.
 pub mod StepLaws
-pub mod ByteLaws

@@ -1,46 +1,25 @@
--- Steps 2 to 4 in words: bytes of kept triggers, bit by bit and panel by panel.
+-- Steps 2 to 4 in words: kept entries, and the bytes of kept triggers, panel by panel.
 use mathlib.Core.Path.{_≡_, refl, sym, _∙_}
 use mathlib.Core.List.{List}
 use mathlib.Core.Bool.{Bool, true, false}
-use Prim.Native.Nat.{ℕ, zero, suc, _+_, _^_, _≤_, _<_}
+use Prim.Native.Nat.{ℕ, _+_, _≤_, _<_}
 use native.Mathlib.Omega.{arith}
 use native.Mathlib.Decide.{ℕ-discrete}
-use native.Mathlib.Nat.{pow-suc, pow-le-pow-right}
-use native.Mathlib.Numerals.{add-one}
-use lib.Dec.{lit<}
 use lib.ListN.{length-set, length, set, replicate}
 use lib.Seq.{getD-set-same, getD-set-other}
 use borrow.Author.Tests.{le-leb, lt-leb}
 use Rattle.maxplus.specs.Entry.{E, _⊗_, inv, leqE, present?}
-use Rattle.maxplus.specs.Finite.{sum}
 use Rattle.maxplus.specs.Tables.{Vec, Mat}
 use Rattle.words.specs.Words.{entry}
 use Rattle.words.proofs.Laws.{word-order}
-use Rattle.thresholds.specs.Steps.{reaches, kept-of, byte-of, KeptBytes}
+use Rattle.thresholds.specs.Steps.{reaches, kept-of, KeptBytes}
+use Rattle.trigger_sets.specs.Sets.{byte-of}
+use Rattle.trigger_sets.proofs.ByteLaws.{byte-empty}
 use Rattle.tables.proofs.Loops.{blank-word}
 
 -- ---- a floor less a landing
 pub short-of : (r l : ℕ) (p e : E) → entry r ≡ p ⊗ inv (entry l) → entry l ≡ e → entry r ≡ p ⊗ inv e
 short-of r l p e h g = rw (← g) h
-
--- ---- a byte, bit by bit
-pub byte-none : (b : ℕ → Bool) → 0 ≡ byte-of 0 b
-unfolding byte-of sum
-byte-none b = refl
-
-pub byte-set : (b : ℕ → Bool) (j byte bit : ℕ) → byte ≡ byte-of j b → bit ≡ 2 ^ j → b j ≡ true → byte + bit ≡ byte-of (j + 1) b
-unfolding byte-of sum
-byte-set b j byte bit e f h = rw (add-one, h, e, f)
-
-pub byte-clear : (b : ℕ → Bool) (j byte : ℕ) → byte ≡ byte-of j b → b j ≡ false → byte ≡ byte-of (j + 1) b
-unfolding byte-of sum
-byte-clear b j byte e h = rw (add-one, h) (omega arith)
-
-pub bit-more : (j bit : ℕ) → bit ≡ 2 ^ j → bit + bit ≡ 2 ^ (j + 1)
-bit-more j bit e = rw add-one (omega (arith, pow-suc 2 j))
-
-pub bit-low : (j bit : ℕ) → bit ≡ 2 ^ j → j < 6 → bit ≤ 32
-bit-low j bit e h = let k : j ≤ 5 = omega arith in let l : 2 ^ j ≤ 2 ^ 5 = pow-le-pow-right (lit< tt) k in omega arith
 
 -- ---- a kept entry, and a panel without a floor
 pub reaches-yes : (a d : ℕ) (e : E) → entry a ≡ e → a ≤ d → leqE e (entry d) ≡ true
@@ -49,11 +28,6 @@ reaches-yes a d e h l = rw (← h) (sym (word-order a d) ∙ le-leb a d l)
 pub reaches-no : (a d : ℕ) (e : E) → entry a ≡ e → d < a → leqE e (entry d) ≡ false
 reaches-no a d e h l = rw (← h) (sym (word-order a d) ∙ lt-leb a d l)
 
-sum-none : (n : ℕ) (f : ℕ → ℕ) → ((j : ℕ) → f j ≡ 0) → sum n f ≡ 0
-unfolding sum
-sum-none zero f h = refl
-sum-none (suc n) f h = rw (h n, sum-none n f h)
-
 pub floor-there : (n : ℕ) (e f a : E) (D : Mat) (u : Vec) (i r : ℕ) → present? f ≡ true → a ≡ f ⊗ inv e →
     r ≡ byte-of n (reaches a D u i) → r ≡ byte-of n (kept-of e D u f i)
 unfolding kept-of byte-of
@@ -61,7 +35,7 @@ floor-there n e f a D u i r p h q = rw (p, ← h) q
 
 pub floor-absent : (n : ℕ) (e f : E) (D : Mat) (u : Vec) (i : ℕ) → present? f ≡ false → 0 ≡ byte-of n (kept-of e D u f i)
 unfolding kept-of byte-of
-floor-absent n e f D u i p = sym (sum-none n _ (λ j. rw p))
+floor-absent n e f D u i p = sym (byte-empty n (kept-of e D u f i) (λ j. rw p))
 
 -- ---- panel by panel
 module _ (n : ℕ) (b : ℕ → ℕ → Bool) where

@@ -3,12 +3,12 @@
 use mathlib.Core.Path.{_≡_}
 use mathlib.Core.List.{List, [], _∷_}
 use mathlib.Core.Bool.{Bool, _&&_}
-use Prim.Native.Nat.{ℕ, _^_, _/_, _%_, _≤_, _<_}
-use lib.Dec.{eqb}
+use Prim.Native.Nat.{ℕ, _≤_, _<_}
 use lib.ListN.{length, getD}
 use Rattle.maxplus.specs.Entry.{E, _⊗_, inv, leqE, present?}
-use Rattle.maxplus.specs.Finite.{each, onlyIf, sum, countIf}
+use Rattle.maxplus.specs.Finite.{each, onlyIf}
 use Rattle.maxplus.specs.Tables.{sup, Vec, Mat}
+use Rattle.trigger_sets.specs.Sets.{byte-of}
 
 -- "the largest of M*(i,j) − q(i)"
 unfoldable pub pull-of : ℕ → Mat → Vec → Vec
@@ -29,13 +29,6 @@ reaches a D u i j = leqE (a ⊗ u j) (D i j)
 -- "Panels without a floor keep none."; f is p(i)
 unfoldable pub kept-of : E → Mat → Vec → E → ℕ → ℕ → Bool
 kept-of e D u f i j = present? f && reaches (f ⊗ inv e) D u i j
-
--- "six bits in a byte, bit 0 for trigger 1"
-unfoldable pub byte-of : ℕ → (ℕ → Bool) → ℕ
-byte-of n b = sum n (λ j. countIf (b j) (2 ^ j))
-
-abbrev pub bit : ℕ → ℕ → Bool
-bit m j = eqb (m / 2 ^ j % 2) 1
 
 -- the byte of each of m panels, and 0 past them
 pub record KeptBytes (m n : ℕ) (b : ℕ → ℕ → Bool) (r : List ℕ) : Type 0 where

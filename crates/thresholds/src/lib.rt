@@ -1,15 +1,16 @@
 // Steps 2 to 4: the pulls, the least deviation, and the kept triggers of each panel.
 ghost use mathlib.Core.Path.{_≡_};
 ghost use Prim.Native.Nat.{_+_, _*_, _≤_, _<_};
-ghost use lib.Count as count;
 ghost use Rattle.words.specs.Words.{entry, Close, Near};
 ghost use Rattle.sheet.specs.Sheet.{limit};
+ghost use Rattle.sheet.specs.Sizes.{star-size, through-size, mark-down, least-up, landing-size};
 ghost use Rattle.tables.specs.Held.{meant, meantV, HoldsV, Closely, CloselyV};
-ghost use Rattle.thresholds.specs.Steps.{pull-of, landing-of, least-of, reaches, kept-of, byte-of, KeptBytes};
+ghost use Rattle.trigger_sets.specs.Sets.{byte-of};
+ghost use Rattle.thresholds.specs.Steps.{pull-of, landing-of, least-of, reaches, kept-of, KeptBytes};
 
 // For each trigger the pull, "the largest of M*(i,j) − q(i)"; the mark r(j) is minus it.
 pub fn pulls(star: &[[u64; 6]; 6], due: [u64; 6], n: usize) -> [u64; 6]
-    requires { ⌜ (n ≤ 6) × Closely n n (5 * limit) (now star) × CloselyV n limit due ⌝ }
+    requires { ⌜ (n ≤ 6) × Closely n n star-size (now star) × CloselyV n limit due ⌝ }
     ensures { λ r. ⌜ HoldsV n (pull-of n (meant (now (star .entry))) (meantV due)) r ⌝ }
 {
     let mut r = [0u64; 6];
@@ -22,7 +23,7 @@ pub fn pulls(star: &[[u64; 6]; 6], due: [u64; 6], n: usize) -> [u64; 6]
 }
 
 fn pull(star: &[[u64; 6]; 6], due: [u64; 6], j: usize, n: usize) -> u64
-    requires { ⌜ (n ≤ 6) × (j < n) × Closely n n (5 * limit) (now star) × CloselyV n limit due ⌝ }
+    requires { ⌜ (n ≤ 6) × (j < n) × Closely n n star-size (now star) × CloselyV n limit due ⌝ }
     ensures { λ r. ⌜ entry r ≡ pull-of n (meant (now (star .entry))) (meantV due) j ⌝ }
 {
     let mut best: u64 = 0;
@@ -37,7 +38,7 @@ fn pull(star: &[[u64; 6]; 6], due: [u64; 6], j: usize, n: usize) -> u64
 
 // Δ: "the largest, over panels with a floor, of p(i) minus the largest d(i,j) + r(j)".
 pub fn least(through: &[[u64; 6]; 6], pulls: [u64; 6], floor: [u64; 6], m: usize, n: usize) -> u64
-    requires { ⌜ (m ≤ 6) × (n ≤ 6) × Closely m n (6 * limit) (now through) × CloselyV n (6 * limit) pulls × CloselyV m limit floor ⌝ }
+    requires { ⌜ (m ≤ 6) × (n ≤ 6) × Closely m n through-size (now through) × CloselyV n mark-down pulls × CloselyV m limit floor ⌝ }
     ensures { λ r. ⌜ entry r ≡ least-of m n (meant (now (through .entry))) (meantV pulls) (meantV floor) ⌝ }
 {
     let mut best: u64 = 0;
@@ -53,9 +54,9 @@ pub fn least(through: &[[u64; 6]; 6], pulls: [u64; 6], floor: [u64; 6], m: usize
 
 // "the largest d(i,j) + r(j)"
 fn landing(through: &[[u64; 6]; 6], pulls: [u64; 6], i: usize, n: usize) -> u64
-    requires { ⌜ (i < 6) × (n ≤ 6) × Closely (i + 1) n (6 * limit) (now through) × CloselyV n (6 * limit) pulls ⌝ }
+    requires { ⌜ (i < 6) × (n ≤ 6) × Closely (i + 1) n through-size (now through) × CloselyV n mark-down pulls ⌝ }
     ensures is { λ r. ⌜ entry r ≡ landing-of n (meant (now (through .entry))) (meantV pulls) i ⌝ }
-    ensures close { λ r. ⌜ Close (12 * limit) r ⌝ }
+    ensures close { λ r. ⌜ Close landing-size r ⌝ }
 {
     let mut best: u64 = 0;
     let mut j: usize = 0;
@@ -76,7 +77,7 @@ pub fn kept(
     m: usize,
     n: usize,
 ) -> [u8; 6]
-    requires { ⌜ (m ≤ 6) × (n ≤ 6) × CloselyV n (6 * limit) pulls × CloselyV m limit floor × Close (8 * limit) least ⌝ }
+    requires { ⌜ (m ≤ 6) × (n ≤ 6) × CloselyV n mark-down pulls × CloselyV m limit floor × Close least-up least ⌝ }
     ensures { λ r. ⌜ KeptBytes m n (λ i. kept-of (entry least) (meant (now (through .entry))) (meantV pulls) (meantV floor i) i) r ⌝ }
 {
     let mut r = [0u8; 6];
@@ -97,7 +98,7 @@ fn panel_byte(
     i: usize,
     n: usize,
 ) -> u8
-    requires { ⌜ (i < 6) × (n ≤ 6) × CloselyV n (6 * limit) pulls × Close limit floor × Close (8 * limit) least ⌝ }
+    requires { ⌜ (i < 6) × (n ≤ 6) × CloselyV n mark-down pulls × Close limit floor × Close least-up least ⌝ }
     ensures { λ r. ⌜ r ≡ byte-of n (kept-of (entry least) (meant (now (through .entry))) (meantV pulls) (entry floor) i) ⌝ }
 {
     if words::present(floor) {
@@ -109,7 +110,7 @@ fn panel_byte(
 
 // The triggers by which panel i reaches what is asked of it, as bits.
 fn reaching(through: &[[u64; 6]; 6], pulls: [u64; 6], ask: u64, i: usize, n: usize) -> u8
-    requires { ⌜ (i < 6) × (n ≤ 6) × CloselyV n (6 * limit) pulls × Near ask ⌝ }
+    requires { ⌜ (i < 6) × (n ≤ 6) × CloselyV n mark-down pulls × Near ask ⌝ }
     ensures { λ r. ⌜ r ≡ byte-of n (reaches (entry ask) (meant (now (through .entry))) (meantV pulls) i) ⌝ }
 {
     let mut byte: u8 = 0;
@@ -123,11 +124,4 @@ fn reaching(through: &[[u64; 6]; 6], pulls: [u64; 6], ask: u64, i: usize, n: usi
         j += 1;
     }
     byte
-}
-
-// "the number of bits set is reported with it"
-pub fn ones(byte: u8) -> u8
-    ensures { λ r. ⌜ r ≡ count.ones byte ⌝ }
-{
-    u8::count_ones(byte) as u8
 }

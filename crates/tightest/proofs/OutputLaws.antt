@@ -30,13 +30,15 @@ copied t before out r e f =
     let same = ap length whole in
     written (record { within = omega arith; text = rw whole (take-at t (drop (length t) before) r (sym e)) })
 
-pub answered-one : {s : List ℕ} {count : ℕ} {X : ℕ → ℤ} {o e p f : List ℕ} → Answered s count X o e → Answered s count X p f → (o ≡ p) × (e ≡ f)
+pub answered-one : {s : List ℕ} {count : ℕ} {X : ℕ → ℤ} {o e p f : List ℕ} → Answered s count X o e → Answered s count X p f →
+    (o ≡ p) × (e ≡ f)
 answered-one {s} {count} {X} a b =
     let same = tested-one s count X (a .answer) (b .answer) (a .tests) (b .tests) in
     (a .text ∙ ap tested-text same ∙ sym (b .text), a .complaint ∙ ap tested-complaint same ∙ sym (b .complaint))
 
 -- a refusal gets a sentence
-pub explained : {s : List ℕ} {count : ℕ} {X : ℕ → ℤ} {o e : List ℕ} (a : Answered s count X o e) (k : ℕ) → a .answer ≡ Refused k → 0 < length e
+pub explained : {s : List ℕ} {count : ℕ} {X : ℕ → ℤ} {o e : List ℕ} (a : Answered s count X o e) (k : ℕ) → a .answer ≡ Refused k →
+    0 < length e
 explained {s} {count} {X} a k q =
     let n = known-number s count X k (subst (λ (t : Tested). Testing s count X (test-answer t)) q (a .tests)) in
     rw (a .complaint, q) (advised k (n .0) (n .1))

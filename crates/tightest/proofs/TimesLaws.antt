@@ -144,7 +144,8 @@ item-shorter b s =
     shorter-of (eqb b 0x30) _ _ _ (omega arith)
     (shorter-of (eqb b 0x2D) _ _ _ (signed-shorter s) (shorter-of (leading b) _ _ _ (behind-shorter s) tt))
 
-item-on : (s : List ℕ) (place next : ℕ) {e : E} → item (drop place s) ≡ got e (drop next s) → place ≤ length s → next ≤ length s → place < next
+item-on : (s : List ℕ) (place next : ℕ) {e : E} → item (drop place s) ≡ got e (drop next s) → place ≤ length s → next ≤ length s →
+    place < next
 unfolding item
 item-on s place next {e} q p k = go (decLt place (length s))
   where
@@ -197,7 +198,8 @@ bind-got : {A : Type 0} (g : Got A) → g ≡ (g >>= λ a s. got a s)
 bind-got (got a s) = refl
 bind-got (refused k) = refl
 
-bind-more : (zs : List ℤ) (z : ℤ) (g : Got (List ℤ)) → ((g >>= λ more s. got (z ∷ more) s) >>= λ more s. got (zs ++ more) s) ≡ (g >>= λ more s. got ((zs ++ (z ∷ [])) ++ more) s)
+bind-more : (zs : List ℤ) (z : ℤ) (g : Got (List ℤ)) →
+    ((g >>= λ more s. got (z ∷ more) s) >>= λ more s. got (zs ++ more) s) ≡ (g >>= λ more s. got ((zs ++ (z ∷ [])) ++ more) s)
 bind-more zs z (got a s) = ap (λ l. got l s) (sym (append-assoc zs (z ∷ []) a))
 bind-more zs z (refused k) = refl
 
@@ -242,7 +244,8 @@ module _ {s : List ℕ} {at : List ℤ} {count place : ℕ} (r : ReadTo s at cou
       pub read-other : ¬ (getD s next 0 ≡ 44) → numbers (suc (length s)) s ≡ refused 2
       read-other n = at-comma false (ne-eqb _ _ n)
 
-      pub read-more : getD s next 0 ≡ 44 → {x : ℤ} → x ≡ clip z → {new : List ℤ} → new ≡ put-at at count x → ReadTo s new (count + 1) (next + 1)
+      pub read-more : getD s next 0 ≡ 44 → {x : ℤ} → x ≡ clip z → {new : List ℤ} → new ≡ put-at at count x →
+          ReadTo s new (count + 1) (next + 1)
       read-more e p f =
           let l = r .on in
           let o = g .on in

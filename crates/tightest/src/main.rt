@@ -46,7 +46,8 @@ fn complaint(tested: Tested, errors: &mut [u8; 300]) -> usize
 fn answers(bytes: &[u8], timing: Timing, out: &mut [u8; 64], errors: &mut [u8; 300]) -> Ends
     ensures { λ r. ⌜ Counts (r .text) (now (out .exit)) ⌝ }
     ensures { λ r. ⌜ Counts (r .complaint) (now (errors .exit)) ⌝ }
-    ensures { λ r. ⌜ Answered (now (bytes .entry)) (timing .count) (component (timing .at)) (take (r .text) (now (out .exit))) (take (r .complaint) (now (errors .exit))) ⌝ }
+    ensures { λ r. ⌜ Answered (now (bytes .entry)) (timing .count) (component (timing .at)) (take (r .text) (now (out .exit)))
+        (take (r .complaint) (now (errors .exit))) ⌝ }
 {
     let tested = testing::test_timing(bytes, timing);
     let text = answer(tested, out);

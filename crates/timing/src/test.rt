@@ -1,7 +1,7 @@
 // Testing a timing: whether it keeps the order and reaches the least deviation (document 01, "Testing a timing").
 ghost use mathlib.Core.Path.{_≡_};
 ghost use mathlib.Core.Bool.{false};
-ghost use Rattle.sheet.specs.Sheet.{limit};
+ghost use Rattle.sheet.specs.Sizes.{order-limit};
 ghost use Rattle.tables.specs.Held.{Closely};
 ghost use Rattle.timing.specs.Times.{component, some-beyond};
 ghost use Rattle.timing.specs.Deviation.{SheetClose};
@@ -22,7 +22,7 @@ pub fn tested(
     panels: usize,
     n: usize,
 ) -> bool
-    requires { ⌜ SheetClose panels n (now lag) floor due × Closely n n limit (now after) × (some-beyond n (component (timing .at)) ≡ false) ⌝ }
+    requires { ⌜ SheetClose panels n (now lag) floor due × Closely n n order-limit (now after) × (some-beyond n (component (timing .at)) ≡ false) ⌝ }
     ensures { λ r. ⌜ Tested panels n (now (after .entry)) (now (lag .entry)) floor due least (component (timing .at)) r ⌝ }
 {
     let x = words_of(timing, n);

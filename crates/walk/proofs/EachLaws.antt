@@ -8,7 +8,8 @@ use borrow.Author.Tests.{lt-ltb, le-ltb}
 use lib.Dec.{T, ltb}
 use Rattle.maxplus.specs.Finite.{each, onlyIf, sum}
 use Rattle.maxplus.proofs.EachLaws.{each-same}
-use Rattle.masks.specs.Trace.{Event, bit, bitsFrom, members, forEach, selections, fixings}
+use Rattle.trigger_sets.specs.Sets.{bit, bitsFrom, members}
+use Rattle.walk.specs.Trace.{Event, forEach, selections, fixings}
 use Rattle.walk.proofs.TraceLaws.{fixings-append, selections-append}
 
 module _ {A : Type 0} where
@@ -31,11 +32,6 @@ pub fixings-each : (n : ℕ) (g : ℕ → List Event) → fixings (each n g) ≡
 unfolding each sum fixings
 fixings-each zero g = refl
 fixings-each (suc n) g = fixings-append (each n g) (g n) ∙ ap (λ (k : ℕ). k + fixings (g n)) (fixings-each n g)
-
-pub sum-same : (n : ℕ) (g h : ℕ → ℕ) → ((k : ℕ) → g k ≡ h k) → sum n g ≡ sum n h
-unfolding sum
-sum-same zero g h e = refl
-sum-same (suc n) g h e = ap₂ _+_ (sum-same n g h e) (e n)
 
 -- ---- over the members of a mask
 -- part k is there where bit k is set

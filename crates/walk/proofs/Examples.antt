@@ -1,7 +1,8 @@
 -- Small walks, computed.
 use mathlib.Core.Path.{_≡_, refl}
 use mathlib.Core.List.{[], _∷_}
-use Rattle.masks.specs.Trace.{fixing, whole, bitsFrom, members, forEach, walkFrom, walkOf, selections, fixings}
+use Rattle.trigger_sets.specs.Sets.{bitsFrom, members}
+use Rattle.walk.specs.Trace.{fixing, whole, forEach, walkFrom, walkOf, selections, fixings}
 use Rattle.walk.specs.State.{countsOf}
 
 -- document 01's whole case, from its kept masks and its numbers d(i,j) − p(i) with 100 added

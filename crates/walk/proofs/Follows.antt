@@ -7,23 +7,25 @@ use native.Mathlib.Omega.{arith}
 use borrow.Author.Tests.{lt-ltb}
 use lib.Dec.{T, eqb, ltb, eqb→eq}
 use lib.IntN.{ℤ}
-use lib.ListN.{length, getD, take, drop, drop-of-length-le}
+use lib.ListN.{length, getD, drop, drop-of-length-le}
 use lib.Seq.{drop-cons}
 use Rattle.maxplus.specs.Finite.{each, onlyIf, mapL, countIf}
 use Rattle.maxplus.proofs.EachLaws.{each-same, map-each, map-length, map-twice}
 use Rattle.cue.specs.Cue.{Cue}
 use Rattle.cue.specs.Method as M
 use Rattle.cue.proofs.Walk.{geometric, steps-bound, cut-within}
-use Rattle.masks.specs.Trace.{Event, fixing, whole, bit, cut, serves, walkFrom, walkOf, selections, fixings}
-use Rattle.walk.specs.State.{Steps, startOf, countsOf}
+use Rattle.trigger_sets.specs.Sets.{bit}
+use Rattle.walk.specs.Trace.{Event, fixing, whole, cut, serves, walkFrom, walkOf, selections, fixings}
+use Rattle.walk.specs.State.{StepTaken, picked, startOf, countsOf}
 use Rattle.walk.specs.Follows.{Follows}
 use Rattle.walk.specs.declared.Walk.{Walk}
 use Rattle.walk.specs.declared.Stepped.{Stepped}
 use Rattle.walk.specs.declared.Outcome.the-variants.{Selection, End}
-use Rattle.masks.proofs.Bytes.{bit-cut}
+use Rattle.trigger_sets.proofs.ByteLaws.{sum-ext}
+use Rattle.walk.proofs.NarrowLaws.{bit-cut}
 use Rattle.walk.proofs.Whole.{start-pending}
 use Rattle.walk.proofs.Stepping.{remaining, found-selection, end-selections}
-use Rattle.walk.proofs.EachLaws.{selections-each, fixings-each, sum-same, members-each}
+use Rattle.walk.proofs.EachLaws.{selections-each, fixings-each, members-each}
 
 -- ---- document 01's walk as a list of events
 module _ (n : ℕ) (P : Cue) where
@@ -35,7 +37,7 @@ module _ (n : ℕ) (P : Cue) where
   unfolding events fixings M.fixings
   events-fixings [] o q = refl
   events-fixings (i ∷ is) o q =
-      fixings-each n _ ∙ sum-same n _ _ (λ j. one (o i j) _ (events-fixings is (M.cut n P i j o) (q ++ j ∷ [])))
+      fixings-each n _ ∙ sum-ext n _ _ (λ j h. one (o i j) _ (events-fixings is (M.cut n P i j o) (q ++ j ∷ [])))
     where
       one : (b : Bool) (es : List Event) {k : ℕ} → fixings es ≡ k → fixings (onlyIf b (fixing ∷ es)) ≡ countIf b (suc k)
       one true es e = ap suc e
@@ -100,7 +102,7 @@ module _ {n : ℕ} {P : Cue} {D : ℤ} {f : ℕ} {masks : List ℕ} {gains : Lis
       at : (k l : ℕ) → suc i ≤ k → k < f → l < 6 → bit (o k) j ≡ (ltb j n && O (panel k) j) → bit (o k) l ≡ (ltb l n && O (panel k) l) →
           bit (cut j (serves gains i j k) (o k)) l ≡ (ltb l n && M.cut n P (panel i) j O (panel k) l)
       at k l h hk hl p q =
-          bit-cut j (serves gains i j k) (o k) l (omega (arith, F .few)) hl ∙
+          bit-cut j (serves gains i j k) (o k) l ∙
           ap₂ (λ (x y : Bool). cond (x && serves gains i j k) (eqb l j) y) (p ∙ ap (λ (b : Bool). b && O (panel k) j) (lt-ltb j n hj)) q ∙
           both-cut (O (panel k) j) _ _ (eqb l j) (ltb l n) (O (panel k) l)
           (λ u. F .order i k j (omega arith) hk hj (a .within (panel i) j t) (a .within (panel k) j u))
@@ -156,9 +158,9 @@ abbrev pub ahead : List ℕ → List (List ℕ) → ℕ → List ℕ → Walk �
 ahead masks gains f panels w = mapL (zip panels) (remaining masks gains f w)
 
 abbrev pub shown : ℕ → List ℕ → Walk → M.Selection
-shown f panels w = zip panels (take f (w .picks))
+shown f panels w = zip panels (picked f (w .picks))
 
-module _ {masks : List ℕ} {gains : List (List ℕ)} {f : ℕ} {w : Walk} {r : Stepped} (panels : List ℕ) (s : Steps masks gains f w r) where
+module _ {masks : List ℕ} {gains : List (List ℕ)} {f : ℕ} {w : Walk} {r : Stepped} (panels : List ℕ) (s : StepTaken masks gains f w r) where
   pub ahead-found : r .outcome ≡ Selection →
       ahead masks gains f panels w ≡ shown f panels (r .next) ∷ ahead masks gains f panels (r .next)
   unfolding mapL
@@ -171,4 +173,4 @@ module _ {masks : List ℕ} {gains : List (List ℕ)} {f : ℕ} {w : Walk} {r : 
 module _ {n : ℕ} {P : Cue} {D : ℤ} {f : ℕ} {masks : List ℕ} {gains : List (List ℕ)} {panels : List ℕ}
     (F : Follows n P D f masks gains panels) where
   pub ahead-start : 0 < f → ahead masks gains f panels (startOf masks) ≡ M.selections n P D
-  ahead-start h = rw (start-pending masks gains f h) (selections-follow F)
+  ahead-start h = rw (start-pending masks gains f h (F .small)) (selections-follow F)

@@ -1,4 +1,6 @@
 -- Laws of the walk, in the order in which one file builds on another. Stepping and Follows have what callers use.
+pub mod NarrowLaws
+pub mod PickLaws
 pub mod Whole
 pub mod Stack
 pub mod Walking

@@ -3,9 +3,9 @@ use mathlib.Core.Path.{_≡_, sym, ap, subst, _∙_}
 use mathlib.Core.List.{List, [], _∷_, _++_, append-assoc, append-nil}
 use Prim.Native.Nat.{ℕ, _+_, _<_, _≤_}
 use native.Mathlib.Omega.{arith}
-use lib.ListN.{length, take, length-append}
-use Rattle.masks.specs.Trace.{whole, walkOf, selections, fixings, Masks}
-use Rattle.walk.specs.State.{Ready, Steps, After, Ended, marks, pending, startOf}
+use lib.ListN.{length, length-append}
+use Rattle.walk.specs.Trace.{whole, walkOf, selections, fixings, Masks}
+use Rattle.walk.specs.State.{StepReady, StepTaken, After, Ended, marks, picked, pending, startOf}
 use Rattle.walk.specs.declared.Walk.{Walk}
 use Rattle.walk.specs.declared.Stepped.{Stepped}
 use Rattle.walk.specs.declared.Outcome.{Outcome}
@@ -17,14 +17,14 @@ use Rattle.walk.proofs.Whole.{walk-few, start-pending, start-ready}
 abbrev pub remaining : List ℕ → List (List ℕ) → ℕ → Walk → List (List ℕ)
 remaining kept gains f w = selections (pending kept gains f w)
 
-module _ {kept : List ℕ} {gains : List (List ℕ)} {f : ℕ} {w : Walk} {r : Stepped} (s : Steps kept gains f w r) where
+module _ {kept : List ℕ} {gains : List (List ℕ)} {f : ℕ} {w : Walk} {r : Stepped} (s : StepTaken kept gains f w r) where
   module _ (e : r .outcome ≡ Selection) where
     given : marks (w .fixings) ++ pending kept gains f w ≡
-        marks (r .next .fixings) ++ whole (take f (r .next .picks)) ∷ pending kept gains f (r .next)
+        marks (r .next .fixings) ++ whole (picked f (r .next .picks)) ∷ pending kept gains f (r .next)
     given = subst (λ (o : Outcome). After kept gains f o (r .next) (marks (w .fixings) ++ pending kept gains f w)) e (s .gives .given)
 
     -- a selection: it is the first of those that were left
-    pub found-selection : remaining kept gains f w ≡ take f (r .next .picks) ∷ remaining kept gains f (r .next)
+    pub found-selection : remaining kept gains f w ≡ picked f (r .next .picks) ∷ remaining kept gains f (r .next)
     unfolding selections
     found-selection =
         sym (marked-selections (w .fixings) (pending kept gains f w)) ∙ ap selections given ∙ marked-selections (r .next .fixings) _
@@ -34,7 +34,7 @@ module _ {kept : List ℕ} {gains : List (List ℕ)} {f : ℕ} {w : Walk} {r : S
     found-fixings =
         sym (marked-fixings (w .fixings) (pending kept gains f w)) ∙ ap fixings given ∙ marked-fixings (r .next .fixings) _
 
-    pub found-ready : Ready kept gains f w → Ready kept gains f (r .next)
+    pub found-ready : StepReady kept gains f w → StepReady kept gains f (r .next)
     found-ready y = record {
       sound = s .gives .sound;
       masks = y .masks;
@@ -43,7 +43,7 @@ module _ {kept : List ℕ} {gains : List (List ℕ)} {f : ℕ} {w : Walk} {r : S
         y .room,
         marked-length (w .fixings) (pending kept gains f w),
         ap length given,
-        marked-length (r .next .fixings) (whole (take f (r .next .picks)) ∷ pending kept gains f (r .next)),
+        marked-length (r .next .fixings) (whole (picked f (r .next .picks)) ∷ pending kept gains f (r .next)),
       );
     }
 
@@ -61,26 +61,26 @@ module _ {kept : List ℕ} {gains : List (List ℕ)} {f : ℕ} {w : Walk} {r : S
 
 -- a state that the walk comes to, after the selections seen
 pub record Walked (kept : List ℕ) (gains : List (List ℕ)) (f : ℕ) (w : Walk) (seen : List (List ℕ)) : Type 0 where
-  pub ready : Ready kept gains f w
+  pub ready : StepReady kept gains f w
   pub steps : fixings (walkOf kept gains f) ≡ w .fixings + fixings (pending kept gains f w)
   pub rest : selections (walkOf kept gains f) ≡ seen ++ remaining kept gains f w
 
 pub walked-start : (kept : List ℕ) (gains : List (List ℕ)) (f : ℕ) → 0 < f → f ≤ 6 → Masks kept → Walked kept gains f (startOf kept) []
 walked-start kept gains f h k m = record {
   ready = start-ready kept gains f h k m;
-  steps = rw (start-pending kept gains f h) (omega arith);
-  rest = rw (start-pending kept gains f h);
+  steps = rw (start-pending kept gains f h m) (omega arith);
+  rest = rw (start-pending kept gains f h m);
 }
 
 module _ {kept : List ℕ} {gains : List (List ℕ)} {f : ℕ} {w : Walk} {seen : List (List ℕ)}
-    (b : Walked kept gains f w seen) {r : Stepped} (s : Steps kept gains f w r) where
+    (b : Walked kept gains f w seen) {r : Stepped} (s : StepTaken kept gains f w r) where
   module _ (e : r .outcome ≡ Selection) where
-    pub walked-next : Walked kept gains f (r .next) (seen ++ take f (r .next .picks) ∷ [])
+    pub walked-next : Walked kept gains f (r .next) (seen ++ picked f (r .next .picks) ∷ [])
     walked-next = record {
       ready = found-ready s e (b .ready);
       steps = b .steps ∙ found-fixings s e;
       rest = b .rest ∙ ap (λ (l : List (List ℕ)). seen ++ l) (found-selection s e) ∙
-          sym (append-assoc seen (take f (r .next .picks) ∷ []) (remaining kept gains f (r .next)));
+          sym (append-assoc seen (picked f (r .next .picks) ∷ []) (remaining kept gains f (r .next)));
     }
 
     -- a loop over the selections ends

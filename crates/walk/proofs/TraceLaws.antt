@@ -4,7 +4,7 @@ use mathlib.Core.List.{List, [], _∷_, _++_}
 use Prim.Native.Nat.{ℕ, zero, suc, _+_, _≤_}
 use native.Mathlib.Omega.{arith}
 use lib.ListN.{length, length-append, length-replicate}
-use Rattle.masks.specs.Trace.{Event, fixing, whole, selections, fixings}
+use Rattle.walk.specs.Trace.{Event, fixing, whole, selections, fixings}
 use Rattle.walk.specs.State.{marks}
 
 pub fixings-append : (a b : List Event) → fixings (a ++ b) ≡ fixings a + fixings b

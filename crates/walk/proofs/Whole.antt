@@ -1,15 +1,16 @@
 -- The whole walk: that cutting at once and cutting late come to the same, how long it is at most, and how it starts.
 use mathlib.Core.Path.{_≡_, refl, sym, ap, ap₂, fun-ext, _∙_}
-use mathlib.Core.Bool.{Bool, true, false, cond}
 use mathlib.Core.List.{List, [], _∷_, _++_, append-nil}
-use Prim.Native.Nat.{ℕ, zero, suc, _+_, _-_, _*_, _<_, _≤_}
+use Prim.Native.Nat.{ℕ, zero, suc, _+_, _-_, _*_, _%_, _<_, _≤_}
 use native.Mathlib.Omega.{arith}
 use native.Mathlib.Nat.{suc-mul}
 use lib.Dec.{leb, leb→le}
-use lib.ListN.{length, getD, replicate, length-append}
-use Rattle.masks.specs.Trace.{Event, fixing, bit, bitsFrom, members, forEach, cut, serves, narrow, maskAt, run, walkFrom, walkOf, Masks}
-use Rattle.walk.specs.State.{Ready, level, stack, pending, startOf}
-use Rattle.masks.proofs.Small.{all-at, set-below}
+use lib.ListN.{length, getD, length-append}
+use Rattle.trigger_sets.specs.Sets.{members}
+use Rattle.walk.specs.Trace.{Event, fixing, forEach, cut, serves, narrow, maskAt, run, walkFrom, walkOf, Masks}
+use Rattle.walk.specs.State.{StepReady, picked, level, stack, pending, startOf}
+use Rattle.trigger_sets.proofs.Tests.{all-at}
+use Rattle.trigger_sets.proofs.MemberLaws.{members-few}
 
 pub forEach-same : (js : List ℕ) (g h : ℕ → List Event) → ((j : ℕ) → g j ≡ h j) → forEach js g ≡ forEach js h
 unfolding forEach
@@ -47,15 +48,6 @@ module _ (kept : List ℕ) (gains : List (List ℕ)) where
   walk-run f = late f []
 
 -- ---- how many events there are at most
-pub bits-few : (c j m : ℕ) → length (bitsFrom c j m) ≤ c
-unfolding bitsFrom
-bits-few zero j m = omega arith
-bits-few (suc c) j m = go (bit m j) (bits-few c (suc j) m)
-  where
-    go : (b : Bool) → length (bitsFrom c (suc j) m) ≤ c → length (cond b (j ∷ bitsFrom c (suc j) m) (bitsFrom c (suc j) m)) ≤ suc c
-    go true h = omega arith
-    go false h = omega arith
-
 pub forEach-few : (c b : ℕ) (js : List ℕ) (g : ℕ → List Event) → length js ≤ c → ((j : ℕ) → length (g j) ≤ b) →
     length (forEach js g) ≤ c * b
 unfolding forEach
@@ -69,49 +61,41 @@ unfoldable pub most : ℕ → ℕ
 most zero = 1
 most (suc l) = 6 * suc (most l)
 
-run-few : (kept : List ℕ) (gains : List (List ℕ)) (l : ℕ) (q : List ℕ) → length (run kept gains l q) ≤ most l
-unfolding run most members
-run-few kept gains zero q = omega arith
-run-few kept gains (suc l) q =
-    forEach-few 6 (suc (most l)) (members (maskAt kept gains q)) _ (bits-few 6 0 (maskAt kept gains q))
-    (λ j. let r = run-few kept gains l (q ++ j ∷ []) in omega arith)
+-- a walk of l levels
+pub levels-few : (gains : List (List ℕ)) (l i : ℕ) (o : ℕ → ℕ) (q : List ℕ) → length (walkFrom gains l i o q) ≤ most l
+unfolding walkFrom most
+levels-few gains zero i o q = omega arith
+levels-few gains (suc l) i o q = forEach-few 6 (suc (most l)) (members (o i)) _ (members-few (o i))
+    (λ j. let r = levels-few gains l (suc i) (λ k. cut j (serves gains i j k) (o k)) (q ++ j ∷ []) in omega arith)
 
 pub most-few : (f : ℕ) → f < 7 → most f ≤ 102642
 unfolding most
 most-few f h = leb→le (most f) 102642 (all-at (λ f. leb (most f) 102642) 7 tt f h)
 
 pub walk-few : (kept : List ℕ) (gains : List (List ℕ)) (f : ℕ) → f ≤ 6 → length (walkOf kept gains f) ≤ 102642
-walk-few kept gains f h = rw (walk-run kept gains f) (omega (arith, run-few kept gains f [], most-few f (omega arith)))
+unfolding walkOf
+walk-few kept gains f h = omega (arith, levels-few gains f 0 (λ k. getD kept k 0) [], most-few f (omega arith))
 
 -- ---- the start
-zeros : (b n k : ℕ) → 0 < b → getD (replicate n 0) k 0 < b
-zeros b zero k h = h
-zeros b (suc n) zero h = h
-zeros b (suc n) (suc k) h = zeros b n k h
-
 module _ (kept : List ℕ) (gains : List (List ℕ)) (f : ℕ) (h : 0 < f) where
-  start-run : pending kept gains f (startOf kept) ≡ run kept gains f []
-  unfolding pending stack level run maskAt narrow
-  start-run = go f h
+  start-run : Masks kept → pending kept gains f (startOf kept) ≡ run kept gains f []
+  unfolding pending stack level run maskAt narrow picked
+  start-run s = go f h
     where
       go : (f : ℕ) → 0 < f → pending kept gains f (startOf kept) ≡ run kept gains f []
       go zero h = let e : ⊥ = omega arith in absurd e
-      go (suc l) h = let e : suc l - (0 + 1) ≡ l = omega arith in rw e (append-nil (level kept gains l (getD kept 0 0) []))
+      go (suc l) h =
+          let e : suc l - (0 + 1) ≡ l = omega arith in
+          let z : getD kept 0 0 % 64 ≡ getD kept 0 0 = omega (arith, s 0) in
+          rw (e, z) (append-nil (level kept gains l (getD kept 0 0) []))
 
   -- at the start the whole walk is pending
-  pub start-pending : pending kept gains f (startOf kept) ≡ walkOf kept gains f
-  start-pending = start-run ∙ sym (walk-run kept gains f)
+  pub start-pending : Masks kept → pending kept gains f (startOf kept) ≡ walkOf kept gains f
+  start-pending s = start-run s ∙ sym (walk-run kept gains f)
 
-  pub start-ready : f ≤ 6 → Masks kept → Ready kept gains f (startOf kept)
+  pub start-ready : f ≤ 6 → Masks kept → StepReady kept gains f (startOf kept)
   start-ready k s = record {
-    sound = record {
-      few = k;
-      deep = h;
-      lefts = refl;
-      chosen = refl;
-      small = set-below 64 (replicate 6 0) 0 (getD kept 0 0) (λ i. zeros 64 6 i (omega arith)) (s 0);
-      inside = λ i. zeros 6 6 i (omega arith);
-    };
+    sound = record { few = k; deep = h; small = s 0; inside = (omega arith, omega arith) };
     masks = s;
-    room = rw start-pending (omega (arith, walk-few kept gains f k));
+    room = rw (start-pending s) (omega (arith, walk-few kept gains f k));
   }

@@ -8,7 +8,8 @@ use lib.IntN.{ℤ}
 use lib.ListN.{length, getD}
 use Rattle.cue.specs.Cue.{Cue}
 use Rattle.cue.specs.Method as M
-use Rattle.masks.specs.Trace.{bit, serves}
+use Rattle.trigger_sets.specs.Sets.{bit}
+use Rattle.walk.specs.Trace.{serves}
 
 module _ (n : ℕ) (P : Cue) (D : ℤ) (f : ℕ) (masks : List ℕ) (gains : List (List ℕ)) (panels : List ℕ) where
   -- panels are those with a floor, f of them; the masks are their kept triggers, and wherever the walk compares two words they stand in

@@ -3,10 +3,14 @@
 // picks; a panel's mask is narrowed by the picks on the way down, so nothing is ever restored.
 ghost use mathlib.Core.Path.{_≡_};
 ghost use Prim.Native.Nat.{_<_, _≤_};
-ghost use Rattle.walk.specs.State.{Ready, Steps, FixedReady, Descends, at, turned, startOf, countsOf};
-ghost use Rattle.masks.specs.Trace.{Masks};
-use masks::low;
-use masks::narrowed;
+ghost use Rattle.walk.specs.State.{StepReady, StepTaken, FixedReady, Descends, at, stepped, startOf, countsOf};
+ghost use Rattle.walk.specs.Trace.{Masks};
+use crate::narrowing::narrowed;
+use trigger_sets::low;
+use trigger_sets::others;
+use trigger_sets::wide;
+
+pub mod narrowing;
 
 // What a step gives.
 pub enum Outcome {
@@ -14,23 +18,17 @@ pub enum Outcome {
     End,
 }
 
-// The level that is tried, the fixings so far, and for each open level its untried triggers and its pick.
+// The level that is tried, the fixings so far, and the untried triggers and the picks of the open levels: six bits and three bits for each,
+// the deepest level's lowest. In words a step changes no memory: of an array by value each step would make copies, and wait for them.
 pub struct Walk {
     pub depth: usize,
     pub fixings: u32,
-    pub left: [u8; 6],
-    pub picks: [u8; 6],
+    pub left: u64,
+    pub picks: u64,
 }
 
 pub struct Stepped {
     pub next: Walk,
-    pub outcome: Outcome,
-}
-
-// What a turn leaves beside the two arrays that are lent to it.
-pub struct Turn {
-    pub depth: usize,
-    pub fixings: u32,
     pub outcome: Outcome,
 }
 
@@ -40,103 +38,113 @@ pub struct Counts {
 }
 
 // Trying the triggers of the panel at the depth: the next one is fixed; where none is left, the panel above goes on.
-// The arrays are lent: a struct handed on by value at each call is three times as slow.
+// Says whether there is a selection. The state is lent, and no struct or enum comes back: it would be copied at each call.
 fn trying(
-    left: &mut [u8; 6],
-    picks: &mut [u8; 6],
-    depth: usize,
-    fixings: u32,
+    left: &mut u64,
+    picks: &mut u64,
+    depth: &mut usize,
+    fixings: &mut u32,
     panels: usize,
     kept: &[u8; 6],
     gains: &[[u64; 6]; 6],
-) -> Turn
-    requires { ⌜ Ready (now kept) (now gains) panels (at depth fixings (now left) (now picks)) ⌝ }
-    ensures { λ r. ⌜ Steps (now (kept .entry)) (now (gains .entry)) panels (at depth fixings (now (left .entry)) (now (picks .entry)))
-        (turned r (now (left .exit)) (now (picks .exit))) ⌝ }
+) -> bool
+    requires { ⌜ StepReady (now kept) (now gains) panels (at (now depth) (now fixings) (now left) (now picks)) ⌝ }
+    ensures { λ r. ⌜ StepTaken (now (kept .entry)) (now (gains .entry)) panels
+        (at (now (depth .entry)) (now (fixings .entry)) (now (left .entry)) (now (picks .entry)))
+        (stepped r (at (now (depth .exit)) (now (fixings .exit)) (now (left .exit)) (now (picks .exit)))) ⌝ }
 {
-    let m = left[depth];
+    let open = *left;
+    let m = (open % 64) as u8;
     if m == 0 {
-        if depth == 0 {
-            let end = Outcome::End;
-            return Turn {
-                depth: depth,
-                fixings: fixings,
-                outcome: end,
-            };
+        let d = *depth;
+        if d == 0 {
+            return false;
         }
-        return trying(left, picks, depth - 1, fixings, panels, kept, gains);
+        *left = open / 64;
+        *picks = *picks / 8;
+        *depth = d - 1;
+        return trying(left, picks, depth, fixings, panels, kept, gains);
     }
-    picks[depth] = low(m);
-    left[depth] = m & (m - 1);
-    descending(left, picks, depth, fixings + 1, panels, kept, gains)
+    let rest = others(m);
+    *left = open / 64 * 64 + rest as u64;
+    *picks = *picks / 8 * 8 + low(m) as u64;
+    *fixings = *fixings + 1;
+    descending(left, picks, depth, fixings, panels, kept, gains)
 }
 
 // Down from a panel that has just been fixed: to the next one, unless the selection is whole.
 fn descending(
-    left: &mut [u8; 6],
-    picks: &mut [u8; 6],
-    depth: usize,
-    fixings: u32,
+    left: &mut u64,
+    picks: &mut u64,
+    depth: &mut usize,
+    fixings: &mut u32,
     panels: usize,
     kept: &[u8; 6],
     gains: &[[u64; 6]; 6],
-) -> Turn
-    requires { ⌜ FixedReady (now kept) (now gains) panels (at depth fixings (now left) (now picks)) ⌝ }
-    ensures { λ r. ⌜ Descends (now (kept .entry)) (now (gains .entry)) panels (at depth fixings (now (left .entry)) (now (picks .entry)))
-        (turned r (now (left .exit)) (now (picks .exit))) ⌝ }
+) -> bool
+    requires { ⌜ FixedReady (now kept) (now gains) panels (at (now depth) (now fixings) (now left) (now picks)) ⌝ }
+    ensures { λ r. ⌜ Descends (now (kept .entry)) (now (gains .entry)) panels
+        (at (now (depth .entry)) (now (fixings .entry)) (now (left .entry)) (now (picks .entry)))
+        (stepped r (at (now (depth .exit)) (now (fixings .exit)) (now (left .exit)) (now (picks .exit)))) ⌝ }
 {
-    if depth + 1 == panels {
-        let selection = Outcome::Selection;
-        return Turn {
-            depth: depth,
-            fixings: fixings,
-            outcome: selection,
-        };
+    let next = *depth + 1;
+    if next == panels {
+        return true;
     }
     let chosen = *picks;
-    left[depth + 1] = narrowed(kept, gains, chosen, depth + 1);
-    trying(left, picks, depth + 1, fixings, panels, kept, gains)
+    let mask = narrowed(kept, gains, chosen, next);
+    *left = *left * 64 + mask as u64;
+    *picks = chosen * 8;
+    *depth = next;
+    trying(left, picks, depth, fixings, panels, kept, gains)
 }
 
 impl Walk {
     pub fn start(kept: &[u8; 6]) -> Walk
         ensures { λ r. ⌜ r ≡ startOf (now (kept .entry)) ⌝ }
     {
-        let mut left = [0u8; 6];
-        left[0] = kept[0];
+        let first = wide(kept[0]);
         Walk {
             depth: 0,
             fixings: 0,
-            left: left,
-            picks: [0u8; 6],
+            left: first as u64,
+            picks: 0,
         }
     }
 
     // The next selection, or the end; after the end the end again, unchanged.
     pub fn step(self, panels: usize, kept: &[u8; 6], gains: &[[u64; 6]; 6]) -> Stepped
-        requires { ⌜ Ready (now kept) (now gains) panels self ⌝ }
-        ensures { λ r. ⌜ Steps (now (kept .entry)) (now (gains .entry)) panels self r ⌝ }
+        requires { ⌜ StepReady (now kept) (now gains) panels self ⌝ }
+        ensures { λ r. ⌜ StepTaken (now (kept .entry)) (now (gains .entry)) panels self r ⌝ }
     {
         let mut left = self.left;
         let mut picks = self.picks;
-        let t = trying(
+        let mut depth = self.depth;
+        let mut fixings = self.fixings;
+        let found = trying(
             &mut left,
             &mut picks,
-            self.depth,
-            self.fixings,
+            &mut depth,
+            &mut fixings,
             panels,
             kept,
             gains,
         );
-        let o = t.outcome;
+        let next = Walk {
+            depth: depth,
+            fixings: fixings,
+            left: left,
+            picks: picks,
+        };
+        if found {
+            return Stepped {
+                next: next,
+                outcome: Outcome::Selection,
+            };
+        }
         Stepped {
-            next: Walk {
-                depth: t.depth,
-                fixings: t.fixings,
-                left: left,
-                picks: picks,
-            },
-            outcome: o,
+            next: next,
+            outcome: Outcome::End,
         }
     }
 }

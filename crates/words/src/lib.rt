@@ -9,6 +9,9 @@ ghost use Rattle.words.specs.Words.{word, entry, far, Near};
 // The word of the number 0.
 pub const BIAS: u64 = 0x100_0000_0000;
 
+// The words that a line takes in a lent space.
+pub const LINE_SIZE: usize = 7;
+
 // The word of m.
 pub fn positive(m: u64) -> u64
     requires { ⌜ m ≤ far ⌝ }

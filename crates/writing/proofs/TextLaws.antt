@@ -15,6 +15,7 @@ use Rattle.writing.specs.Numerals.{natural, item}
 use Rattle.writing.specs.Texts.{field, joined, line-texts, panel-texts}
 use Rattle.writing.specs.Writing.{Puts, next-item, items, entry, line-at, lines-of}
 use Rattle.writing.proofs.PutLaws.{put-nothing, then, put-as}
+use Rattle.cue.specs.Written.{line-size}
 
 -- ---- k parts are put, of at most `size` bytes each: a loop's invariant
 pub record Grown (T : ℕ → List ℕ) (size : ℕ) (before after : List ℕ) (from end k : ℕ) : Type 0 where
@@ -86,9 +87,9 @@ unfolding line-texts lines-of each
 lines-none n ws = refl
 
 pub lines-more : (n : ℕ) (ws : List ℤ) (k : ℕ) →
-    line-texts n (lines-of n (suc k) ws) ≡ line-texts n (lines-of n k ws) ++ line-texts n (line-at n ws (7 * k) ∷ [])
+    line-texts n (lines-of n (suc k) ws) ≡ line-texts n (lines-of n k ws) ++ line-texts n (line-at n ws (line-size * k) ∷ [])
 unfolding lines-of each
-lines-more n ws k = lines-append n (lines-of n k ws) (line-at n ws (7 * k) ∷ [])
+lines-more n ws k = lines-append n (lines-of n k ws) (line-at n ws (line-size * k) ∷ [])
 
 -- ---- panels
 pub panel-text : (b c : ℕ) → bytes "kept=" ++ natural b ++ bytes "," ++ natural c ++ bytes "\n" ≡ panel-texts ((b, c) ∷ [])

@@ -9,7 +9,7 @@ use lib.ListN.{length, take, getD}
 use Rattle.maxplus.specs.Entry.{E, absent, num}
 use Rattle.maxplus.specs.Finite.{each}
 use Rattle.maxplus.specs.Line.{Line, at, line}
-use Rattle.cue.specs.Written.{list-words}
+use Rattle.cue.specs.Written.{line-size, list-words}
 use Rattle.cue.proofs.WrittenLaws.{Fitting}
 use Rattle.sheet.specs.Text.{bytes}
 use Rattle.writing.specs.Numerals.{item}
@@ -47,10 +47,10 @@ line-at n ws from = line n (λ j. entry (getD ws (from + 1 + j) (pos 0)))
 
 -- the first `count` lines of the words
 unfoldable pub lines-of : (n : ℕ) → ℕ → List ℤ → List (Line n)
-lines-of n count ws = each count (λ k. line-at n ws (7 * k) ∷ [])
+lines-of n count ws = each count (λ k. line-at n ws (line-size * k) ∷ [])
 
 -- the list L stands in the words, and no number in it is the word of absent
 pub record Stands (n count : ℕ) (ws : List ℤ) (L : List (Line n)) : Type 0 where
   pub many : length L ≡ count
-  pub words : take (7 * count) ws ≡ list-words n L
+  pub words : take (line-size * count) ws ≡ list-words n L
   pub fitting : Fitting n L

@@ -21,10 +21,14 @@ shared-slice-read-out : tie.Need-shared-slice-read-out Inv-loop μ-loop
 shared-slice-read-out c = omega (arith, ltb-true)
 
 slice-write-out : tie.Need-slice-write-out Inv-loop μ-loop
-slice-write-out c = let f = c .before .before .before .before .loop .inv in room-left f (omega (arith, ltb-true)) (omega arith)
+slice-write-out c =
+    let at-loop : tie.At-loop Inv-loop μ-loop = search in
+    let f = at-loop .loop .inv in room-left f (omega (arith, ltb-true)) (omega arith)
 
 add-end : tie.Need-add-end Inv-loop μ-loop
-add-end c = let f = c .before .before .before .before .loop .inv in let r = room-left f (omega (arith, ltb-true)) (omega arith) in omega arith
+add-end c =
+    let at-loop : tie.At-loop Inv-loop μ-loop = search in
+    let f = at-loop .loop .inv in let r = room-left f (omega (arith, ltb-true)) (omega arith) in omega arith
 
 shared-slice-read-if3 : tie.Need-shared-slice-read-if3 Inv-loop μ-loop
 shared-slice-read-if3 c = omega (arith, ltb-true)
@@ -40,13 +44,16 @@ loop-less c = omega (arith, ltb-true)
 
 loop-again : tie.Need-loop-again Inv-loop μ-loop
 loop-again c =
-    let f = c .before .before .before .before .before .loop .inv in
-    let h = ltb-true _ _ (c .before .before .before .if1 .taken) in
+    let joined2 : tie.Joined2 Inv-loop μ-loop = search in
+    let then1 : tie.Then1 Inv-loop μ-loop = search in
+    let at-loop : tie.At-loop Inv-loop μ-loop = search in
+    let f = at-loop .loop .inv in
+    let h = ltb-true _ _ (then1 .if1 .taken) in
     let p =
     ⊎-elim
     (λ w. put-it f h (w .0 .taken) (w .2) (w .3))
     (λ w. pass-it f h (w .0 .left) (w .1) (w .2))
-    (c .before .before .if2 .came)
+    (joined2 .if2 .came)
     in
     ⊎-elim (λ w. line-ends p (w .0 .taken) (w .1)) (λ w. line-goes-on p (w .0 .left) (w .1)) (c .if3 .came)
 

@@ -42,8 +42,12 @@ array-write-v : tie.Need-array-write-v Inv-loop μ-loop
 array-write-v c = omega arith
 
 join-requires : tie.Need-join-requires Inv-loop μ-loop
-join-requires c κs = let l = c .before .before .before .before .before in let g = l .loop .inv .1 .grown in
-    (omega (arith, l .before .pre .1, g .few, c .before .before .before .before .loop-test .taken), g .size)
+join-requires c κs =
+    let in-loop : tie.In-loop Inv-loop μ-loop = search in
+    let l : tie.At-loop Inv-loop μ-loop = search in
+    let start : tie.Start Inv-loop μ-loop = search in
+    let g = l .loop .inv .1 .grown in
+    (omega (arith, start .pre .1, g .few, in-loop .loop-test .taken), g .size)
 
 add-j : tie.Need-add-j Inv-loop μ-loop
 add-j c = omega arith

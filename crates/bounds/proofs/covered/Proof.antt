@@ -24,11 +24,14 @@ under-requires : tie.Need-under-requires Inv-loop μ-loop
 under-requires c κs = tt
 
 returns : tie.Need-returns Inv-loop μ-loop
-returns c = record {
-  place = c .before .before .before .before .loop .k;
-  there = c .before .before .before .loop-test .taken;
-  under = rw (c .if1 .taken) at (c .before .under .ensures);
-}
+returns c =
+    let in-loop : tie.In-loop Inv-loop μ-loop = search in
+    let at-loop : tie.At-loop Inv-loop μ-loop = search in
+    record {
+      place = at-loop .loop .k;
+      there = in-loop .loop-test .taken;
+      under = rw (c .if1 .taken) at (c .before .under .ensures);
+    }
 
 add-k : tie.Need-add-k Inv-loop μ-loop
 add-k c = omega arith
@@ -37,7 +40,9 @@ loop-less : tie.Need-loop-less Inv-loop μ-loop
 loop-less c = omega arith
 
 loop-again : tie.Need-loop-again Inv-loop μ-loop
-loop-again c = none-more (c .before .before .before .before .loop .inv) (rw (c .if1 .left) at (c .before .under .ensures))
+loop-again c =
+    let at-loop : tie.At-loop Inv-loop μ-loop = search in
+    none-more (at-loop .loop .inv) (rw (c .if1 .left) at (c .before .under .ensures))
 
 returns-2 : tie.Need-returns-2 Inv-loop μ-loop
 returns-2 c = none-end (c .before .loop .inv) (c .loop-test .left)

@@ -23,8 +23,12 @@ element-copy-out-branch : tie.Need-element-copy-out-branch Inv-loop μ-loop
 element-copy-out-branch c = omega (arith, c .before .before .before .pre .3)
 
 branch-requires : tie.Need-branch-requires Inv-loop μ-loop
-branch-requires c κs = let l = c .before .before .before in let p = l .before .pre in let (a, b, e) = l .loop .inv in
-    (p .0, omega (arith, p .0, p .2, e .few, c .before .before .loop-test .taken), e .size)
+branch-requires c κs =
+    let in-loop : tie.In-loop Inv-loop μ-loop = search in
+    let l : tie.At-loop Inv-loop μ-loop = search in
+    let start : tie.Start Inv-loop μ-loop = search in
+    let p = start .pre in let (a, b, e) = l .loop .inv in
+    (p .0, omega (arith, p .0, p .2, e .few, in-loop .loop-test .taken), e .size)
 
 add-k : tie.Need-add-k Inv-loop μ-loop
 add-k c = omega arith
@@ -33,8 +37,12 @@ loop-less : tie.Need-loop-less Inv-loop μ-loop
 loop-less c = omega arith
 
 loop-again : tie.Need-loop-again Inv-loop μ-loop
-loop-again c = let l = c .before .before .before .before in let (a, b, e) = l .loop .inv in
-    (omega arith, omega (arith, c .before .before .before .loop-test .taken), expanded-more (l .before .pre .0) a e (c .branch .ensures))
+loop-again c =
+    let in-loop : tie.In-loop Inv-loop μ-loop = search in
+    let l : tie.At-loop Inv-loop μ-loop = search in
+    let start : tie.Start Inv-loop μ-loop = search in
+    let (a, b, e) = l .loop .inv in
+    (omega arith, omega (arith, in-loop .loop-test .taken), expanded-more (start .pre .0) a e (c .branch .ensures))
 
 returns : tie.Need-returns Inv-loop μ-loop
 returns c = let (a, b, i) = c .before .loop .inv in let e : c .before .loop .k ≡ c .before .before .args .to = omega (arith, b) in rw e at i

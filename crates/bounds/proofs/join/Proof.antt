@@ -23,7 +23,9 @@ add-result : tie.Need-add-result
 add-result c = search needs
 
 returns-2 : tie.Need-returns-2
-returns-2 c = joined-new (c .before .before .before .before .before .pre .0) (c .thin .ensures)
+returns-2 c =
+    let start : tie.Start = search in
+    joined-new (start .pre .0) (c .thin .ensures)
 
 pub join-spec : {M : Type 1} → statement M
 join-spec =

@@ -26,13 +26,22 @@ under-requires : tie.Need-under-requires Inv-loop μ-loop
 under-requires c κs = tt
 
 mul-b-2 : tie.Need-mul-b-2 Inv-loop μ-loop
-mul-b-2 c = let l = c .before .before .before .before in omega (arith, l .before .pre .0, l .loop .inv .1 .few)
+mul-b-2 c =
+    let l : tie.At-loop Inv-loop μ-loop = search in
+    let start : tie.Start Inv-loop μ-loop = search in
+    omega (arith, start .pre .0, l .loop .inv .1 .few)
 
 element-set-from-b : tie.Need-element-set-from-b Inv-loop μ-loop
-element-set-from-b c = let l = c .before .before .before .before in omega (arith, l .before .pre .0, l .loop .inv .1 .few)
+element-set-from-b c =
+    let l : tie.At-loop Inv-loop μ-loop = search in
+    let start : tie.Start Inv-loop μ-loop = search in
+    omega (arith, start .pre .0, l .loop .inv .1 .few)
 
 add-left : tie.Need-add-left Inv-loop μ-loop
-add-left c = let l = c .before .before .before .before in omega (arith, l .before .pre .0, l .loop .inv .1 .few)
+add-left c =
+    let l : tie.At-loop Inv-loop μ-loop = search in
+    let start : tie.Start Inv-loop μ-loop = search in
+    omega (arith, start .pre .0, l .loop .inv .1 .few)
 
 add-k : tie.Need-add-k Inv-loop μ-loop
 add-k c = omega arith
@@ -41,11 +50,14 @@ loop-less : tie.Need-loop-less Inv-loop μ-loop
 loop-less c = omega arith
 
 loop-again : tie.Need-loop-again Inv-loop μ-loop
-loop-again c = let u = c .before in let l = u .before .before .before in (
-  omega arith,
-  ⊎-elim (λ w. rw (w .1, w .2) (thinning-keep (l .loop .inv .1) (omega (arith, l .before .pre .0))))
-      (λ w. rw (w .1, w .2) (thinning-out (l .loop .inv .1) (says-yes (u .under .result) (w .0 .left) (u .under .ensures)))) (c .if1 .came),
-)
+loop-again c =
+    let u : tie.After-under Inv-loop μ-loop = search in
+    let l : tie.At-loop Inv-loop μ-loop = search in
+    let start : tie.Start Inv-loop μ-loop = search in (
+      omega arith,
+      ⊎-elim (λ w. rw (w .1, w .2) (thinning-keep (l .loop .inv .1) (omega (arith, start .pre .0))))
+          (λ w. rw (w .1, w .2) (thinning-out (l .loop .inv .1) (says-yes (u .under .result) (w .0 .left) (u .under .ensures)))) (c .if1 .came),
+    )
 
 returns : tie.Need-returns Inv-loop μ-loop
 returns c = let l = c .before .loop in thinning-end (l .inv .1) (omega (arith, l .inv .0))

@@ -31,7 +31,9 @@ below-requires : tie.Need-below-requires
 below-requires c κs = search needs
 
 returns-3 : tie.Need-returns-3
-returns-3 c = let a = c .before .before .before .before .args in
+returns-3 c =
+    let start : tie.Start = search in
+    let a = start .args in
     inside (a .buf .now) (a .len) (a .at) (a .c) (c .below .result) (omega arith) (omega arith) (c .below .ensures)
 
 pub fresh-spec : {M : Type 1} → statement M

@@ -46,11 +46,15 @@ loop-less : tie.Need-loop-less Inv-loop μ-loop
 loop-less c = omega arith
 
 loop-again : tie.Need-loop-again Inv-loop μ-loop
-loop-again c = let s = c .before .before .before .before in let l = c .before .before .loop in let m = c .before .before .before .grown .result in (
-  omega arith,
-  omega arith,
-  moved-more [] (s .args .buf .now) (m - 1) (l .k) (l .buf) (omega arith) (omega arith) (l .inv .2),
-)
+loop-again c =
+    let at-loop : tie.At-loop Inv-loop μ-loop = search in
+    let at-grown : tie.After-grown Inv-loop μ-loop = search in
+    let s : tie.Start Inv-loop μ-loop = search in
+    let l = at-loop .loop in let m = at-grown .grown .result in (
+      omega arith,
+      omega arith,
+      moved-more [] (s .args .buf .now) (m - 1) (l .k) (l .buf) (omega arith) (omega arith) (l .inv .2),
+    )
 
 mul-c : tie.Need-mul-c Inv-loop μ-loop
 mul-c c = omega arith

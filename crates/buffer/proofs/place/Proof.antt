@@ -36,7 +36,10 @@ loop-less : tie.Need-loop-less Inv-loop μ-loop
 loop-less c = omega arith
 
 loop-again : tie.Need-loop-again Inv-loop μ-loop
-loop-again c = let s = c .before .before .before .before .before in let l = c .before .before .before .before .loop in
+loop-again c =
+    let at-loop : tie.At-loop Inv-loop μ-loop = search in
+    let s : tie.Start Inv-loop μ-loop = search in
+    let l = at-loop .loop in
     between-up (s .args .buf .now) (s .args .len) (s .args .c) (l .low) (l .high) (l .low + (l .high - l .low) / 2) (s .pre .1) (l .inv)
     (omega arith) (omega arith) (rw (c .if1 .taken) at (c .before .below .ensures))
 
@@ -44,7 +47,10 @@ loop-less-2 : tie.Need-loop-less-2 Inv-loop μ-loop
 loop-less-2 c = omega arith
 
 loop-again-2 : tie.Need-loop-again-2 Inv-loop μ-loop
-loop-again-2 c = let s = c .before .before .before .before .before in let l = c .before .before .before .before .loop in
+loop-again-2 c =
+    let at-loop : tie.At-loop Inv-loop μ-loop = search in
+    let s : tie.Start Inv-loop μ-loop = search in
+    let l = at-loop .loop in
     between-down (s .args .buf .now) (s .args .len) (s .args .c) (l .low) (l .high) (l .low + (l .high - l .low) / 2) (s .pre .1) (l .inv)
     (omega arith) (omega arith) (rw (c .if1 .left) at (c .before .below .ensures))
 

@@ -1,6 +1,6 @@
 -- `extremes::closed` meets its contract. Assumes nothing.
 use native.Mathlib.Omega.{arith}
-use Rattle.extremes.proofs.SetLaws.{closed-fires, closed-rests}
+use Rattle.extremes.proofs.ClosureLaws.{closed-fires, closed-rests}
 use Rattle.extremes.proofs.closed.Statement.{statement}
 use Rattle.extremes.proofs.closed.Tie as tie
 

@@ -7,16 +7,16 @@ use borrow.Author.Tests.{ltb-false}
 use lib.ListN.{getD}
 use Rattle.maxplus.specs.Entry.{Present}
 use Rattle.tables.specs.Held.{meantV}
-use Rattle.candidates.specs.Bits.{Marked}
+use Rattle.trigger_sets.specs.Sets.{SetOf}
 use Rattle.candidates.specs.Steps.{Closed}
-use Rattle.extremes.proofs.BitLaws.{every-none, every-more, every-less, every-stop}
-use Rattle.extremes.proofs.SetLaws.{flag-present, flag-absent}
+use Rattle.trigger_sets.proofs.SetLaws.{every-none, every-more, every-less, every-stop}
+use Rattle.extremes.proofs.ClosureLaws.{flag-present, flag-absent}
 use Rattle.extremes.proofs.common.Statement.{statement}
 use Rattle.extremes.proofs.common.Tie as tie
 
 abbrev Inv-loop : tie.InvT-loop
 Inv-loop tight front panels n at held all₀ k₀ all k = (k ≤ n) ×
-    Marked (λ j. (i : ℕ) → i < k → Present (meantV at i) → Closed tight panels front (getD held i 0) j) all
+    SetOf (λ j. (i : ℕ) → i < k → Present (meantV at i) → Closed tight panels front (getD held i 0) j) all
 
 abbrev μ-loop : tie.MeasureT-loop
 μ-loop tight front panels n at held all₀ k₀ all k = n - k
@@ -37,7 +37,9 @@ array-read-closed : tie.Need-array-read-closed Inv-loop μ-loop
 array-read-closed c = omega arith
 
 closed-requires : tie.Need-closed-requires Inv-loop μ-loop
-closed-requires c κs = let s = c .before .before .before .before .before in (omega arith, s .pre .2 _ (omega arith), s .pre .3)
+closed-requires c κs =
+    let s : tie.Start Inv-loop μ-loop = search in
+    (omega arith, s .pre .2 _ (omega arith), s .pre .3)
 
 returns : tie.Need-returns Inv-loop μ-loop
 unfolding meantV
@@ -57,11 +59,11 @@ loop-less c = omega arith
 loop-again : tie.Need-loop-again Inv-loop μ-loop
 unfolding meantV
 loop-again c =
-    let k = c .before .before .before .before .loop in
+    let k : tie.At-loop Inv-loop μ-loop = search in
     let p = c .before .present .ensures in (
       omega arith,
-      ⊎-elim (λ w. rw (w .3) (every-more _ _ _ _ _ (k .inv .1) (w .1 .ensures) (flag-present _ _ p (w .0 .taken))))
-          (λ w. rw (w .1) (every-less _ _ _ _ (k .inv .1) (flag-absent _ _ p (w .0 .left)))) (c .if2 .came),
+      ⊎-elim (λ w. rw (w .3) (every-more _ _ _ _ _ (k .loop .inv .1) (w .1 .ensures) (flag-present _ _ p (w .0 .taken))))
+          (λ w. rw (w .1) (every-less _ _ _ _ (k .loop .inv .1) (flag-absent _ _ p (w .0 .left)))) (c .if2 .came),
     )
 
 returns-2 : tie.Need-returns-2 Inv-loop μ-loop

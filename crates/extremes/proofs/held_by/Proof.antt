@@ -2,9 +2,9 @@
 use native.Mathlib.Omega.{arith}
 use borrow.Author.Tests.{not-true, not-false}
 use Rattle.tables.specs.Held.{meantV}
-use Rattle.extremes.proofs.BitLaws.{marked-with, marked-none}
+use Rattle.trigger_sets.proofs.SetLaws.{set-with, set-none}
 use Rattle.candidates.proofs.WordLaws.{closely-moreV, closely-part}
-use Rattle.extremes.proofs.SetLaws.{flag-present, flag-absent}
+use Rattle.extremes.proofs.ClosureLaws.{flag-present, flag-absent}
 use Rattle.extremes.proofs.held_by.Statement.{statement}
 use Rattle.extremes.proofs.held_by.Tie as tie
 
@@ -19,7 +19,7 @@ present-requires c κs = tt
 
 returns : tie.Need-returns
 unfolding meantV
-returns c = marked-none (λ j h u. flag-absent _ _ (c .before .present .ensures) (not-true _ (c .if1 .taken)) (u .0))
+returns c = set-none (λ j h u. flag-absent _ _ (c .before .present .ensures) (not-true _ (c .if1 .taken)) (u .0))
 
 places-requires : tie.Need-places-requires
 places-requires c κs =
@@ -30,7 +30,7 @@ returns-2 : tie.Need-returns-2
 unfolding meantV
 returns-2 c =
     let k = c .before in
-    marked-with (flag-present _ _ (k .before .present .ensures) (not-false _ (k .if1 .left))) (c .places .ensures)
+    set-with (flag-present _ _ (k .before .present .ensures) (not-false _ (k .if1 .left))) (c .places .ensures)
 
 pub held-by-spec : {M : Type 1} → statement M
 held-by-spec =

@@ -4,13 +4,13 @@ use native.Mathlib.Omega.{arith}
 use borrow.Author.Tests.{ltb-false}
 use Rattle.tables.specs.Held.{meant, meantV}
 use Rattle.tables.proofs.Loops.{Filled, filled-none, filled-more}
-use Rattle.candidates.specs.Bits.{Marked}
+use Rattle.trigger_sets.specs.Sets.{SetOf}
 use Rattle.candidates.specs.Steps.{Held}
 use Rattle.extremes.proofs.held_sets.Statement.{statement}
 use Rattle.extremes.proofs.held_sets.Tie as tie
 
 abbrev Inv-loop : tie.InvT-loop
-Inv-loop star at n r₀ k₀ r k = (k ≤ n) × Filled (λ k m. Marked (λ j. Held n (meant star) (meantV at) k j) m) 0 r k
+Inv-loop star at n r₀ k₀ r k = (k ≤ n) × Filled (λ k m. SetOf (λ j. Held n (meant star) (meantV at) k j) m) 0 r k
 
 abbrev μ-loop : tie.MeasureT-loop
 μ-loop star at n r₀ k₀ r k = n - k

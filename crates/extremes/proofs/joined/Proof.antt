@@ -5,13 +5,13 @@ use Prim.Native.Nat.{ℕ, _≤_, _<_, _-_}
 use native.Mathlib.Omega.{arith}
 use borrow.Author.Tests.{ltb-false}
 use lib.ListN.{getD}
-use Rattle.candidates.specs.Bits.{Has, Marked}
-use Rattle.extremes.proofs.BitLaws.{union-none, union-more, union-less, marked-with, marked-self}
+use Rattle.trigger_sets.specs.Sets.{Has, SetOf}
+use Rattle.trigger_sets.proofs.SetLaws.{union-none, union-more, union-less, set-with, set-self}
 use Rattle.extremes.proofs.joined.Statement.{statement}
 use Rattle.extremes.proofs.joined.Tie as tie
 
 abbrev Inv-loop : tie.InvT-loop
-Inv-loop most n held late set₀ l₀ set l = (l ≤ n) × Marked (λ j. (k : ℕ) × (k < l) × ((getD late k 0 ≡ most) × Has (getD held k 0) j)) set
+Inv-loop most n held late set₀ l₀ set l = (l ≤ n) × SetOf (λ j. (k : ℕ) × (k < l) × ((getD late k 0 ≡ most) × Has (getD held k 0) j)) set
 
 abbrev μ-loop : tie.MeasureT-loop
 μ-loop most n held late set₀ l₀ set l = n - l
@@ -38,7 +38,7 @@ loop-again : tie.Need-loop-again Inv-loop μ-loop
 loop-again c =
     let k = c .before .before .before in (
       omega arith,
-      ⊎-elim (λ w. rw (w .1) (union-more _ _ _ _ (k .loop .inv .1) (marked-with (w .0 .taken) (marked-self (k .before .pre .1 _ (omega arith))))))
+      ⊎-elim (λ w. rw (w .1) (union-more _ _ _ _ (k .loop .inv .1) (set-with (w .0 .taken) (set-self (k .before .pre .1 _ (omega arith))))))
           (λ w. rw (w .1) (union-less _ _ _ (k .loop .inv .1) (λ j u. w .0 .left (u .0)))) (c .if2 .came),
     )
 

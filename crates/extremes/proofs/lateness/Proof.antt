@@ -6,14 +6,14 @@ use borrow.Author.Tests.{ltb-false}
 use Rattle.maxplus.specs.Entry.{_⊗_, inv}
 use Rattle.words.specs.Words.{entry, Close}
 use Rattle.words.proofs.Laws.{close-more, close-minus}
-use Rattle.sheet.specs.Sheet.{limit}
+use Rattle.sheet.specs.Sizes.{late-size}
 use Rattle.tables.specs.Held.{meantV}
 use Rattle.tables.proofs.Loops.{Filled, filled-none, filled-more}
 use Rattle.extremes.proofs.lateness.Statement.{statement}
 use Rattle.extremes.proofs.lateness.Tie as tie
 
 abbrev Inv-loop : tie.InvT-loop
-Inv-loop n at due r₀ j₀ r j = (j ≤ n) × Filled (λ j v. (entry v ≡ meantV at j ⊗ inv (meantV due j)) × Close (53 * limit) v) 0 r j
+Inv-loop n at due r₀ j₀ r j = (j ≤ n) × Filled (λ j v. (entry v ≡ meantV at j ⊗ inv (meantV due j)) × Close late-size v) 0 r j
 
 abbrev μ-loop : tie.MeasureT-loop
 μ-loop n at due r₀ j₀ r j = n - j

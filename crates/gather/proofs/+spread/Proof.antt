@@ -38,65 +38,113 @@ claims t = (
   spread.Post,
 )
 
--- where the level is not the last, it is below the number of levels and so a place of the tables
-lower : {t : ℕ} (c : spread-lts.After-part-end (claims t) (spread-at t) spread.Post) →
-    let a = c .before .before .before .before .args in a .level < a .marks .levels
-lower c = omega (arith, c .before .before .if1 .left, c .before .before .before .before .pre .1 .4)
+-- the places that answers go back to
+abbrev Start : ℕ → Type 0
+Start t = spread-lts.Start (claims t) (spread-at t) spread.Post
 
-inside : {t : ℕ} (c : spread-lts.After-part-end (claims t) (spread-at t) spread.Post) → c .before .before .before .before .args .level < 6
-inside c = omega (arith, lower c, levels-few (c .before .before .before .before .pre .1 .0 .2))
+abbrev Inner : ℕ → Type 0
+Inner t = spread-lts.Else1 (claims t) (spread-at t) spread.Post
+
+abbrev Parted : ℕ → Type 0
+Parted t = spread-lts.After-part-end (claims t) (spread-at t) spread.Post
+
+abbrev Expanding : ℕ → Type 0
+Expanding t = spread-lts.After-expand (claims t) (spread-at t) spread.Post
+
+abbrev Deeper : ℕ → Type 0
+Deeper t = spread-lts.After-spread (claims t) (spread-at t) spread.Post
+
+abbrev inner : {t : ℕ} → Parted t → Inner t
+inner c = c .before .before
+
+abbrev start : {t : ℕ} → Parted t → Start t
+start c = inner c .before .before
+
+-- where the level is not the last, it is below the number of levels and so a place of the tables
+lower : {t : ℕ} (c : Parted t) → let a = start c .args in a .level < a .marks .levels
+lower c = omega (arith, inner c .if1 .left, start c .pre .1 .4)
+
+inside : {t : ℕ} (c : Parted t) → start c .args .level < 6
+inside c = omega (arith, lower c, levels-few (start c .pre .1 .0 .2))
 
 consider-bounds-requires : (t : ℕ) → spread-lts.Need-consider-bounds-requires (claims t) (spread-at t) spread.Post
-consider-bounds-requires t c κs = let s = c .before .before .before in let (q, z, f, l, h, b) = s .pre .1 in let (P, C, g, i) = q in
+consider-bounds-requires t c κs =
+    let s : Start t = search in
+    let (q, z, f, l, h, b) = s .pre .1 in
+    let (P, C, g, i) = q in
     ((P, s .args .needs .now, C, g, i), z, f, l, λ k hk. b k hk .close)
 
 returns : (t : ℕ) → spread-lts.Need-returns (claims t) (spread-at t) spread.Post
-returns t c = let (q, z, f, l, h, b) = c .before .before .before .before .pre .1 in
-    spread-end (omega (arith, f, l)) (c .before .before .if1 .taken) b (c .consider-bounds .ensures)
+returns t c =
+    let last : spread-lts.Then1 (claims t) (spread-at t) spread.Post = search in
+    let s : Start t = search in
+    let (q, z, f, l, h, b) = s .pre .1 in
+    spread-end (omega (arith, f, l)) (last .if1 .taken) b (c .consider-bounds .ensures)
 
 returns-2 : (t : ℕ) → spread-lts.Need-returns-2 (claims t) (spread-at t) spread.Post
 returns-2 t c = spread-none (c .if2 .taken)
 
 part-end-requires : (t : ℕ) → spread-lts.Need-part-end-requires (claims t) (spread-at t) spread.Post
-part-end-requires t c κs = (omega (arith, c .if2 .left), c .before .before .before .pre .1 .2)
+part-end-requires t c κs =
+    let s : Start t = search in
+    (omega (arith, c .if2 .left), s .pre .1 .2)
 
 array-read-expand : (t : ℕ) → spread-lts.Need-array-read-expand (claims t) (spread-at t) spread.Post
-array-read-expand t c = inside (c .before .before)
+array-read-expand t c =
+    let e : Parted t = search in
+    inside e
 
 mul-expand : (t : ℕ) → spread-lts.Need-mul-expand (claims t) (spread-at t) spread.Post
-mul-expand t c = omega (arith, inside (c .before .before))
+mul-expand t c =
+    let e : Parted t = search in
+    omega (arith, inside e)
 
 element-copy-out-expand : (t : ℕ) → spread-lts.Need-element-copy-out-expand (claims t) (spread-at t) spread.Post
-element-copy-out-expand t c = inside (c .before .before)
+element-copy-out-expand t c =
+    let e : Parted t = search in
+    inside e
 
 expand-requires : (t : ℕ) → spread-lts.Need-expand-requires (claims t) (spread-at t) spread.Post
-expand-requires t c κs = let e = c .before .before .before in let (q, z, f, l, h, b) = e .before .before .before .before .pre .1 in
-    let (x, y, w) = e .part-end .ensures in (q .2 .few, omega (arith, x), w, omega (arith, y, f), refl)
+expand-requires t c κs =
+    let e : Parted t = search in
+    let (q, z, f, l, h, b) = start e .pre .1 in
+    let (x, y, w) = e .part-end .ensures in
+    (q .2 .few, omega (arith, x), w, omega (arith, y, f), refl)
 
 add-spread : (t : ℕ) → spread-lts.Need-add-spread (claims t) (spread-at t) spread.Post
-add-spread t c = omega (arith, inside (c .before .before .before .before .before .before))
+add-spread t c =
+    let e : Parted t = search in
+    omega (arith, inside e)
 
 spread-requires : (t : ℕ) → spread-lts.Need-spread-requires (claims t) (spread-at t) spread.Post
 spread-requires t c κs =
-    let x = c .before .before .expand .ensures in let e = c .before .before .before .before .before .before in
-    let s = e .before .before .before .before in let (m, (q, z, f, l, h, b)) = s .pre in let (P, C, g, i) = q in
-    let v = lower e in let (a, d, w) = e .part-end .ensures in
-    let few : c .before .before .expand .result ≤ 60 = omega (arith, x .few, w) in
+    let r : Expanding t = search in
+    let e : Parted t = search in
+    let x = r .expand .ensures in
+    let (m, (q, z, f, l, h, b)) = start e .pre in
+    let (P, C, g, i) = q in
+    let v = lower e in
+    let (a, d, w) = e .part-end .ensures in
+    let few : r .expand .result ≤ 60 = omega (arith, x .few, w) in
     (omega (arith, m, v, few, a, d), ((P, C, g, i), z, omega (arith, few), x .size, omega (arith, v), spread-bounds g v d b x))
 
 spread-requires-2 : (t : ℕ) → spread-lts.Need-spread-requires-2 (claims t) (spread-at t) spread.Post
 spread-requires-2 t c κs =
-    let e = c .before .before .before .before .before .before .before .before in
-    let s = e .before .before .before .before in let (m, (q, z, f, l, h, b)) = s .pre in let (P, C, g, i) = q in
+    let n : Deeper t = search in
+    let e : Parted t = search in
+    let (m, (q, z, f, l, h, b)) = start e .pre in
+    let (P, C, g, i) = q in
     let (a, d, w) = e .part-end .ensures in
-    (omega (arith, m, a, d), ((P, _, g, c .before .spread .ensures .gathered P C g i), z, f, l, h, b))
+    (omega (arith, m, a, d), ((P, _, g, n .spread .ensures .gathered P C g i), z, f, l, h, b))
 
 returns-3 : (t : ℕ) → spread-lts.Need-returns-3 (claims t) (spread-at t) spread.Post
 returns-3 t c =
-    let e = c .before .before .before .before .before .before .before .before .before in
-    let s = e .before .before .before .before in let (q, z, f, l, h, b) = s .pre .1 in let (P, C, g, i) = q in
-    spread-more g (lower e) f (e .part-end .ensures .1) b (c .before .before .before .before .before .expand .ensures)
-    (c .before .before .spread .ensures) (c .spread2 .ensures)
+    let n : Deeper t = search in
+    let r : Expanding t = search in
+    let e : Parted t = search in
+    let (q, z, f, l, h, b) = start e .pre .1 in
+    let (P, C, g, i) = q in
+    spread-more g (lower e) f (e .part-end .ensures .1) b (r .expand .ensures) (n .spread .ensures) (c .spread2 .ensures)
 
 pub +spread-spec : {M : Type 1} → statement M
 +spread-spec = close μ-spread λ t. spread-lts.spec (claims t)

@@ -6,12 +6,17 @@ use Rattle.gather.proofs.GatherLaws.{gathered-ordered, not-above, not-f
 use Rattle.gather.proofs.consider.Statement.{statement}
 use Rattle.gather.proofs.consider.Tie as tie
 
--- src/gather.rt:49:9
+abbrev at-place : tie.Else2 → tie.After-place
+at-place c = c .before .before .before
+
+abbrev start : tie.Else1 → tie.Start
+start c = c .before .before .before
+
 -- where the tests before were passed: the line is above the last one, and new
-higher : (c : tie.Else1) → Before (c .before .before .before .args .last) (c .before .before .before .args .line .at)
+higher : (c : tie.Else1) → let a = start c .args in Before (a .last) (a .line .at)
 higher c = says-yes (c .before .below .result) (c .if1 .left) (c .before .below .ensures)
 
-new : (c : tie.Else2) → let l = c .before .before .before in let a = l .before .before .before .before .before .args in
+new : (c : tie.Else2) → let l = at-place c in let a = start (l .before .before) .args in
     Fresh (a .buf .now) (a .len) (l .place .result) (a .line .at)
 new c = says-yes (c .before .fresh .result) (c .if2 .left) (c .before .fresh .ensures)
 
@@ -23,35 +28,54 @@ returns c P needs C p s = let q = c .before .before .before .pre in
     not-above (p .few) (q .1) (q .2) s (says-no (c .before .below .result) (c .if1 .taken) (c .before .below .ensures))
 
 place-requires : tie.Need-place-requires
-place-requires c κs = let q = c .before .before .before .before .pre in let g = q .0 .4 in
+place-requires c κs =
+    let start : tie.Start = search in
+    let q = start .pre in let g = q .0 .4 in
     (g .stored .few, gathered-ordered (q .0 .3 .few) (q .1) (q .2) g)
 
 fresh-requires : tie.Need-fresh-requires
-fresh-requires c κs = (c .before .place .ensures .few, c .before .before .before .before .before .before .pre .0 .4 .stored .few)
+fresh-requires c κs =
+    let start : tie.Start = search in
+    (c .before .place .ensures .few, start .pre .0 .4 .stored .few)
 
 returns-2 : tie.Need-returns-2
 returns-2 c P needs C p s =
-    let l = c .before .before .before in let q = l .before .before .before .before .before .pre in
+    let l : tie.After-place = search in
+    let start : tie.Start = search in
+    let q = start .pre in
     not-fresh (p .few) (q .1) (q .2) s (l .place .result) (l .place .ensures)
     (says-no (c .before .fresh .result) (c .if2 .taken) (c .before .fresh .ensures))
 
 extreme-requires : tie.Need-extreme-requires
-extreme-requires c κs = let q = c .before .before .before .before .before .before .before .before .pre in (ready (q .0 .3), q .3)
+extreme-requires c κs =
+    let start : tie.Start = search in
+    let q = start .pre in (ready (q .0 .3), q .3)
 
 returns-3 : tie.Need-returns-3
-returns-3 c P needs C p s = let q = c .before .before .before .before .before .before .before .before .before .before .pre in
+returns-3 c P needs C p s =
+    let start : tie.Start = search in
+    let q = start .pre in
     not-extreme (p .few) (q .1) (q .2) s (says-no (c .before .extreme .result) (c .if3 .taken) (c .before .extreme .ensures _ P needs p))
 
 insert-requires : tie.Need-insert-requires
 insert-requires c κs =
-    let l = c .before .before .before .before .before .before in let s = l .before .before .before .before .before .pre .0 .4 .stored in
-    (l .place .ensures .few, new (c .before .before .before) .0, s .few, s .size)
+    let else2 : tie.Else2 = search in
+    let l : tie.After-place = search in
+    let start : tie.Start = search in
+    let s = start .pre .0 .4 .stored in
+    (l .place .ensures .few, new else2 .0, s .few, s .size)
 
 returns-4 : tie.Need-returns-4
 returns-4 c P needs C p s =
-    let x = c .before .before .before in let l = x .before .before .before .before in let q = l .before .before .before .before .before .pre in
-    let e = says-yes (x .extreme .result) (c .before .before .if3 .left) (x .extreme .ensures _ P needs p) in
-    put-in (p .few) (q .1) (q .2) s _ _ _ (higher (l .before .before)) (l .place .ensures) (new (x .before)) e (c .insert .ensures)
+    let else3 : tie.Else3 = search in
+    let x : tie.After-extreme = search in
+    let else2 : tie.Else2 = search in
+    let l : tie.After-place = search in
+    let else1 : tie.Else1 = search in
+    let start : tie.Start = search in
+    let q = start .pre in
+    let e = says-yes (x .extreme .result) (else3 .if3 .left) (x .extreme .ensures _ P needs p) in
+    put-in (p .few) (q .1) (q .2) s _ _ _ (higher else1) (l .place .ensures) (new else2) e (c .insert .ensures)
 
 pub consider-spec : {M : Type 1} → statement M
 consider-spec =

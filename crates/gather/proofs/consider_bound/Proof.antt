@@ -19,14 +19,20 @@ loop-holds : tie.Need-loop-holds Inv-loop μ-loop
 loop-holds c = drawing-start
 
 candidate-requires : tie.Need-candidate-requires Inv-loop μ-loop
-candidate-requires c κs = let p = c .before .before .before .before .pre .0 .3 in
-    (p .few, omega (arith, p .some), stars-close p, pulls-close p, c .before .before .starred .ensures .1)
+candidate-requires c κs =
+    let at-starred : tie.After-starred Inv-loop μ-loop = search in
+    let start : tie.Start Inv-loop μ-loop = search in
+    let p = start .pre .0 .3 in
+    (p .few, omega (arith, p .some), stars-close p, pulls-close p, at-starred .starred .ensures .1)
 
 consider-requires : tie.Need-consider-requires Inv-loop μ-loop
 consider-requires c κs =
-    let y = c .before .before .before .before in let s = y .before .before in let (P, needs, C, p, g) = s .pre .0 in
+    let at-loop : tie.At-loop Inv-loop μ-loop = search in
+    let y : tie.After-starred Inv-loop μ-loop = search in
+    let s : tie.Start Inv-loop μ-loop = search in
+    let (P, needs, C, p, g) = s .pre .0 in
     let d = c .before .candidate .ensures in
-    let i = c .before .before .before .loop .inv .gathered P needs C (s .args .bound) p (y .starred .ensures .0) g in
+    let i = at-loop .loop .inv .gathered P needs C (s .args .bound) p (y .starred .ensures .0) g in
     ((P, needs, _, p, i), s .pre .1, d .written .sized, d .close)
 
 add-t : tie.Need-add-t Inv-loop μ-loop
@@ -36,8 +42,12 @@ loop-less : tie.Need-loop-less Inv-loop μ-loop
 loop-less c = omega arith
 
 loop-again : tie.Need-loop-again Inv-loop μ-loop
-loop-again c = let l = c .before .before .before in let p = l .before .before .before .before .pre .0 .3 in
-    drawing-more (l .before .loop .inv) (omega (arith, p .some)) (c .before .before .candidate .ensures) (c .consider .ensures)
+loop-again c =
+    let at-candidate : tie.After-candidate Inv-loop μ-loop = search in
+    let at-loop : tie.At-loop Inv-loop μ-loop = search in
+    let start : tie.Start Inv-loop μ-loop = search in
+    let p = start .pre .0 .3 in
+    drawing-more (at-loop .loop .inv) (omega (arith, p .some)) (at-candidate .candidate .ensures) (c .consider .ensures)
 
 returns : tie.Need-returns Inv-loop μ-loop
 returns c P needs C p g = let y = c .before .before in

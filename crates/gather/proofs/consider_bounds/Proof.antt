@@ -22,8 +22,11 @@ element-copy-out-consider-bound c = omega arith
 
 consider-bound-requires : tie.Need-consider-bound-requires Inv-loop μ-loop
 consider-bound-requires c κs =
-    let l = c .before .before .before in let s = l .before in let (P, needs, C, p, g) = s .pre .0 in
-    ((P, needs, _, p, l .loop .inv .gathered P needs C p g), s .pre .1, s .pre .4 (l .loop .k) (c .before .before .loop-test .taken))
+    let in-loop : tie.In-loop Inv-loop μ-loop = search in
+    let l : tie.At-loop Inv-loop μ-loop = search in
+    let s : tie.Start Inv-loop μ-loop = search in
+    let (P, needs, C, p, g) = s .pre .0 in
+    ((P, needs, _, p, l .loop .inv .gathered P needs C p g), s .pre .1, s .pre .4 (l .loop .k) (in-loop .loop-test .taken))
 
 add-k : tie.Need-add-k Inv-loop μ-loop
 add-k c = omega arith
@@ -32,8 +35,11 @@ loop-less : tie.Need-loop-less Inv-loop μ-loop
 loop-less c = omega arith
 
 loop-again : tie.Need-loop-again Inv-loop μ-loop
-loop-again c = let l = c .before .before .before .before in
-    drawn-to-more (l .loop .inv) (c .before .before .before .loop-test .taken) (omega (arith, l .before .pre .2, l .before .pre .3)) (c .consider-bound .ensures)
+loop-again c =
+    let in-loop : tie.In-loop Inv-loop μ-loop = search in
+    let l : tie.At-loop Inv-loop μ-loop = search in
+    let start : tie.Start Inv-loop μ-loop = search in
+    drawn-to-more (l .loop .inv) (in-loop .loop-test .taken) (omega (arith, start .pre .2, start .pre .3)) (c .consider-bound .ensures)
 
 returns : tie.Need-returns Inv-loop μ-loop
 returns c P needs C p g = drawn-to-end (c .before .loop .inv) (c .loop-test .left) .gathered P needs C p g

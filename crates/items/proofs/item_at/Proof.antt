@@ -19,7 +19,10 @@ add-t11 : tie.Need-add-t11
 add-t11 c = search needs
 
 returns-2 : tie.Need-returns-2
-returns-2 c = item-zero _ _ (c .before .before .before .if1 .left) (c .before .before .before .before .before .args .most) (c .before .if2 .taken) _ (c .positive .ensures)
+returns-2 c =
+    let else1 : tie.Else1 = search in
+    let start : tie.Start = search in
+    item-zero _ _ (else1 .if1 .left) (start .args .most) (c .before .if2 .taken) _ (c .positive .ensures)
 
 add-signed-at : tie.Need-add-signed-at
 add-signed-at c = search needs
@@ -29,8 +32,10 @@ signed-at-requires c κs = search needs
 
 returns-3 : tie.Need-returns-3
 returns-3 c =
-    let d = c .before in
-    item-signed _ _ (d .before .before .before .if1 .left) (d .before .before .before .before .before .args .most) (d .if3 .taken) (c .signed-at .result) (c .signed-at .ensures)
+    let d : tie.Then3 = search in
+    let else1 : tie.Else1 = search in
+    let start : tie.Start = search in
+    item-signed _ _ (else1 .if1 .left) (start .args .most) (d .if3 .taken) (c .signed-at .result) (c .signed-at .ensures)
 
 is-leading-requires : tie.Need-is-leading-requires
 is-leading-requires c κs = search needs
@@ -54,16 +59,22 @@ positive-requires-2 c κs = search needs
 
 returns-4 : tie.Need-returns-4
 returns-4 c =
-    let d = c .before .before .before in
-    let k = d .before .before in
-    item-numeral _ _ (k .before .before .before .if1 .left) (k .before .if2 .left) (k .if3 .left) _
-    (sym (d .before .is-leading .ensures) ∙ d .if4 .taken) (rw (c .before .before .wide .ensures) at (c .before .numeral-from .ensures))
+    let at-wide : tie.After-wide = search in
+    let d : tie.Then4 = search in
+    let at-is-leading : tie.After-is-leading = search in
+    let k : tie.Else3 = search in
+    let else2 : tie.Else2 = search in
+    let else1 : tie.Else1 = search in
+    item-numeral _ _ (else1 .if1 .left) (else2 .if2 .left) (k .if3 .left) _
+    (sym (at-is-leading .is-leading .ensures) ∙ d .if4 .taken) (rw (at-wide .wide .ensures) at (c .before .numeral-from .ensures))
     (c .positive2 .ensures)
 
 returns-5 : tie.Need-returns-5
 returns-5 c =
-    let k = c .before .before in
-    item-none _ _ (k .before .before .before .if1 .left) (k .before .if2 .left) (k .if3 .left) (sym (c .before .is-leading .ensures) ∙ c .if4 .left)
+    let k : tie.Else3 = search in
+    let else2 : tie.Else2 = search in
+    let else1 : tie.Else1 = search in
+    item-none _ _ (else1 .if1 .left) (else2 .if2 .left) (k .if3 .left) (sym (c .before .is-leading .ensures) ∙ c .if4 .left)
 
 pub item-at-spec : {M : Type 1} → statement M
 item-at-spec =

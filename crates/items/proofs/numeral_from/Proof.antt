@@ -36,8 +36,9 @@ wide-requires c κs = search needs
 
 add-capped : tie.Need-add-capped Inv-loop μ-loop
 add-capped c =
-    let k = c .before .before .before in
-    omega (arith, k .shared-slice-known2 .given (k .before .before .loop .at))
+    let k : tie.After-shared-slice-known2 Inv-loop μ-loop = search in
+    let at-loop : tie.At-loop Inv-loop μ-loop = search in
+    omega (arith, k .shared-slice-known2 .given (at-loop .loop .at))
 
 capped-requires : tie.Need-capped-requires Inv-loop μ-loop
 capped-requires c κs = search needs
@@ -50,9 +51,11 @@ loop-less c = search needs
 
 loop-again : tie.Need-loop-again Inv-loop μ-loop
 loop-again c =
-    let d = c .before .before in
-    let k = d .before .before .before in
-    read-digit (k .before .loop .inv) _ (k .loop-test .taken) (sym (d .before .is-digit .ensures) ∙ not-false _ (d .if1 .left))
+    let d : tie.Else1 Inv-loop μ-loop = search in
+    let at-is-digit : tie.After-is-digit Inv-loop μ-loop = search in
+    let k : tie.In-loop Inv-loop μ-loop = search in
+    let at-loop : tie.At-loop Inv-loop μ-loop = search in
+    read-digit (at-loop .loop .inv) _ (k .loop-test .taken) (sym (at-is-digit .is-digit .ensures) ∙ not-false _ (d .if1 .left))
     (c .capped .ensures ∙ rw (c .before .wide .ensures))
 
 returns : tie.Need-returns Inv-loop μ-loop
@@ -60,8 +63,9 @@ returns c = read-whole (c .before .loop .inv) (stop-end _ _ (c .loop-test .left)
 
 returns-2 : tie.Need-returns-2 Inv-loop μ-loop
 returns-2 c =
-    let k = c .before .before .before in
-    read-whole (k .before .loop .inv) (stop-other _ _ (k .loop-test .taken) (sym (c .before .is-digit .ensures) ∙ not-true _ (c .if1 .taken)))
+    let k : tie.In-loop Inv-loop μ-loop = search in
+    let at-loop : tie.At-loop Inv-loop μ-loop = search in
+    read-whole (at-loop .loop .inv) (stop-other _ _ (k .loop-test .taken) (sym (c .before .is-digit .ensures) ∙ not-true _ (c .if1 .taken)))
 
 pub numeral-from-spec : {M : Type 1} → statement M
 numeral-from-spec =

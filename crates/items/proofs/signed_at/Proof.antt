@@ -34,13 +34,18 @@ negative-requires c κs = search needs
 
 returns-2 : tie.Need-returns-2
 returns-2 c =
-    let d = c .before .before .before in
-    signed-numeral _ _ (d .before .before .before .if1 .left) _ (sym (d .before .is-leading .ensures) ∙ d .if2 .taken)
-    (rw (c .before .before .wide .ensures) at (c .before .numeral-from .ensures)) (c .negative .ensures)
+    let at-wide : tie.After-wide = search in
+    let d : tie.Then2 = search in
+    let at-is-leading : tie.After-is-leading = search in
+    let else1 : tie.Else1 = search in
+    signed-numeral _ _ (else1 .if1 .left) _ (sym (at-is-leading .is-leading .ensures) ∙ d .if2 .taken)
+    (rw (at-wide .wide .ensures) at (c .before .numeral-from .ensures)) (c .negative .ensures)
 
 returns-3 : tie.Need-returns-3
 returns-3 c =
-    signed-other _ _ (c .before .before .before .if1 .left) (c .before .before .before .before .before .args .most) (sym (c .before .is-leading .ensures) ∙ c .if2 .left)
+    let else1 : tie.Else1 = search in
+    let start : tie.Start = search in
+    signed-other _ _ (else1 .if1 .left) (start .args .most) (sym (c .before .is-leading .ensures) ∙ c .if2 .left)
 
 pub signed-at-spec : {M : Type 1} → statement M
 signed-at-spec =

@@ -17,9 +17,11 @@ refusal-text-requires c κs = search needs
 
 returns : tie.Need-returns
 returns c =
-    let a = c .before .before .before .before in
-    let k = a .before .before .kept-table .ensures in
-    answered (c .refusal-text .ensures) (refusal-out _ _ k (c .before .before .if1 .taken)) (a .advice-text .ensures) (complaint-out _ _ k)
+    let refused : tie.Then1 = search in
+    let a : tie.After-advice-text = search in
+    let made : tie.After-kept-table = search in
+    let k = made .kept-table .ensures in
+    answered (c .refusal-text .ensures) (refusal-out _ _ k (refused .if1 .taken)) (a .advice-text .ensures) (complaint-out _ _ k)
 
 cast-kept-text : tie.Need-cast-kept-text
 cast-kept-text c = search needs
@@ -29,15 +31,17 @@ cast-kept-text-2 c = search needs
 
 kept-text-requires : tie.Need-kept-text-requires
 kept-text-requires c κs =
-    let k = c .before .before .before .before .before .before .before .before .before .before in
-    (search needs, few-out _ _ (k .kept-table .ensures))
+    let made : tie.After-kept-table = search in
+    (search needs, few-out _ _ (made .kept-table .ensures))
 
 returns-2 : tie.Need-returns-2
 returns-2 c =
-    let i = c .before .before .before .before .before .before .before in
-    let a = i .before .before in
-    let k = a .before .before .kept-table .ensures in
-    let t = deviation-back _ _ _ (record { sfits = c .before .struct-told .given .1 .0 .1 }) ∙ table-out _ _ k (i .if1 .left) in
+    let told : tie.After-struct-told = search in
+    let held : tie.Else1 = search in
+    let a : tie.After-advice-text = search in
+    let made : tie.After-kept-table = search in
+    let k = made .kept-table .ensures in
+    let t = deviation-back _ _ _ (record { sfits = told .struct-told .given .1 .0 .1 }) ∙ table-out _ _ k (held .if1 .left) in
     answered (c .kept-text .ensures) t (a .advice-text .ensures) (complaint-out _ _ k)
 
 pub answer-spec : {M : Type 1} → statement M

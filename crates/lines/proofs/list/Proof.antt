@@ -16,15 +16,21 @@ returns : tie.Need-returns
 returns c P g = let e = whole-count (c .before .before .gather .ensures) (c .before .if1 .taken) g in (e, omega (arith, c .if2 .taken), refl)
 
 write-held-requires : tie.Need-write-held-requires
-write-held-requires c κs = let r = c .before .before .before .before in let (P, g) = r .before .before .pre in
+write-held-requires c κs =
+    let r : tie.After-gather = search in
+    let start : tie.Start = search in
+    let (P, g) = start .pre in
     let h = r .gather .ensures P g in (g .few, h .stored .few, h .stored .size, omega arith, held-close g h)
 
 same-length : tie.Need-same-length
 same-length c = search needs
 
 returns-2 : tie.Need-returns-2
-returns-2 c P g = let r = c .before .before .before .before in
-    answers-held (r .before .before .gather .ensures) (r .before .if1 .taken) g _ _ (r .if2 .left) (c .before .write-held .ensures)
+returns-2 c P g =
+    let r : tie.Else2 = search in
+    let then1 : tie.Then1 = search in
+    let at-gather : tie.After-gather = search in
+    answers-held (at-gather .gather .ensures) (then1 .if1 .taken) g _ _ (r .if2 .left) (c .before .write-held .ensures)
 
 count-lines-requires : tie.Need-count-lines-requires
 count-lines-requires c κs = search needs
@@ -33,7 +39,10 @@ returns-3 : tie.Need-returns-3
 returns-3 c P g = let e = c .before .count-lines .ensures P g in (e, omega (arith, c .if3 .taken), refl)
 
 write-lines-requires : tie.Need-write-lines-requires
-write-lines-requires c κs = let k = c .before .before in let (P, g) = k .before .before .before .before .pre in
+write-lines-requires c κs =
+    let k : tie.After-count-lines = search in
+    let start : tie.Start = search in
+    let (P, g) = start .pre in
     (P, g, omega (arith, k .count-lines .ensures P g))
 
 same-length-2 : tie.Need-same-length-2
@@ -41,9 +50,12 @@ same-length-2 c = search needs
 
 returns-4 : tie.Need-returns-4
 returns-4 c P g =
-    let k = c .before .before .before .before in let n = k .before .before .before .before .args .marks .triggers in
+    let else3 : tie.Else3 = search in
+    let k : tie.After-count-lines = search in
+    let start : tie.Start = search in
+    let n = start .args .marks .triggers in
     let e = k .count-lines .ensures P g in
-    answers-lines n (lines n P) _ _ _ e (c .before .before .before .if3 .left) (c .before .write-lines .ensures P g (omega arith))
+    answers-lines n (lines n P) _ _ _ e (else3 .if3 .left) (c .before .write-lines .ensures P g (omega arith))
 
 pub list-spec : {M : Type 1} → statement M
 list-spec =

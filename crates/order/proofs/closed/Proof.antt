@@ -21,8 +21,11 @@ abbrev μ-loop : tie.MeasureT-loop
 abbrev start : tie.At-loop Inv-loop μ-loop → tie.Start Inv-loop μ-loop
 start c = c .before .before
 
+abbrev at-sum : tie.After-product Inv-loop μ-loop → tie.After-sum Inv-loop μ-loop
+at-sum c = c .before .before .before
+
 abbrev loop : tie.After-product Inv-loop μ-loop → tie.At-loop Inv-loop μ-loop
-loop c = c .before .before .before .before .before .before
+loop c = at-sum c .before .before .before
 
 -- the next power
 next : (c : tie.After-product Inv-loop μ-loop) → let a = start (loop c) .args in

@@ -34,8 +34,10 @@ index-2-if1 c = omega arith
 
 returns : tie.Need-returns Inv-loop μ-loop
 unfolding meant
-returns c = λ h.
-    above-unit _ _ (c .before .before .before .before .positive .ensures) (c .if1 .taken) (h (c .before .before .before .loop .i) (omega arith))
+returns c =
+    let at-loop : tie.At-loop Inv-loop μ-loop = search in
+    let at-positive : tie.After-positive Inv-loop μ-loop = search in
+    λ h. above-unit _ _ (at-positive .positive .ensures) (c .if1 .taken) (h (at-loop .loop .i) (omega arith))
 
 add-i : tie.Need-add-i Inv-loop μ-loop
 add-i c = omega arith
@@ -45,10 +47,12 @@ loop-less c = omega arith
 
 loop-again : tie.Need-loop-again Inv-loop μ-loop
 unfolding meant
-loop-again c = (
-  omega arith,
-  below-more _ _ (c .before .before .before .loop .inv .1) (at-most-unit _ _ (c .before .before .before .before .positive .ensures) (omega arith)),
-)
+loop-again c =
+    let at-loop : tie.At-loop Inv-loop μ-loop = search in
+    let at-positive : tie.After-positive Inv-loop μ-loop = search in (
+      omega arith,
+      below-more _ _ (at-loop .loop .inv .1) (at-most-unit _ _ (at-positive .positive .ensures) (omega arith)),
+    )
 
 returns-2 : tie.Need-returns-2 Inv-loop μ-loop
 returns-2 c = λ i h. c .before .loop .inv .1 i (omega arith)

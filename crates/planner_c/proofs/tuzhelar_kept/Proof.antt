@@ -22,8 +22,11 @@ same-length c = search needs
 
 returns : tie.Need-returns
 returns c =
-    let p = c .before .before .before .before .kept-table .ensures in
-    (ap (λ (r : KeptTable). r .refusal) p, c .before .before .write-kept .ensures ∙ ap (λ (r : KeptTable). kept-words r (c .before .before .before .before .before .before .args .answer .now)) p)
+    let words : tie.After-write-kept = search in
+    let at-kept : tie.After-kept-table = search in
+    let s : tie.Start = search in
+    let p = at-kept .kept-table .ensures in
+    (ap (λ (r : KeptTable). r .refusal) p, words .write-kept .ensures ∙ ap (λ (r : KeptTable). kept-words r (s .args .answer .now)) p)
 
 pub tuzhelar-kept-spec : {M : Type 1} → statement M
 tuzhelar-kept-spec =

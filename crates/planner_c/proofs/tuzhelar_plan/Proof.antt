@@ -25,8 +25,12 @@ same-length-2 c = search needs
 
 returns : tie.Need-returns
 returns c =
-    let p = c .before .before .before .before .before .plan .ensures in
-    (ap (λ (r : CuePlan). r .refusal) (p .0), (p .1, c .before .before .write-plan .ensures ∙ ap (λ (r : CuePlan). plan-words r (c .before .before .before .before .before .before .before .before .args .answer .now)) (p .0)))
+    let words : tie.After-write-plan = search in
+    let at-plan : tie.After-plan = search in
+    let s : tie.Start = search in
+    let p = at-plan .plan .ensures in
+    let e = words .write-plan .ensures ∙ ap (λ (r : CuePlan). plan-words r (s .args .answer .now)) (p .0) in
+    (ap (λ (r : CuePlan). r .refusal) (p .0), (p .1, e))
 
 pub tuzhelar-plan-spec : {M : Type 1} → statement M
 tuzhelar-plan-spec =

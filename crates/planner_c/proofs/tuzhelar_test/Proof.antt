@@ -14,7 +14,8 @@ use Rattle.planner_c.proofs.tuzhelar_test.Tie as tie
 -- what was found of the six times, under the answer's name
 tested : (s : List ℕ) (count : ℕ) {at lent : List ℤ} {r q : Tested} → at ≡ lent → Testing s count (component at) (test-answer r) → r ≡ q →
     Testing s count (component lent) (test-answer q)
-tested s count {at} {lent} {r} {q} e h d = subst (λ at. Testing s count (component at) (test-answer q)) e (subst (λ r. Testing s count (component at) (test-answer r)) d h)
+tested s count {at} {lent} {r} {q} e h d =
+    subst (λ at. Testing s count (component at) (test-answer q)) e (subst (λ r. Testing s count (component at) (test-answer r)) d h)
 
 six-times-requires : tie.Need-six-times-requires
 six-times-requires c κs = search needs
@@ -35,15 +36,23 @@ cast-result : tie.Need-cast-result
 cast-result c = search needs
 
 returns : tie.Need-returns
-returns c = (answer true, tested _ _ (c .before .before .before .six-times .ensures) (c .before .before .test-timing .ensures) (c .enum-told .given .1), refl)
+returns c =
+    let t : tie.After-test-timing = search in
+    let six : tie.After-six-times = search in
+    (answer true, tested _ _ (six .six-times .ensures) (t .test-timing .ensures) (c .enum-told .given .1), refl)
 
 returns-2 : tie.Need-returns-2
-returns-2 c = (answer false, tested _ _ (c .before .before .before .six-times .ensures) (c .before .before .test-timing .ensures) (c .enum-told2 .given .1), refl)
+returns-2 c =
+    let t : tie.After-test-timing = search in
+    let six : tie.After-six-times = search in
+    (answer false, tested _ _ (six .six-times .ensures) (t .test-timing .ensures) (c .enum-told2 .given .1), refl)
 
 returns-3 : tie.Need-returns-3
 returns-3 c =
+    let t : tie.After-test-timing = search in
+    let six : tie.After-six-times = search in
     let (k, e) = c .before .k .given in
-    (refused (k .0), tested _ _ (c .before .before .before .before .six-times .ensures) (c .before .before .before .test-timing .ensures) e, refl)
+    (refused (k .0), tested _ _ (six .six-times .ensures) (t .test-timing .ensures) e, refl)
 
 pub tuzhelar-test-spec : {M : Type 1} → statement M
 tuzhelar-test-spec =

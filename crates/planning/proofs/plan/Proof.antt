@@ -86,7 +86,8 @@ returns-2 c =
     let k : tie.Else1 = search in
     let (s, x, q, Q) = found k in
     let (n, e) = c .before .before .k .given in
-    let d = does-full _ _ s x q _ _ (Q .marked .triggers-are) _ (c .no-room .ensures) (subst (Answers _ _ _ _) e (l .list .ensures (cue-of s) (Q .marked .prepared))) in
+    let d = does-full _ _ s x q _ _ (Q .marked .triggers-are) _ (c .no-room .ensures)
+    (subst (Answers _ _ _ _) e (l .list .ensures (cue-of s) (Q .marked .prepared))) in
     (d .answer, d .written)
 
 same-length-2 : tie.Need-same-length-2

@@ -79,4 +79,5 @@ returns-3 c s e =
     readied t x (ordered-got _ t x r (kept-by-size t size np)) size H np (c .marks-of .ensures (cue-of t) _ _ (T .fit np))
 
 pub prepare-spec : {M : Type 1} → statement M
-prepare-spec = tie.close (tie.spec not-prepared-requires returns cue-of-requires closed-tables-requires not-prepared-requires-2 returns-2 marks-of-requires returns-3)
+prepare-spec = tie.close
+    (tie.spec not-prepared-requires returns cue-of-requires closed-tables-requires not-prepared-requires-2 returns-2 marks-of-requires returns-3)

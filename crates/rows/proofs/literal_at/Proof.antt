@@ -12,6 +12,10 @@ Inv-loop s at key i₀ i = Matched s at key i
 abbrev μ-loop : tie.MeasureT-loop
 μ-loop s at key i₀ i = length key - i
 
+-- the turn in which two bytes are compared
+abbrev turn : tie.After-shared-slice-known2 Inv-loop μ-loop → tie.In-loop Inv-loop μ-loop
+turn c = c .before .before .before
+
 loop-holds : tie.Need-loop-holds Inv-loop μ-loop
 loop-holds c = matched-none _ _ _ (c .pre)
 
@@ -32,7 +36,7 @@ shared-slice-read-if2-2 c = omega arith
 
 returns-2 : tie.Need-returns-2 Inv-loop μ-loop
 returns-2 c =
-    let k = c .before .before .before .before in
+    let k = turn (c .before) in
     matched-differs (k .before .loop .inv) (k .loop-test .taken) (omega arith) (c .if2 .taken)
 
 add-i : tie.Need-add-i Inv-loop μ-loop
@@ -43,7 +47,7 @@ loop-less c = omega arith
 
 loop-again : tie.Need-loop-again Inv-loop μ-loop
 loop-again c =
-    let k = c .before .before .before .before in
+    let k = turn (c .before) in
     matched-more (k .before .loop .inv) (k .loop-test .taken) (omega arith) (c .if2 .left)
 
 returns-3 : tie.Need-returns-3 Inv-loop μ-loop

@@ -74,10 +74,11 @@ loop2-less c = omega arith
 
 loop2-again : tie.Need-loop2-again Inv-loop2 μ-loop2 Inv-loop μ-loop
 unfolding meant
-loop2-again c = (
-  omega arith,
-  cells-more _ _ _ _ _ _ (omega arith) (omega arith) (c .before .before .before .before .loop2 .inv .1) (c .larger .ensures),
-)
+loop2-again c =
+    let at-loop2 : tie.At-loop2 Inv-loop2 μ-loop2 Inv-loop μ-loop = search in (
+      omega arith,
+      cells-more _ _ _ _ _ _ (omega arith) (omega arith) (at-loop2 .loop2 .inv .1) (c .larger .ensures),
+    )
 
 add-i : tie.Need-add-i Inv-loop2 μ-loop2 Inv-loop μ-loop
 add-i c = omega arith

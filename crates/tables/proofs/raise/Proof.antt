@@ -51,11 +51,13 @@ loop-less c = omega arith
 
 loop-again : tie.Need-loop-again Inv-loop μ-loop
 unfolding meantV
-loop-again c = let l = c .before .before .before .before in (
-  omega arith,
-  raising-more (c .before .before .plus .result) (c .larger .result) (omega arith) (l .loop .inv .1) (unfold meantV in c .before .before .plus .ensures)
-      (c .larger .ensures),
-)
+loop-again c =
+    let at-plus : tie.After-plus Inv-loop μ-loop = search in
+    let l : tie.At-loop Inv-loop μ-loop = search in (
+      omega arith,
+      raising-more (at-plus .plus .result) (c .larger .result) (omega arith) (l .loop .inv .1) (unfold meantV in at-plus .plus .ensures)
+          (c .larger .ensures),
+    )
 
 returns-2 : tie.Need-returns-2 Inv-loop μ-loop
 returns-2 c = raising-end (c .before .loop .inv .1) (c .loop-test .left)

@@ -32,7 +32,9 @@ element-copy-out-raise : tie.Need-element-copy-out-raise Inv-loop μ-loop
 element-copy-out-raise c = omega arith
 
 raise-requires : tie.Need-raise-requires Inv-loop μ-loop
-raise-requires c κs = let l = c .before .before .before in let s = l .before in
+raise-requires c κs =
+    let l : tie.At-loop Inv-loop μ-loop = search in
+    let s : tie.Start Inv-loop μ-loop = search in
     (s .pre .0, s .pre .1 .at (l .loop .k) (omega arith), record { at = λ j h. s .pre .2 .at (l .loop .k) j (omega arith) h }, l .loop .inv .1)
 
 add-k : tie.Need-add-k Inv-loop μ-loop
@@ -43,7 +45,8 @@ loop-less c = omega arith
 
 loop-again : tie.Need-loop-again Inv-loop μ-loop
 unfolding meant meantV
-loop-again c = let l = c .before .before .before .before in
+loop-again c =
+    let l : tie.At-loop Inv-loop μ-loop = search in
     (omega arith, c .raise .ensures .size, row-more _ (l .loop .k) (l .loop .inv .2) (c .raise .ensures) (λ j. refl))
 
 returns : tie.Need-returns Inv-loop μ-loop

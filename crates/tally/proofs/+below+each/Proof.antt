@@ -2,12 +2,12 @@
 use mathlib.Core.Path.{subst, _∙_}
 use Prim.Native.Nat.{ℕ, _+_, _*_, _-_, _≤_, _<_}
 use native.Mathlib.Omega.{arith}
-use lib.Bits.{and-le-l, and-le-r}
+use lib.Bits.{bitAnd}
 use lib.Count.{trailingZeros}
 use borrow.Fn.Kinds.{In}
 use borrow.Fn.PlainCycle.{Measures, is, falls, and}
-use Rattle.masks.proofs.Bytes.{low-in}
-use Rattle.tally.specs.Counting.{CutBelow}
+use Rattle.trigger_sets.proofs.MemberLaws.{low-in}
+use Rattle.tally.specs.Counting.{CutBelow, Counted, tried}
 use Rattle.tally.proofs.CountLaws.{counted-whole, counted-again, counted-level, counted-none, counted-more, steps-few, selections-fit}
 use Rattle.tally.proofs.below.Reads as below
 use Rattle.tally.proofs.below.Kinds as below-kinds
@@ -17,8 +17,9 @@ use Rattle.tally.proofs.each.Kinds as each-kinds
 use Rattle.tally.proofs.+below+each.Lts-each as each-lts
 use Rattle.tally.proofs.cut_below.Reads as cut-below-reads
 use Rattle.tally.proofs.same_from.Reads as same-from-reads
-use Rattle.tally.proofs.wide.Reads as wide-reads
-use Rattle.masks.proofs.low.Reads as low-reads
+use Rattle.trigger_sets.proofs.wide.Reads as wide-reads
+use Rattle.trigger_sets.proofs.low.Reads as low-reads
+use Rattle.trigger_sets.proofs.others.Reads as others-reads
 use Rattle.tally.proofs.+below+each.{statement}
 use Rattle.tally.proofs.+below+each.Tie.{close}
 
@@ -47,6 +48,8 @@ below-claims t = (same-from-reads.Asked, same-from-reads.Learnt, each-below t, e
 
 abbrev each-claims : ℕ → each-lts.Claims
 each-claims t = (
+  others-reads.Asked,
+  others-reads.Learnt,
   low-reads.Asked,
   low-reads.Learnt,
   wide-reads.Asked,
@@ -59,11 +62,47 @@ each-claims t = (
   each.Post,
 )
 
+-- places: of `below` where the level is not past the last one, and after its triggers have been tried; of `each` where a trigger is left,
+-- after its cut, after what happens below it and after what happens below the others
+abbrev Inner : ℕ → Type 0
+Inner t = below-lts.Else1 (below-claims t) (below-at t) below.Post
+
+abbrev Tried : ℕ → Type 0
+Tried t = below-lts.After-each (below-claims t) (below-at t) below.Post
+
+abbrev Some : ℕ → Type 0
+Some t = each-lts.Else1 (each-claims t) (each-at t) each.Post
+
+abbrev Cut : ℕ → Type 0
+Cut t = each-lts.After-cut-below (each-claims t) (each-at t) each.Post
+
+abbrev First : ℕ → Type 0
+First t = each-lts.After-below (each-claims t) (each-at t) each.Post
+
+abbrev Others : ℕ → Type 0
+Others t = each-lts.After-each (each-claims t) (each-at t) each.Post
+
+-- the way from each to the one before, over the references that are lent on
+abbrev inner : {t : ℕ} → Tried t → Inner t
+inner c = let e = c .before .before .before in let f = e .before .before .before in f .before
+
+abbrev split : {t : ℕ} → Cut t → each-lts.After-others (each-claims t) (each-at t) each.Post
+split c = c .before .before .before
+
+abbrev some : {t : ℕ} → Cut t → Some t
+some c = split c .before
+
+abbrev cut-one : {t : ℕ} → First t → Cut t
+cut-one c = let e = c .before .before in e .before .before
+
+abbrev first : {t : ℕ} → Others t → First t
+first c = let e = c .before .before in e .before .before
+
 -- where the level is not past the last, it is a place of the tables
-lower : {t : ℕ} (c : below-lts.Else1 (below-claims t) (below-at t) below.Post) → c .before .args .level < c .before .args .panels
+lower : {t : ℕ} (c : Inner t) → c .before .args .level < c .before .args .panels
 lower c = omega (arith, c .if1 .left, c .before .pre .1 .1)
 
-inside : {t : ℕ} (c : below-lts.Else1 (below-claims t) (below-at t) below.Post) → c .before .args .level < 6
+inside : {t : ℕ} (c : Inner t) → c .before .args .level < 6
 inside c = omega (arith, lower c, c .before .pre .1 .0 .few)
 
 below-returns : (t : ℕ) → below-lts.Need-returns (below-claims t) (below-at t) below.Post
@@ -85,91 +124,97 @@ below-element-copy-out-t20 : (t : ℕ) → below-lts.Need-element-copy-out-t20 (
 below-element-copy-out-t20 t c = inside (c .before .before .before)
 
 below-mul-t21 : (t : ℕ) → below-lts.Need-mul-t21 (below-claims t) (below-at t) below.Post
-below-mul-t21 t c = omega (arith, inside (c .before .before .before .before))
+below-mul-t21 t c = let e = c .before in omega (arith, inside (e .before .before .before))
 
 below-element-copy-out-t24 : (t : ℕ) → below-lts.Need-element-copy-out-t24 (below-claims t) (below-at t) below.Post
-below-element-copy-out-t24 t c = inside (c .before .before .before .before)
+below-element-copy-out-t24 t c = let e = c .before in inside (e .before .before .before)
 
 below-returns-2 : (t : ℕ) → below-lts.Need-returns-2 (below-claims t) (below-at t) below.Post
 below-returns-2 t c = let f = c .before .before .before in let e = f .before .before in
     counted-again (e .before .pre .1 .0) (lower e) (rw (c .before .before .if2 .taken) at (f .same-from .ensures))
 
 below-array-read-each : (t : ℕ) → below-lts.Need-array-read-each (below-claims t) (below-at t) below.Post
-below-array-read-each t c = inside (c .before .before .before .before .before .before)
+below-array-read-each t c = let e = c .before .before .before in inside (e .before .before .before)
 
 below-each-requires : (t : ℕ) → below-lts.Need-each-requires (below-claims t) (below-at t) below.Post
-below-each-requires t c κs = let e = c .before .before .before .before .before .before in let (m, (y, h)) = e .before .pre in
+below-each-requires t c κs =
+    let f = c .before .before .before in let e = f .before .before .before in let (m, (y, h)) = e .before .pre in
     let l = lower e in let s = y .small (e .before .args .level) in (omega (arith, m, l, s), (y, l, s))
 
 below-mul-t12 : (t : ℕ) → below-lts.Need-mul-t12 (below-claims t) (below-at t) below.Post
-below-mul-t12 t c = omega (arith, inside (c .before .before .before .before .before .before .before))
+below-mul-t12 t c = omega (arith, inside (inner c))
 
 below-element-set-from-seen : (t : ℕ) → below-lts.Need-element-set-from-seen (below-claims t) (below-at t) below.Post
-below-element-set-from-seen t c = inside (c .before .before .before .before .before .before .before)
+below-element-set-from-seen t c = inside (inner c)
 
 below-mul-steps : (t : ℕ) → below-lts.Need-mul-steps (below-claims t) (below-at t) below.Post
-below-mul-steps t c = omega (arith, inside (c .before .before .before .before .before .before .before))
+below-mul-steps t c = omega (arith, inside (inner c))
 
 below-element-write-steps : (t : ℕ) → below-lts.Need-element-write-steps (below-claims t) (below-at t) below.Post
-below-element-write-steps t c = inside (c .before .before .before .before .before .before .before)
+below-element-write-steps t c = inside (inner c)
 
 below-mul-selections : (t : ℕ) → below-lts.Need-mul-selections (below-claims t) (below-at t) below.Post
-below-mul-selections t c = omega (arith, inside (c .before .before .before .before .before .before .before))
+below-mul-selections t c = omega (arith, inside (inner c))
 
 below-element-write-selections : (t : ℕ) → below-lts.Need-element-write-selections (below-claims t) (below-at t) below.Post
-below-element-write-selections t c = inside (c .before .before .before .before .before .before .before)
+below-element-write-selections t c = inside (inner c)
 
 below-returns-3 : (t : ℕ) → below-lts.Need-returns-3 (below-claims t) (below-at t) below.Post
-below-returns-3 t c = let e = c .before .before .before .before .before .before .before in
-    counted-level _ (e .before .pre .1 .0 .few) (lower e) (c .each .ensures)
+below-returns-3 t c = counted-level _ (inner c .before .pre .1 .0 .few) (lower (inner c)) (c .each .ensures)
 
 -- what the masks are when the first trigger has been fixed
-cut : {t : ℕ} (c : each-lts.After-cut-below (each-claims t) (each-at t) each.Post) → let a = c .before .before .before .before .args in
+cut : {t : ℕ} (c : Cut t) → let a = some c .before .args in
     CutBelow (a .gains .now) (a .masks) (a .level) (trailingZeros 8 (a .m)) (c .cut-below .result)
-cut c = let a = c .before .before .before .before .args in
+cut c = let a = some c .before .args in
     subst (λ j. CutBelow (a .gains .now) (a .masks) (a .level) j (c .cut-below .result)) (c .before .wide .ensures ∙ c .before .before .low .ensures)
     (c .cut-below .ensures)
 
+-- what happens when the others are tried
+rest : {t : ℕ} (c : Others t) → let k = cut-one (first c) in let a = some k .before .args in
+    Counted (a .gains .now) (a .panels) (tried (a .gains .now) (a .panels) (a .level) (a .masks) (bitAnd (a .m) (a .m - 1))) (c .each .result)
+    (c .each .last .0) (c .each .last .1 .0) (c .each .last .1 .1 .0)
+rest c = rw (split (cut-one (first c)) .others .ensures .0) at (c .each .ensures)
+
 -- how many steps and selections come together
-sums : {t : ℕ} (c : each-lts.After-each (each-claims t) (each-at t) each.Post) →
-    let a = c .before .before .before .before .below .result in let b = c .each .result in
+sums : {t : ℕ} (c : Others t) →
+    let a = first c .below .result in let b = c .each .result in
     (1 + a .steps + b .steps ≤ 615858) × (a .selections + b .selections ≤ 615858)
 sums c =
-    let b = c .before .before .before .before in let k = b .before .before .before .before in let e = k .before .before .before in
+    let b = first c in let k = cut-one b in let e = some k in
     let (y, h, s) = e .before .pre .1 in let z : 0 < e .before .args .m = omega (arith, e .if1 .left) in
-    (steps-few (y .few) h z s (cut k) (b .below .ensures) (c .each .ensures), selections-fit (y .few) h z s (cut k) (b .below .ensures) (c .each .ensures))
+    (steps-few (y .few) h z s (cut k) (b .below .ensures) (rest c), selections-fit (y .few) h z s (cut k) (b .below .ensures) (rest c))
 
 each-returns : (t : ℕ) → each-lts.Need-returns (each-claims t) (each-at t) each.Post
 each-returns t c = let (y, h, s) = c .before .pre .1 in rw (c .if1 .taken) (counted-none _ (y .few) h (y .remembered))
 
+each-others-requires : (t : ℕ) → each-lts.Need-others-requires (each-claims t) (each-at t) each.Post
+each-others-requires t c κs = (omega (arith, c .if1 .left), c .before .pre .1 .2)
+
 each-low-requires : (t : ℕ) → each-lts.Need-low-requires (each-claims t) (each-at t) each.Post
-each-low-requires t c κs = (omega (arith, c .if1 .left), c .before .pre .1 .2)
+each-low-requires t c κs = let e = c .before in (omega (arith, e .if1 .left), e .before .pre .1 .2)
 
 each-wide-requires : (t : ℕ) → each-lts.Need-wide-requires (each-claims t) (each-at t) each.Post
 each-wide-requires t c κs = tt
 
 each-cut-below-requires : (t : ℕ) → each-lts.Need-cut-below-requires (each-claims t) (each-at t) each.Post
 each-cut-below-requires t c κs =
-    let e = c .before .before in let (y, h, s) = e .before .pre .1 in let z : 0 < e .before .args .m = omega (arith, e .if1 .left) in
+    let e = c .before .before .before in let (y, h, s) = e .before .pre .1 in let z : 0 < e .before .args .m = omega (arith, e .if1 .left) in
     (omega (arith, h, y .few), omega (arith, c .wide .ensures, c .before .low .ensures, low-in (e .before .args .m) z s), y .small, y .size)
 
 each-add-below : (t : ℕ) → each-lts.Need-add-below (each-claims t) (each-at t) each.Post
-each-add-below t c = let (y, h, s) = c .before .before .before .before .before .before .before .pre .1 in omega (arith, h, y .few)
+each-add-below t c = let k = c .before .before .before in let (y, h, s) = some k .before .pre .1 in omega (arith, h, y .few)
 
 each-below-requires : (t : ℕ) → each-lts.Need-below-requires (each-claims t) (each-at t) each.Post
 each-below-requires t c κs =
-    let k = c .before .before .before in let (m, (y, h, s)) = k .before .before .before .before .pre in let b = cut k in
+    let k = c .before .before .before in let (m, (y, h, s)) = some k .before .pre in let b = cut k in
     (omega (arith, m), (record { few = y .few; small = b .small; size = b .size; remembered = y .remembered }, omega (arith, h)))
-
-each-sub-each : (t : ℕ) → each-lts.Need-sub-each (each-claims t) (each-at t) each.Post
-each-sub-each t c = omega (arith, c .before .before .before .before .before .before .before .before .before .before .if1 .left)
 
 each-each-requires : (t : ℕ) → each-lts.Need-each-requires (each-claims t) (each-at t) each.Post
 each-each-requires t c κs =
-    let b = c .before .before .before in let e = b .before .before .before .before .before .before .before in
-    let (m, (y, h, s)) = e .before .pre in let a = e .before .args in let z : 0 < a .m = omega (arith, e .if1 .left) in (
-      omega (arith, m, z, and-le-r (a .m) (a .m - 1)),
-      (record { few = y .few; small = y .small; size = y .size; remembered = b .below .ensures .remembered }, h, omega (arith, s, and-le-l (a .m) (a .m - 1))),
+    let b = c .before .before .before in let o = split (cut-one b) in
+    let (m, (y, h, s)) = o .before .before .pre in let l = o .others .ensures .1 in (
+      omega (arith, m, l),
+      (record { few = y .few; small = y .small; size = y .size; remembered = b .below .ensures .remembered }, h, omega (arith, s, l)),
     )
 
 each-add-t22 : (t : ℕ) → each-lts.Need-add-t22 (each-claims t) (each-at t) each.Post
@@ -179,13 +224,13 @@ each-add-t23 : (t : ℕ) → each-lts.Need-add-t23 (each-claims t) (each-at t) e
 each-add-t23 t c = omega (arith, sums (c .before .before) .0)
 
 each-add-t24 : (t : ℕ) → each-lts.Need-add-t24 (each-claims t) (each-at t) each.Post
-each-add-t24 t c = omega (arith, sums (c .before .before .before .before) .1)
+each-add-t24 t c = let o = c .before .before in omega (arith, sums (o .before .before) .1)
 
 each-returns-2 : (t : ℕ) → each-lts.Need-returns-2 (each-claims t) (each-at t) each.Post
 each-returns-2 t c =
-    let o = c .before .before .before .before in let b = o .before .before .before .before in let k = b .before .before .before .before in
-    let e = k .before .before .before in let (y, h, s) = e .before .pre .1 in
-    counted-more (y .few) h (omega (arith, e .if1 .left)) s (cut k) (b .below .ensures) (o .each .ensures)
+    let r = c .before .before in let o = r .before .before in let b = first o in let k = cut-one b in
+    let e = some k in let (y, h, s) = e .before .pre .1 in
+    counted-more (y .few) h (omega (arith, e .if1 .left)) s (cut k) (b .below .ensures) (rest o)
 
 pub +below+each-spec : {M : Type 1} → statement M
 +below+each-spec = close μ-below μ-each (λ t. below-lts.spec (below-claims t)
@@ -213,12 +258,12 @@ pub +below+each-spec : {M : Type 1} → statement M
     (each-at t)
     each.Post
     (each-returns t)
+    (each-others-requires t)
     (each-low-requires t)
     (each-wide-requires t)
     (each-cut-below-requires t)
     (each-add-below t)
     (each-below-requires t)
-    (each-sub-each t)
     (each-each-requires t)
     (each-add-t22 t)
     (each-add-t23 t)

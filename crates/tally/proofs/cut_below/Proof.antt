@@ -57,8 +57,9 @@ loop-less : tie.Need-loop-less Inv-loop μ-loop
 loop-less c = omega arith
 
 loop-again : tie.Need-loop-again Inv-loop μ-loop
-loop-again c = let l = c .before .before .before .before in let p = l .before .pre in
-    cut-more (c .before .before .before .loop-test .taken) (p .1) (p .2) (l .loop .inv) (c .cut-by .ensures)
+loop-again c =
+    let i = c .before .before .before in let l = i .before in let p = l .before .pre in
+    cut-more (i .loop-test .taken) (p .1) (p .2) (l .loop .inv) (c .cut-by .ensures)
 
 returns : tie.Need-returns Inv-loop μ-loop
 returns c = cut-end (c .before .loop .inv) (c .loop-test .left)

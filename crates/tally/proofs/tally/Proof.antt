@@ -5,7 +5,8 @@ use Rattle.tally.proofs.tally.Statement.{statement}
 use Rattle.tally.proofs.tally.Tie as tie
 
 below-requires : tie.Need-below-requires
-below-requires c κs = let p = c .before .before .before .before .pre in
+below-requires c κs =
+    let a = c .before .before in let p = a .before .before .pre in
     (record { few = p .0; small = p .1; size = p .2; remembered = remembered-start (p .0) }, omega arith)
 
 returns : tie.Need-returns

@@ -31,7 +31,8 @@ abbrev at-start : tie.Else1 → tie.Start
 at-start c = at-read c .before .before
 
 -- the sheet that was read
-found : (c : tie.Else1) → (t : spec.Sheet) × (r : List ℕ) × (read (at-start c .args .bytes .now) ≡ got t r) × Worded t (at-read c .read-sheet .result .sheet)
+found : (c : tie.Else1) →
+    (t : spec.Sheet) × (r : List ℕ) × (read (at-start c .args .bytes .now) ≡ got t r) × Worded t (at-read c .read-sheet .result .sheet)
 found c = reading-good _ _ (at-read c .read-sheet .ensures) (c .if1 .left)
 
 -- the components that are looked at

@@ -24,8 +24,10 @@ same-length c = search needs
 returns : tie.Need-returns
 unfolding bytes refusal-text full-text
 returns c =
-    let first = c .before .before .before .before .before .before .before .natural-field .ensures .0 in
-    written (then first (c .before .before .natural-field2 .ensures .0))
+    let at-natural-field2 : tie.After-natural-field2 = search in
+    let at-natural-field : tie.After-natural-field = search in
+    let first = at-natural-field .natural-field .ensures .0 in
+    written (then first (at-natural-field2 .natural-field2 .ensures .0))
 
 pub full-text-spec : {M : Type 1} → statement M
 full-text-spec =

@@ -36,11 +36,11 @@ same-length c = search needs
 returns : tie.Need-returns
 unfolding bytes kept-text
 returns c =
-    let l = c .before .before in
-    let k = l .before .before .before .before .before in
-    let p = k .before .before .before .before .before in
-    let d = p .before .before .before .before in
-    let s = d .before .before .before .before in
+    let l : tie.After-natural-field2 = search in
+    let k : tie.After-natural-field = search in
+    let p : tie.After-put-panels = search in
+    let d : tie.After-number-field = search in
+    let s : tie.Start = search in
     let first = put-as (ap (λ z. field (bytes "deviation=") (numeral z)) (toZ-ofZ (s .fits .deviation))) (d .number-field .ensures .0) in
     written (then (then (then first (p .put-panels .ensures .0)) (k .natural-field .ensures .0)) (l .natural-field2 .ensures .0))
 

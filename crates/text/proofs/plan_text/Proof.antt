@@ -43,12 +43,12 @@ same-length c = search needs
 returns : tie.Need-returns
 unfolding bytes
 returns c =
-    let t = c .before .before in
-    let n = t .before .before .before .before in
-    let l = n .before .before .before .before .before in
-    let k = l .before .before .before .before .before in
-    let d = k .before .before .before .before .before in
-    let s = d .before .before .before .before in
+    let t : tie.After-put-lines = search in
+    let n : tie.After-natural-field3 = search in
+    let l : tie.After-natural-field2 = search in
+    let k : tie.After-natural-field = search in
+    let d : tie.After-number-field = search in
+    let s : tie.Start = search in
     let first = put-as (ap (λ z. field (bytes "deviation=") (numeral z)) (toZ-ofZ (s .fits .deviation))) (d .number-field .ensures .0) in
     let fields = then (then (then first (k .natural-field .ensures .0)) (l .natural-field2 .ensures .0)) (n .natural-field3 .ensures .0) in
     let p = then fields (t .put-lines .ensures) in

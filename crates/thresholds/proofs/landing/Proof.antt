@@ -6,7 +6,7 @@ use Rattle.maxplus.specs.Entry.{_⊗_, inv}
 use Rattle.maxplus.specs.Tables.{sup}
 use Rattle.words.specs.Words.{entry, Close}
 use Rattle.words.proofs.Laws.{close-none, close-more, close-larger, close-minus}
-use Rattle.sheet.specs.Sheet.{limit}
+use Rattle.sheet.specs.Sizes.{landing-size}
 use Rattle.tables.specs.Held.{meant, meantV}
 use Rattle.thresholds.specs.Steps.{landing-of}
 use Rattle.tables.proofs.Loops.{largest-none, largest-more}
@@ -14,7 +14,8 @@ use Rattle.thresholds.proofs.landing.Statement.{statement}
 use Rattle.thresholds.proofs.landing.Tie as tie
 
 abbrev Inv-loop : tie.InvT-loop
-Inv-loop through i n pulls best₀ j₀ best j = (j ≤ n) × (entry best ≡ sup j (λ j. meant through i j ⊗ inv (meantV pulls j))) × Close (12 * limit) best
+Inv-loop through i n pulls best₀ j₀ best j = (j ≤ n) × (entry best ≡ sup j (λ j. meant through i j ⊗ inv (meantV pulls j))) ×
+    Close landing-size best
 
 abbrev μ-loop : tie.MeasureT-loop
 μ-loop through i n pulls best₀ j₀ best j = n - j
@@ -58,8 +59,9 @@ loop-less c = omega arith
 loop-again : tie.Need-loop-again Inv-loop μ-loop
 unfolding meant meantV
 loop-again c =
-    let s = c .before .before .before .before .before in
-    let l = c .before .before .before .before .loop in (
+    let k : tie.At-loop Inv-loop μ-loop = search in
+    let s = k .before in
+    let l = k .loop in (
       omega arith,
       largest-more _ _ _ _ _ (c .before .minus .ensures) (l .inv .1) (c .larger .ensures),
       close-larger _ _ _ (c .larger .ensures)

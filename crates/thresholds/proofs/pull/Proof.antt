@@ -56,10 +56,9 @@ loop-less c = omega arith
 
 loop-again : tie.Need-loop-again Inv-loop μ-loop
 unfolding meant meantV
-loop-again c = (
-  omega arith,
-  largest-more _ _ _ _ _ (c .before .minus .ensures) (c .before .before .before .before .loop .inv .1) (c .larger .ensures),
-)
+loop-again c =
+    let k : tie.At-loop Inv-loop μ-loop = search in
+    (omega arith, largest-more _ _ _ _ _ (c .before .minus .ensures) (k .loop .inv .1) (c .larger .ensures))
 
 returns : tie.Need-returns Inv-loop μ-loop
 unfolding pull-of

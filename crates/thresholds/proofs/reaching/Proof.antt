@@ -6,8 +6,10 @@ use native.Mathlib.Omega.{arith}
 use Rattle.words.specs.Words.{entry}
 use Rattle.words.proofs.Laws.{close-more}
 use Rattle.tables.specs.Held.{meant, meantV}
-use Rattle.thresholds.specs.Steps.{reaches, byte-of}
-use Rattle.thresholds.proofs.StepLaws.{byte-none, byte-set, byte-clear, bit-more, bit-low, reaches-yes, reaches-no}
+use Rattle.thresholds.specs.Steps.{reaches}
+use Rattle.thresholds.proofs.StepLaws.{reaches-yes, reaches-no}
+use Rattle.trigger_sets.specs.Sets.{byte-of}
+use Rattle.trigger_sets.proofs.ByteLaws.{byte-none, byte-set, byte-clear, bit-more, bit-low}
 use Rattle.thresholds.proofs.reaching.Statement.{statement}
 use Rattle.thresholds.proofs.reaching.Tie as tie
 
@@ -43,10 +45,10 @@ index-2-if1 : tie.Need-index-2-if1 Inv-loop μ-loop
 index-2-if1 c = omega arith
 
 add-byte : tie.Need-add-byte Inv-loop μ-loop
-add-byte c = omega (arith, bit-low _ _ (c .before .before .before .before .loop .inv .2) (omega arith))
+add-byte c = let p = c .before .before .before in omega (arith, bit-low _ _ (p .before .loop .inv .2) (omega arith))
 
 add-bit : tie.Need-add-bit Inv-loop μ-loop
-add-bit c = omega (arith, bit-low _ _ (c .before .before .before .before .loop .inv .2) (omega arith))
+add-bit c = let p = c .before .before .before in omega (arith, bit-low _ _ (p .before .loop .inv .2) (omega arith))
 
 add-j : tie.Need-add-j Inv-loop μ-loop
 add-j c = omega arith
@@ -57,7 +59,8 @@ loop-less c = omega arith
 loop-again : tie.Need-loop-again Inv-loop μ-loop
 unfolding reaches meant meantV
 loop-again c =
-    let l = c .before .before .before .before .loop in
+    let i = c .before .before .before in
+    let l = i .before .loop in
     let p = c .before .before .plus .ensures in
     ⊎-elim
     (λ w. (

@@ -32,17 +32,21 @@ refusal-text-requires c κs = search needs
 returns : tie.Need-returns
 unfolding bytes
 returns c =
-    rw (c .before .before .before .enum-told .given .1)
-    (copied (bytes "tightest=yes\n") (c .before .before .before .before .before .args .out .now) _ _ (c .copy .ensures .0) (c .copy .ensures .1))
+    let yes : tie.After-enum-told = search in
+    let s : tie.Start = search in
+    rw (yes .enum-told .given .1) (copied (bytes "tightest=yes\n") (s .args .out .now) _ _ (c .copy .ensures .0) (c .copy .ensures .1))
 
 returns-2 : tie.Need-returns-2
 unfolding bytes
 returns-2 c =
-    rw (c .before .before .before .enum-told2 .given .1)
-    (copied (bytes "tightest=no\n") (c .before .before .before .before .before .args .out .now) _ _ (c .copy2 .ensures .0) (c .copy2 .ensures .1))
+    let no : tie.After-enum-told2 = search in
+    let s : tie.Start = search in
+    rw (no .enum-told2 .given .1) (copied (bytes "tightest=no\n") (s .args .out .now) _ _ (c .copy2 .ensures .0) (c .copy2 .ensures .1))
 
 returns-3 : tie.Need-returns-3
-returns-3 c = rw (c .before .before .before .tested .given .1) (written (c .refusal-text .ensures))
+returns-3 c =
+    let refused : tie.After-tested = search in
+    rw (refused .tested .given .1) (written (c .refusal-text .ensures))
 
 pub answer-spec : {M : Type 1} → statement M
 answer-spec =

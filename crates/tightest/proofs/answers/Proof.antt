@@ -14,9 +14,11 @@ complaint-requires c κs = search needs
 
 returns : tie.Need-returns
 returns c =
-    let a = c .before .before .answer .ensures in
+    let said : tie.After-answer = search in
+    let tested : tie.After-test-timing = search in
+    let a = said .answer .ensures in
     let e = c .complaint .ensures in
-    let t = c .before .before .before .before .test-timing in
+    let t = tested .test-timing in
     (a .0, (e .0, record { answer = t .result; tests = t .ensures; text = a .1; complaint = e .1 }))
 
 pub answers-spec : {M : Type 1} → statement M

@@ -4,7 +4,8 @@ use mathlib.Core.List.{List, [], _∷_, _++_}
 use Prim.Native.Nat.{ℕ}
 use native.Mathlib.Omega.{arith}
 use borrow.Author.Needs.{needs}
-use lib.ListN.{length, take, length-append}
+use lib.ListN.{length, length-append}
+use Rattle.walk.specs.State.{picked}
 use Rattle.walk.proofs.Stepping.{remaining, Walked, walked-start, walked-next, walked-less, walked-few, walked-fixings, walked-all}
 use Rattle.walk.proofs.count.Statement.{statement}
 use Rattle.walk.proofs.count.Tie as tie
@@ -31,26 +32,25 @@ enum-told c = search needs
 
 returns : tie.Need-returns Inv-loop μ-loop
 returns c =
-    let (seen, e, b) = c .before .before .before .before .loop .inv in let s = c .before .before .before .step .ensures in
-    let o = c .enum-told .given .1 in
-    ap₂ (λ (k l : ℕ). record { steps = k; selections = l }) (walked-fixings b s o) (e ∙ ap length (walked-all b s o))
+    let s = c .before .before .before in let (seen, e, b) = s .before .loop .inv in let o = c .enum-told .given .1 in
+    ap₂ (λ (k l : ℕ). record { steps = k; selections = l }) (walked-fixings b (s .step .ensures) o) (e ∙ ap length (walked-all b (s .step .ensures) o))
 
 enum-told-2 : tie.Need-enum-told-2 Inv-loop μ-loop
 enum-told-2 c = search needs
 
 add-n : tie.Need-add-n Inv-loop μ-loop
 add-n c =
-    let (seen, e, b) = c .before .before .before .before .loop .inv in
-    omega (arith, e, walked-few b (c .before .before .before .step .ensures) (c .enum-told2 .given .1) (b .ready .sound .few))
+    let s = c .before .before .before in let (seen, e, b) = s .before .loop .inv in
+    omega (arith, e, walked-few b (s .step .ensures) (c .enum-told2 .given .1) (b .ready .sound .few))
 
 loop-less : tie.Need-loop-less Inv-loop μ-loop
-loop-less c = walked-less (c .before .before .before .before .loop .inv .2) (c .before .before .before .step .ensures) (c .enum-told2 .given .1)
+loop-less c = let s = c .before .before .before in walked-less (s .before .loop .inv .2) (s .step .ensures) (c .enum-told2 .given .1)
 
 loop-again : tie.Need-loop-again Inv-loop μ-loop
 loop-again c =
-    let (seen, e, b) = c .before .before .before .before .loop .inv in let s = c .before .before .before .step in
-    let found = take (c .before .before .before .before .before .before .args .panels) (s .result .next .picks) ∷ [] in
-    (seen ++ found, omega (arith, e, length-append seen found), walked-next b (s .ensures) (c .enum-told2 .given .1))
+    let s = c .before .before .before in let l = s .before in let (seen, e, b) = l .loop .inv in
+    let found = picked (l .before .before .args .panels) (s .step .result .next .picks) ∷ [] in
+    (seen ++ found, omega (arith, e, length-append seen found), walked-next b (s .step .ensures) (c .enum-told2 .given .1))
 
 pub count-spec : {M : Type 1} → statement M
 count-spec =

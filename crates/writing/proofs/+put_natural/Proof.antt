@@ -41,7 +41,10 @@ same-length : (t : ℕ) → put-natural-lts.Need-same-length (claims t) (put-nat
 same-length t c = search needs
 
 returns : (t : ℕ) → put-natural-lts.Need-returns (claims t) (put-natural-at t) put-natural.Post
-returns t c = put-as (sym (natural-small _ (c .before .before .before .before .if1 .taken))) (c .before .before .put-byte .ensures)
+returns t c =
+    let digit : put-natural-lts.After-put-byte (claims t) (put-natural-at t) put-natural.Post = search in
+    let small : put-natural-lts.Then1 (claims t) (put-natural-at t) put-natural.Post = search in
+    put-as (sym (natural-small _ (small .if1 .taken))) (digit .put-byte .ensures)
 
 put-natural-requires : (t : ℕ) → put-natural-lts.Need-put-natural-requires (claims t) (put-natural-at t) put-natural.Post
 put-natural-requires t c κs = let m = c .before .before .before .pre .0 in (omega arith, omega arith)
@@ -54,8 +57,7 @@ add-put-byte-2 t c = omega arith
 
 put-byte-requires-2 : (t : ℕ) → put-natural-lts.Need-put-byte-requires-2 (claims t) (put-natural-at t) put-natural.Post
 put-byte-requires-2 t c κs =
-    let k = c .before .before .before in
-    let s = k .before .before .before .before in
+    let s : put-natural-lts.Start (claims t) (put-natural-at t) put-natural.Post = search in
     omega (arith, natural-length 18 (s .args .v / 10) (omega arith))
 
 same-length-2 : (t : ℕ) → put-natural-lts.Need-same-length-2 (claims t) (put-natural-at t) put-natural.Post
@@ -63,8 +65,10 @@ same-length-2 t c = search needs
 
 returns-2 : (t : ℕ) → put-natural-lts.Need-returns-2 (claims t) (put-natural-at t) put-natural.Post
 returns-2 t c =
-    let k = c .before .before .before .before .before .before in
-    put-as (sym (natural-more _ (k .before .before .if1 .left))) (then (k .put-natural .ensures) (c .before .before .put-byte2 .ensures))
+    let digit : put-natural-lts.After-put-byte2 (claims t) (put-natural-at t) put-natural.Post = search in
+    let others : put-natural-lts.After-put-natural (claims t) (put-natural-at t) put-natural.Post = search in
+    let large : put-natural-lts.Else1 (claims t) (put-natural-at t) put-natural.Post = search in
+    put-as (sym (natural-more _ (large .if1 .left))) (then (others .put-natural .ensures) (digit .put-byte2 .ensures))
 
 pub +put-natural-spec : {M : Type 1} → statement M
 +put-natural-spec =

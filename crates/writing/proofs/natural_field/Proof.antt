@@ -15,7 +15,7 @@ put-natural-requires c κs = search needs
 
 put-byte-requires : tie.Need-put-byte-requires
 put-byte-requires c κs =
-    let s = c .before .before .before .before .before .before .before .before .before .before .before in
+    let s : tie.Start = search in
     omega (arith, natural-64 _ (s .fits .v .fits))
 
 same-length : tie.Need-same-length
@@ -24,9 +24,11 @@ same-length c = search needs
 returns : tie.Need-returns
 unfolding bytes
 returns c =
-    let k = c .before .before .before .before .before .before in
-    let s = k .before .before .before .before .before .before .before .before in
-    put-field (k .before .before .before .before .put-bytes .ensures) (k .put-natural .ensures) (c .before .before .put-byte .ensures)
+    let at-put-byte : tie.After-put-byte = search in
+    let k : tie.After-put-natural = search in
+    let at-put-bytes : tie.After-put-bytes = search in
+    let s : tie.Start = search in
+    put-field (at-put-bytes .put-bytes .ensures) (k .put-natural .ensures) (at-put-byte .put-byte .ensures)
     (natural-64 _ (s .fits .v .fits))
 
 pub natural-field-spec : {M : Type 1} → statement M

@@ -24,10 +24,12 @@ same-length c = search needs
 returns : tie.Need-returns
 unfolding bytes
 returns c =
-    let k = c .before .before .before .before .before .before in
-    let s = k .before .before .before .before .before .before .before .before in
+    let at-put-byte : tie.After-put-byte = search in
+    let k : tie.After-put-number = search in
+    let at-put-bytes : tie.After-put-bytes = search in
+    let s : tie.Start = search in
     let number = put-as (ap numeral (toZ-ofZ (s .fits .v))) (k .put-number .ensures .0) in
-    put-field (k .before .before .before .before .put-bytes .ensures) number (c .before .before .put-byte .ensures) (numeral-64 _ (s .fits .v))
+    put-field (at-put-bytes .put-bytes .ensures) number (at-put-byte .put-byte .ensures) (numeral-64 _ (s .fits .v))
 
 pub number-field-spec : {M : Type 1} → statement M
 number-field-spec = tie.close (tie.spec put-bytes-requires put-number-requires put-byte-requires same-length returns)

@@ -20,9 +20,11 @@ same-length c = search needs
 returns : tie.Need-returns
 unfolding bytes
 returns c =
-    let k = c .before .before .before .before in
-    let f = k .before .before .fits .w in
-    put-short (item-32 _ f) (put-as (ap item (sym (entry-absent _ f (k .if1 .taken)))) (c .before .before .put-byte .ensures))
+    let at-put-byte : tie.After-put-byte = search in
+    let k : tie.Then1 = search in
+    let start : tie.Start = search in
+    let f = start .fits .w in
+    put-short (item-32 _ f) (put-as (ap item (sym (entry-absent _ f (k .if1 .taken)))) (at-put-byte .put-byte .ensures))
 
 cast-put-number : tie.Need-cast-put-number
 cast-put-number c = let f = c .before .before .before .fits .w in rw (toZ-ofZ f) (sfits-widen tt f)
@@ -35,11 +37,13 @@ same-length-2 c = search needs
 
 returns-2 : tie.Need-returns-2
 returns-2 c =
-    let k = c .before .before .before .before in
-    let f = k .before .before .fits .w in
+    let at-put-number : tie.After-put-number = search in
+    let k : tie.Else1 = search in
+    let start : tie.Start = search in
+    let f = start .fits .w in
     let e = entry-number _ f (k .if1 .left) in
     let back = ap (λ z. toZ w64 (ofZ w64 z)) (toZ-ofZ f) ∙ toZ-ofZ (sfits-widen {w′ = w64} tt f) in
-    put-short (item-32 _ f) (put-as (ap numeral back ∙ sym (ap item e)) (c .before .before .put-number .ensures .0))
+    put-short (item-32 _ f) (put-as (ap numeral back ∙ sym (ap item e)) (at-put-number .put-number .ensures .0))
 
 pub put-item-spec : {M : Type 1} → statement M
 put-item-spec =

@@ -21,16 +21,20 @@ put-byte-requires : tie.Need-put-byte-requires
 put-byte-requires c κs = search needs
 
 sub-put-natural : tie.Need-sub-put-natural
-sub-put-natural c = let b = below (c .before .before .before .before .before) in rw (b .turned) (record { sfits = b .small })
+sub-put-natural c =
+    let then1 : tie.Then1 = search in
+    let b = below then1 in rw (b .turned) (record { sfits = b .small })
 
 cast-put-natural : tie.Need-cast-put-natural
 cast-put-natural c =
-    let b = below (c .before .before .before .before .before) in
+    let then1 : tie.Then1 = search in
+    let b = below then1 in
     rw (b .turned, b .read) (tt, record { fits = omega (arith, b .small) })
 
 add-put-natural : tie.Need-add-put-natural
 add-put-natural c =
-    let b = below (c .before .before .before .before .before) in
+    let then1 : tie.Then1 = search in
+    let b = below then1 in
     rw (b .turned, b .read) (record { fits = omega (arith, b .small) })
 
 put-natural-requires : tie.Need-put-natural-requires
@@ -42,9 +46,12 @@ same-length c = search needs
 returns : tie.Need-returns
 unfolding bytes
 returns c =
-    let k = c .before .before .before .before .before .before in
-    put-short (numeral-64 _ (k .before .before .before .before .fits .v))
-    (put-as (minus-text _ (below (k .before .before))) (then (k .put-byte .ensures) (c .before .before .put-natural .ensures)))
+    let at-put-natural : tie.After-put-natural = search in
+    let k : tie.After-put-byte = search in
+    let then1 : tie.Then1 = search in
+    let start : tie.Start = search in
+    put-short (numeral-64 _ (start .fits .v))
+    (put-as (minus-text _ (below then1)) (then (k .put-byte .ensures) (at-put-natural .put-natural .ensures)))
 
 cast-put-natural-2 : tie.Need-cast-put-natural-2
 cast-put-natural-2 c = let b = above (c .before) in rw (b .read) (tt, record { fits = omega (arith, b .small) })
@@ -57,10 +64,12 @@ same-length-2 c = search needs
 
 returns-2 : tie.Need-returns-2
 returns-2 c =
-    let k = c .before .before .before .before in
+    let at-put-natural2 : tie.After-put-natural2 = search in
+    let k : tie.Else1 = search in
+    let start : tie.Start = search in
     let b = above k in
-    put-short (numeral-64 _ (k .before .before .fits .v))
-    (put-as (ap (λ z. natural (natAbs z)) (b .read) ∙ sym (ap numeral (b .is))) (c .before .before .put-natural2 .ensures))
+    put-short (numeral-64 _ (start .fits .v))
+    (put-as (ap (λ z. natural (natAbs z)) (b .read) ∙ sym (ap numeral (b .is))) (at-put-natural2 .put-natural2 .ensures))
 
 pub put-number-spec : {M : Type 1} → statement M
 put-number-spec =

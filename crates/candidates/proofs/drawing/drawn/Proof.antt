@@ -6,7 +6,7 @@ use borrow.Author.Tests.{ltb-false}
 use Rattle.maxplus.specs.Entry.{_⊗_, _⊕_}
 use Rattle.words.specs.Words.{entry, Close}
 use Rattle.words.proofs.Laws.{close-more}
-use Rattle.sheet.specs.Sheet.{limit}
+use Rattle.sheet.specs.Sizes.{drawn-size}
 use Rattle.tables.specs.Held.{meant, meantV}
 use Rattle.tables.proofs.Loops.{Filled, filled-none, filled-more}
 use Rattle.candidates.proofs.DrawLaws.{ray-is}
@@ -15,7 +15,7 @@ use Rattle.candidates.proofs.drawing.drawn.Tie as tie
 
 abbrev Inv-loop : tie.InvT-loop
 Inv-loop star pull n t starred r₀ i₀ r i = (i ≤ n) ×
-    Filled (λ i v. (entry v ≡ meant star i t ⊕ entry pull ⊗ meantV starred i) × Close (26 * limit) v) 0 r i
+    Filled (λ i v. (entry v ≡ meant star i t ⊕ entry pull ⊗ meantV starred i) × Close drawn-size v) 0 r i
 
 abbrev μ-loop : tie.MeasureT-loop
 μ-loop star pull n t starred r₀ i₀ r i = n - i
@@ -43,7 +43,7 @@ array-read-plus c = omega arith
 
 plus-requires : tie.Need-plus-requires Inv-loop μ-loop
 plus-requires c κs =
-    let s = c .before .before .before .before in
+    let s : tie.Start Inv-loop μ-loop = search in
     (close-more (omega arith) (s .pre .3), close-more (omega arith) (s .pre .4 .at _ (omega arith)))
 
 larger-requires : tie.Need-larger-requires Inv-loop μ-loop
@@ -64,7 +64,7 @@ loop-less c = omega arith
 loop-again : tie.Need-loop-again Inv-loop μ-loop
 unfolding meant meantV
 loop-again c =
-    let k = c .before .before .before .before .before in
+    let k : tie.At-loop Inv-loop μ-loop = search in
     let s = k .before in (
       omega arith,
       filled-more _ 0 _ _ _ (omega arith) (k .loop .inv .1)

@@ -5,7 +5,7 @@ use native.Mathlib.Omega.{arith}
 use borrow.Author.Tests.{ltb-false}
 use Rattle.maxplus.specs.Tables.{mv}
 use Rattle.words.specs.Words.{entry, Close}
-use Rattle.sheet.specs.Sheet.{limit}
+use Rattle.sheet.specs.Sizes.{starred-size}
 use Rattle.tables.specs.Held.{meant, meantV}
 use Rattle.tables.proofs.Loops.{Filled, filled-none, filled-more}
 use Rattle.candidates.proofs.WordLaws.{closely-moreV, closely-part, close-dot}
@@ -13,7 +13,7 @@ use Rattle.candidates.proofs.drawing.starred.Statement.{statement}
 use Rattle.candidates.proofs.drawing.starred.Tie as tie
 
 abbrev Inv-loop : tie.InvT-loop
-Inv-loop star n at r₀ i₀ r i = (i ≤ n) × Filled (λ i v. (entry v ≡ mv n (meant star) (meantV at) i) × Close (20 * limit) v) 0 r i
+Inv-loop star n at r₀ i₀ r i = (i ≤ n) × Filled (λ i v. (entry v ≡ mv n (meant star) (meantV at) i) × Close starred-size v) 0 r i
 
 abbrev μ-loop : tie.MeasureT-loop
 μ-loop star n at r₀ i₀ r i = n - i
@@ -23,7 +23,7 @@ loop-holds c = (omega arith, filled-none _ 0 _)
 
 dot-requires : tie.Need-dot-requires Inv-loop μ-loop
 dot-requires c κs =
-    let s = c .before .before .before .before in
+    let s : tie.Start Inv-loop μ-loop = search in
     (omega arith, omega arith, closely-part _ (omega arith) (omega arith) (s .pre .1), closely-moreV (omega arith) (s .pre .2))
 
 mul-r : tie.Need-mul-r Inv-loop μ-loop

@@ -40,7 +40,7 @@ array-read-plus c = omega arith
 
 plus-requires : tie.Need-plus-requires Inv-loop μ-loop
 plus-requires c κs =
-    let s = c .before .before .before .before in
+    let s : tie.Start Inv-loop μ-loop = search in
     (s .pre .2 .at _ _ (omega arith) (omega arith), s .pre .3 .at _ (omega arith))
 
 larger-requires : tie.Need-larger-requires Inv-loop μ-loop
@@ -55,8 +55,8 @@ loop-less c = omega arith
 loop-again : tie.Need-loop-again Inv-loop μ-loop
 unfolding meant meantV
 loop-again c =
-    let k = c .before .before .before .before .before .loop in
-    (omega arith, largest-more _ _ _ _ _ (c .before .plus .ensures) (k .inv .1) (c .larger .ensures))
+    let k : tie.At-loop Inv-loop μ-loop = search in
+    (omega arith, largest-more _ _ _ _ _ (c .before .plus .ensures) (k .loop .inv .1) (c .larger .ensures))
 
 returns : tie.Need-returns Inv-loop μ-loop
 returns c = let e : ⊥ = omega (arith, ltb-false) in absurd e

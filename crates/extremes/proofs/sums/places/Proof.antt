@@ -8,16 +8,16 @@ use borrow.Author.Tests.{ltb-false}
 use Rattle.maxplus.specs.Entry.{_⊗_}
 use Rattle.words.specs.Words.{entry}
 use Rattle.tables.specs.Held.{meant, meantV}
-use Rattle.thresholds.proofs.StepLaws.{bit-more, bit-low}
-use Rattle.candidates.specs.Bits.{Marked}
-use Rattle.extremes.proofs.BitLaws.{passed-none, passed-more, passed-less}
+use Rattle.trigger_sets.proofs.ByteLaws.{bit-more, bit-low}
+use Rattle.trigger_sets.specs.Sets.{SetOf}
+use Rattle.trigger_sets.proofs.SetLaws.{passed-none, passed-more, passed-less}
 use Rattle.candidates.proofs.WordLaws.{same-word, other-word}
 use Rattle.extremes.proofs.sums.places.Statement.{statement}
 use Rattle.extremes.proofs.sums.places.Tie as tie
 
 abbrev Inv-loop : tie.InvT-loop
 Inv-loop table i word n x set₀ bit₀ j₀ set bit j = (j ≤ n) × (bit ≡ 2 ^ j) ×
-    Marked (λ k. (k < j) × (meant table i k ⊗ meantV x k ≡ entry word)) set
+    SetOf (λ k. (k < j) × (meant table i k ⊗ meantV x k ≡ entry word)) set
 
 abbrev μ-loop : tie.MeasureT-loop
 μ-loop table i word n x set₀ bit₀ j₀ set bit j = n - j
@@ -45,11 +45,11 @@ array-read-plus c = omega arith
 
 plus-requires : tie.Need-plus-requires Inv-loop μ-loop
 plus-requires c κs =
-    let s = c .before .before .before .before in
+    let s : tie.Start Inv-loop μ-loop = search in
     (s .pre .2 .at _ _ (omega arith) (omega arith), s .pre .3 .at _ (omega arith))
 
 add-bit : tie.Need-add-bit Inv-loop μ-loop
-add-bit c = let k = c .before .before .before .before .before .loop in omega (arith, bit-low _ _ (k .inv .1) (omega arith))
+add-bit c = let k : tie.At-loop Inv-loop μ-loop = search in omega (arith, bit-low _ _ (k .loop .inv .1) (omega arith))
 
 add-j : tie.Need-add-j Inv-loop μ-loop
 add-j c = omega arith
@@ -60,12 +60,12 @@ loop-less c = omega arith
 loop-again : tie.Need-loop-again Inv-loop μ-loop
 unfolding meant meantV
 loop-again c =
-    let k = c .before .before .before .before .before .loop in
+    let k : tie.At-loop Inv-loop μ-loop = search in
     let e = c .before .plus .ensures in (
       omega arith,
-      bit-more _ _ (k .inv .1),
-      ⊎-elim (λ w. rw (w .1, k .inv .1) (passed-more _ _ _ (omega arith) (k .inv .2) (same-word e (w .0 .taken))))
-          (λ w. rw (w .1) (passed-less _ _ _ (k .inv .2) (other-word e (w .0 .left)))) (c .if2 .came),
+      bit-more _ _ (k .loop .inv .1),
+      ⊎-elim (λ w. rw (w .1, k .loop .inv .1) (passed-more _ _ _ (omega arith) (k .loop .inv .2) (same-word e (w .0 .taken))))
+          (λ w. rw (w .1) (passed-less _ _ _ (k .loop .inv .2) (other-word e (w .0 .left)))) (c .if2 .came),
     )
 
 returns : tie.Need-returns Inv-loop μ-loop

@@ -9,17 +9,17 @@ use borrow.Author.Tests.{ltb-false}
 use Rattle.maxplus.specs.Entry.{_≼_, _⊗_}
 use Rattle.words.specs.Words.{entry}
 use Rattle.tables.specs.Held.{meant, meantV}
-use Rattle.thresholds.proofs.StepLaws.{bit-more, bit-low}
-use Rattle.candidates.specs.Bits.{Marked}
-use Rattle.extremes.proofs.BitLaws.{passed-none, passed-more, passed-less}
+use Rattle.trigger_sets.proofs.ByteLaws.{bit-more, bit-low}
+use Rattle.trigger_sets.specs.Sets.{SetOf}
+use Rattle.trigger_sets.proofs.SetLaws.{passed-none, passed-more, passed-less}
 use Rattle.candidates.proofs.WordLaws.{same-word, other-word, within-word, beyond-word}
-use Rattle.extremes.proofs.SetLaws.{reached-all, reached-none}
+use Rattle.extremes.proofs.ClosureLaws.{reached-all, reached-none}
 use Rattle.extremes.proofs.sums.reached.Statement.{statement}
 use Rattle.extremes.proofs.sums.reached.Tie as tie
 
 abbrev Inv-loop : tie.InvT-loop
 Inv-loop table i word n x set₀ bit₀ j₀ set bit j = (j ≤ n) × (bit ≡ 2 ^ j) ×
-    Marked (λ k. (k < j) × (meant table i k ⊗ meantV x k ≡ entry word)) set × ((k : ℕ) → k < j → meant table i k ⊗ meantV x k ≼ entry word)
+    SetOf (λ k. (k < j) × (meant table i k ⊗ meantV x k ≡ entry word)) set × ((k : ℕ) → k < j → meant table i k ⊗ meantV x k ≼ entry word)
 
 abbrev μ-loop : tie.MeasureT-loop
 μ-loop table i word n x set₀ bit₀ j₀ set bit j = n - j
@@ -47,7 +47,7 @@ array-read-plus c = omega arith
 
 plus-requires : tie.Need-plus-requires Inv-loop μ-loop
 plus-requires c κs =
-    let s = c .before .before .before .before in
+    let s : tie.Start Inv-loop μ-loop = search in
     (s .pre .2 .at _ _ (omega arith) (omega arith), s .pre .3 .at _ (omega arith))
 
 returns : tie.Need-returns Inv-loop μ-loop
@@ -55,7 +55,7 @@ unfolding meant meantV
 returns c = reached-none _ _ _ _ (omega arith) (beyond-word (c .before .plus .ensures) (c .if2 .taken))
 
 add-bit : tie.Need-add-bit Inv-loop μ-loop
-add-bit c = let k = c .before .before .before .before .before .before .loop in omega (arith, bit-low _ _ (k .inv .1) (omega arith))
+add-bit c = let k : tie.At-loop Inv-loop μ-loop = search in omega (arith, bit-low _ _ (k .loop .inv .1) (omega arith))
 
 add-j : tie.Need-add-j Inv-loop μ-loop
 add-j c = omega arith
@@ -66,13 +66,13 @@ loop-less c = omega arith
 loop-again : tie.Need-loop-again Inv-loop μ-loop
 unfolding meant meantV
 loop-again c =
-    let k = c .before .before .before .before .before .before .loop in
+    let k : tie.At-loop Inv-loop μ-loop = search in
     let e = c .before .before .plus .ensures in (
       omega arith,
-      bit-more _ _ (k .inv .1),
-      ⊎-elim (λ w. rw (w .1, k .inv .1) (passed-more _ _ _ (omega arith) (k .inv .2) (same-word e (w .0 .taken))))
-          (λ w. rw (w .1) (passed-less _ _ _ (k .inv .2) (other-word e (w .0 .left)))) (c .if3 .came),
-      count.below-more _ _ (k .inv .3) (within-word e (c .before .if2 .left)),
+      bit-more _ _ (k .loop .inv .1),
+      ⊎-elim (λ w. rw (w .1, k .loop .inv .1) (passed-more _ _ _ (omega arith) (k .loop .inv .2) (same-word e (w .0 .taken))))
+          (λ w. rw (w .1) (passed-less _ _ _ (k .loop .inv .2) (other-word e (w .0 .left)))) (c .if3 .came),
+      count.below-more _ _ (k .loop .inv .3) (within-word e (c .before .if2 .left)),
     )
 
 returns-2 : tie.Need-returns-2 Inv-loop μ-loop

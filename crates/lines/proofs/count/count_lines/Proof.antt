@@ -37,12 +37,19 @@ array-copy-out-last : tie.Need-array-copy-out-last Inv-loop μ-loop
 array-copy-out-last c = omega arith
 
 loop-less : tie.Need-loop-less Inv-loop μ-loop
-loop-less c = let r = c .before .before in
-    omega (arith, counted-few (r .gather .ensures) (r .before .before .loop .inv .1) (r .before .before .before .pre .1))
+loop-less c =
+    let r : tie.After-gather Inv-loop μ-loop = search in
+    let at-loop : tie.At-loop Inv-loop μ-loop = search in
+    let start : tie.Start Inv-loop μ-loop = search in
+    omega (arith, counted-few (r .gather .ensures) (at-loop .loop .inv .1) (start .pre .1))
 
 loop-again : tie.Need-loop-again Inv-loop μ-loop
-loop-again c = let r = c .before .before in let (P, g) = r .before .before .before .pre in
-    (r .gather .ensures P g .stored .size, counted-more (r .gather .ensures) (r .before .before .loop .inv .1) g (c .before .if1 .left))
+loop-again c =
+    let r : tie.After-gather Inv-loop μ-loop = search in
+    let at-loop : tie.At-loop Inv-loop μ-loop = search in
+    let start : tie.Start Inv-loop μ-loop = search in
+    let (P, g) = start .pre in
+    (r .gather .ensures P g .stored .size, counted-more (r .gather .ensures) (at-loop .loop .inv .1) g (c .before .if1 .left))
 
 pub count-lines-spec : {M : Type 1} → statement M
 count-lines-spec =

@@ -35,7 +35,9 @@ element-copy-out-write-line c = omega arith
 
 write-line-requires : tie.Need-write-line-requires Inv-loop μ-loop
 write-line-requires c κs =
-    let s = c .before .before .before .before in let a = s .args in let k = c .before .before .before .loop .k in
+    let at-loop : tie.At-loop Inv-loop μ-loop = search in
+    let s : tie.Start Inv-loop μ-loop = search in
+    let a = s .args in let k = at-loop .loop .k in
     let h = s .pre .4 (row (a .buf .now) k) (held-row (a .n) (a .buf .now) (a .len) k (omega arith) (omega arith)) in
     (s .pre .0, omega arith, h .0, h .1)
 
@@ -47,7 +49,9 @@ loop-less c = omega arith
 
 loop-again : tie.Need-loop-again Inv-loop μ-loop
 loop-again c =
-    let s = c .before .before .before .before .before .before in let l = c .before .before .before .before .before .loop in
+    let at-loop : tie.At-loop Inv-loop μ-loop = search in
+    let s : tie.Start Inv-loop μ-loop = search in
+    let l = at-loop .loop in
     let a = s .args in let w = c .before .write-line in (
       omega arith,
       w .kept .0 ∙ l .inv .1,

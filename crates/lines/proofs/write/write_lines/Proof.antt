@@ -8,6 +8,7 @@ use Rattle.lines.proofs.ListingLaws.{held-close}
 use Rattle.lines.proofs.TurnLaws.{Writing, writing-start, writing-room, writing-more, writing-end}
 use Rattle.lines.proofs.write.write_lines.Statement.{statement}
 use Rattle.lines.proofs.write.write_lines.Tie as tie
+use Rattle.cue.specs.Written.{line-size}
 
 abbrev Inv-loop : tie.InvT-loop
 Inv-loop out₀ marks star lag needs buf₀ last₀ at₀ out buf last at =
@@ -18,7 +19,7 @@ abbrev μ-loop : tie.MeasureT-loop
 
 -- what is held fits in what is left of the space
 room-left : (c : tie.After-gather Inv-loop μ-loop) →
-    c .before .before .loop .at + 7 * c .gather .result ≤ length (c .before .before .before .args .out .now)
+    c .before .before .loop .at + line-size * c .gather .result ≤ length (c .before .before .before .args .out .now)
 room-left c = let (P, g, h) = c .before .before .before .pre in writing-room (c .gather .ensures) (c .before .before .loop .inv .1) g h
 
 loop-holds : tie.Need-loop-holds Inv-loop μ-loop
@@ -29,22 +30,35 @@ gather-requires c κs = let (P, g, h) = c .before .before .pre in ((P, g), c .be
 
 write-held-requires : tie.Need-write-held-requires Inv-loop μ-loop
 write-held-requires c κs =
-    let (P, g, h) = c .before .before .before .before .before .pre in let r = c .before .before .gather .ensures P g in
-    let e = c .before .before .before .before .loop .inv .1 .size in
-    (g .few, r .stored .few, r .stored .size, omega (arith, e, room-left (c .before .before)), held-close g r)
+    let at-gather : tie.After-gather Inv-loop μ-loop = search in
+    let at-loop : tie.At-loop Inv-loop μ-loop = search in
+    let start : tie.Start Inv-loop μ-loop = search in
+    let (P, g, h) = start .pre in let r = at-gather .gather .ensures P g in
+    let e = at-loop .loop .inv .1 .size in
+    (g .few, r .stored .few, r .stored .size, omega (arith, e, room-left at-gather), held-close g r)
 
 same-length : tie.Need-same-length Inv-loop μ-loop
-same-length c = c .before .before .write-held .kept .0 ∙ c .before .before .before .before .before .before .before .loop .inv .1 .size
+same-length c =
+    let at-write-held : tie.After-write-held Inv-loop μ-loop = search in
+    let at-loop : tie.At-loop Inv-loop μ-loop = search in
+    at-write-held .write-held .kept .0 ∙ at-loop .loop .inv .1 .size
 
 returns : tie.Need-returns Inv-loop μ-loop
-returns c P g h = let r = c .before .before .before .before .before in
-    writing-end (r .gather .ensures) (r .before .before .loop .inv .1) g h (c .before .before .write-held .ensures) (c .if1 .taken)
+returns c P g h =
+    let at-write-held : tie.After-write-held Inv-loop μ-loop = search in
+    let r : tie.After-gather Inv-loop μ-loop = search in
+    let at-loop : tie.At-loop Inv-loop μ-loop = search in
+    writing-end (r .gather .ensures) (at-loop .loop .inv .1) g h (at-write-held .write-held .ensures) (c .if1 .taken)
 
 mul-at : tie.Need-mul-at Inv-loop μ-loop
-mul-at c = omega (arith, room-left (c .before .before .before .before .before))
+mul-at c =
+    let at-gather : tie.After-gather Inv-loop μ-loop = search in
+    omega (arith, room-left at-gather)
 
 add-at : tie.Need-add-at Inv-loop μ-loop
-add-at c = omega (arith, room-left (c .before .before .before .before .before))
+add-at c =
+    let at-gather : tie.After-gather Inv-loop μ-loop = search in
+    omega (arith, room-left at-gather)
 
 sub-last : tie.Need-sub-last Inv-loop μ-loop
 sub-last c = omega arith
@@ -56,13 +70,19 @@ array-copy-out-last : tie.Need-array-copy-out-last Inv-loop μ-loop
 array-copy-out-last c = omega arith
 
 loop-less : tie.Need-loop-less Inv-loop μ-loop
-loop-less c = omega (arith, room-left (c .before .before .before .before .before .before))
+loop-less c =
+    let at-gather : tie.After-gather Inv-loop μ-loop = search in
+    omega (arith, room-left at-gather)
 
 loop-again : tie.Need-loop-again Inv-loop μ-loop
 loop-again c =
-    let r = c .before .before .before .before .before .before in let (P, g, h) = r .before .before .before .pre in
-    let w = writing-more (r .gather .ensures) (r .before .before .loop .inv .1) g (c .before .if1 .left) in
-    (r .gather .ensures P g .stored .size, w (c .before .before .before .write-held .kept .0) (c .before .before .before .write-held .ensures))
+    let at-write-held : tie.After-write-held Inv-loop μ-loop = search in
+    let r : tie.After-gather Inv-loop μ-loop = search in
+    let at-loop : tie.At-loop Inv-loop μ-loop = search in
+    let start : tie.Start Inv-loop μ-loop = search in
+    let (P, g, h) = start .pre in
+    let w = writing-more (r .gather .ensures) (at-loop .loop .inv .1) g (c .before .if1 .left) in
+    (r .gather .ensures P g .stored .size, w (at-write-held .write-held .kept .0) (at-write-held .write-held .ensures))
 
 pub write-lines-spec : {M : Type 1} → statement M
 write-lines-spec =

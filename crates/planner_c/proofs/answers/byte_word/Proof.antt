@@ -1,4 +1,4 @@
--- `c_words::byte_word` meets its contract. Assumes nothing.
+-- `planner_c::answers::byte_word` meets its contract. Assumes nothing.
 use native.Mathlib.Omega.{arith}
 use borrow.Author.Needs.{needs}
 use mir.Syntax.{w64}

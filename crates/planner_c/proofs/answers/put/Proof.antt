@@ -1,4 +1,4 @@
--- `c_words::put` meets its contract. Assumes nothing.
+-- `planner_c::answers::put` meets its contract. Assumes nothing.
 use mathlib.Core.Path.{sym}
 use native.Mathlib.Omega.{arith}
 use lib.Seq.{set-out}

@@ -1,4 +1,4 @@
--- `c_words::put_panels` meets its contract: after i turns the words of i panels are stored. Assumes nothing.
+-- `planner_c::answers::put_panels` meets its contract: after i turns the words of i panels are stored. Assumes nothing.
 use mathlib.Core.Path.{_≡_, refl, ap, _∙_}
 use Prim.Native.Nat.{_-_, _≤_}
 use native.Mathlib.Omega.{arith}
@@ -60,11 +60,21 @@ loop-less c = omega arith
 
 loop-again : tie.Need-loop-again Inv-loop μ-loop
 loop-again c =
-    let k = c .before .before .before .before .before .before .before .before .before in
-    (omega arith, panel-more _ (k .loop .i) _ _ (k .loop .inv .1) (back (record { sfits = c .before .before .before .before .before .before .byte-word .ok }) (c .before .before .before .before .before .before .byte-word .ensures)) (c .before .before .before .before .before .put .ensures) (back (record { sfits = c .before .before .byte-word2 .ok }) (c .before .before .byte-word2 .ensures)) (c .before .put2 .ensures))
+    let count : tie.After-put2 Inv-loop μ-loop = search in
+    let count-word : tie.After-byte-word2 Inv-loop μ-loop = search in
+    let byte : tie.After-put Inv-loop μ-loop = search in
+    let byte-word : tie.After-byte-word Inv-loop μ-loop = search in
+    let l : tie.At-loop Inv-loop μ-loop = search in (
+      omega arith,
+      panel-more _ (l .loop .i) _ _ (l .loop .inv .1) (back (byte-word .byte-word .ok) (byte-word .byte-word .ensures)) (byte .put .ensures)
+          (back (count-word .byte-word2 .ok) (count-word .byte-word2 .ensures)) (count .put2 .ensures),
+    )
 
 same-length : tie.Need-same-length Inv-loop μ-loop
-same-length c = ap length (c .before .loop .inv .1) ∙ length-sets {A = ℤ} (c .before .before .args .lent .now) 4 (pairs (c .before .loop .i) (c .before .before .args .t2) (c .before .before .args .t3))
+same-length c =
+    let l = c .before .loop in
+    let a = c .before .before .args in
+    ap length (l .inv .1) ∙ length-sets {A = ℤ} (a .lent .now) 4 (pairs (l .i) (a .t2) (a .t3))
 
 returns : tie.Need-returns Inv-loop μ-loop
 returns c = let e : c .before .loop .i ≡ 6 = omega arith in rw e at (c .before .loop .inv .1)

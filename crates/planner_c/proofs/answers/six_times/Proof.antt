@@ -1,4 +1,4 @@
--- `c_words::six_times` meets its contract. Assumes nothing.
+-- `planner_c::answers::six_times` meets its contract. Assumes nothing.
 use Rattle.planner_c.proofs.Storing.{back, six-listed}
 use borrow.Author.Needs.{needs}
 use Rattle.planner_c.proofs.answers.six_times.Statement.{statement}
@@ -23,7 +23,16 @@ time-requires-6 : tie.Need-time-requires-6
 time-requires-6 c κs = search needs
 
 returns : tie.Need-returns
-returns c = six-listed _ (back (record { sfits = c .before .before .before .before .before .time .ok }) (c .before .before .before .before .before .time .ensures)) (back (record { sfits = c .before .before .before .before .time2 .ok }) (c .before .before .before .before .time2 .ensures)) (back (record { sfits = c .before .before .before .time3 .ok }) (c .before .before .before .time3 .ensures)) (back (record { sfits = c .before .before .time4 .ok }) (c .before .before .time4 .ensures)) (back (record { sfits = c .before .time5 .ok }) (c .before .time5 .ensures)) (back (record { sfits = c .time6 .ok }) (c .time6 .ensures))
+returns c =
+    let six : tie.After-time6 = search in
+    let five : tie.After-time5 = search in
+    let four : tie.After-time4 = search in
+    let three : tie.After-time3 = search in
+    let two : tie.After-time2 = search in
+    let one : tie.After-time = search in
+    six-listed _ (back (one .time .ok) (one .time .ensures)) (back (two .time2 .ok) (two .time2 .ensures))
+    (back (three .time3 .ok) (three .time3 .ensures)) (back (four .time4 .ok) (four .time4 .ensures))
+    (back (five .time5 .ok) (five .time5 .ensures)) (back (six .time6 .ok) (six .time6 .ensures))
 
 pub six-times-spec : {M : Type 1} → statement M
 six-times-spec =

@@ -1,4 +1,4 @@
--- `c_words::time` meets its contract. Assumes nothing.
+-- `planner_c::answers::time` meets its contract. Assumes nothing.
 use mathlib.Core.Path.{sym}
 use native.Mathlib.Omega.{arith}
 use lib.IntN.{pos}

@@ -1,4 +1,4 @@
--- `c_words::word` meets its contract. Assumes nothing.
+-- `planner_c::answers::word` meets its contract. Assumes nothing.
 use native.Mathlib.Omega.{arith}
 use borrow.Author.Needs.{needs}
 use mir.Syntax.{w64}

@@ -1,6 +1,7 @@
--- `c_words::write_kept` meets its contract. Assumes nothing.
+-- `planner_c::answers::write_kept` meets its contract. Assumes nothing.
 use mathlib.Core.Path.{_≡_}
 use native.Mathlib.Omega.{arith}
+use lib.IntN.{pos}
 use mir.Syntax.{w64}
 use mir.Val.{toZ, ofZ}
 use mir.Facts.{toZ-pos}
@@ -9,30 +10,12 @@ use borrow.Author.Needs.{needs}
 use Rattle.planner_c.proofs.answers.write_kept.Statement.{statement}
 use Rattle.planner_c.proofs.answers.write_kept.Tie as tie
 
--- places that statements name, each from the next one
-abbrev put4-of-lent5 : tie.After-lent5 → tie.After-put4
-put4-of-lent5 c = c .before .before .before .before .before .before
+-- the deviation and the number of panels come back as they were
+deviation-back : (s : tie.Start) → let D = s .args .r .deviation in toZ w64 (ofZ w64 D) ≡ D
+deviation-back s = search needs
 
-abbrev put3-of-lent5 : tie.After-lent5 → tie.After-put3
-put3-of-lent5 c = put4-of-lent5 c .before .before .before .before
-
-abbrev word2-of-lent5 : tie.After-lent5 → tie.After-word2
-word2-of-lent5 c = put3-of-lent5 c .before
-
-abbrev put2-of-lent5 : tie.After-lent5 → tie.After-put2
-put2-of-lent5 c = word2-of-lent5 c .before .before .before
-
-abbrev word-of-lent5 : tie.After-lent5 → tie.After-word
-word-of-lent5 c = put2-of-lent5 c .before
-
-abbrev put-of-lent5 : tie.After-lent5 → tie.After-put
-put-of-lent5 c = word-of-lent5 c .before .before .before
-
-abbrev then1-of-lent5 : tie.After-lent5 → tie.Then1
-then1-of-lent5 c = put-of-lent5 c .before .before .before
-
-abbrev start-of-lent5 : tie.After-lent5 → tie.Start
-start-of-lent5 c = then1-of-lent5 c .before .before
+panels-back : (s : tie.Start) → toZ w64 (s .args .r .panels) ≡ pos (s .args .r .panels)
+panels-back s = toZ-pos w64 (omega (arith, s .pre))
 
 put-requires : tie.Need-put-requires
 put-requires c κs = search needs
@@ -63,10 +46,18 @@ same-length c = search needs
 
 returns : tie.Need-returns
 returns c =
-    let D = start-of-lent5 c .args .r .deviation in
-    let same : toZ w64 (ofZ w64 D) ≡ D = search needs in
-    table-words _ _ (then1-of-lent5 c .if1 .taken) same (put-of-lent5 c .put .ensures) (back (record { sfits = word-of-lent5 c .word .ok }) (word-of-lent5 c .word .ensures)) (put2-of-lent5 c .put2 .ensures) (back (record { sfits = word2-of-lent5 c .word2 .ok }) (word2-of-lent5 c .word2 .ensures)) (put3-of-lent5 c .put3 .ensures)
-    (toZ-pos w64 {n = start-of-lent5 c .args .r .panels} (omega (arith, start-of-lent5 c .pre))) (put4-of-lent5 c .put4 .ensures) (c .before .put-panels .ensures)
+    let panels : tie.After-put-panels = search in
+    let fourth : tie.After-put4 = search in
+    let third : tie.After-put3 = search in
+    let selections : tie.After-word2 = search in
+    let second : tie.After-put2 = search in
+    let steps : tie.After-word = search in
+    let first : tie.After-put = search in
+    let then1 : tie.Then1 = search in
+    let s : tie.Start = search in
+    table-words _ _ (then1 .if1 .taken) (deviation-back s) (first .put .ensures) (back (steps .word .ok) (steps .word .ensures))
+    (second .put2 .ensures) (back (selections .word2 .ok) (selections .word2 .ensures)) (third .put3 .ensures) (panels-back s)
+    (fourth .put4 .ensures) (panels .put-panels .ensures)
 
 returns-2 : tie.Need-returns-2
 returns-2 c = no-table _ _ (c .if1 .left)

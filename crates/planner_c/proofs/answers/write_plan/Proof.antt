@@ -1,6 +1,7 @@
--- `c_words::write_plan` meets its contract. Assumes nothing.
+-- `planner_c::answers::write_plan` meets its contract. Assumes nothing.
 use mathlib.Core.Path.{_≡_}
 use native.Mathlib.Omega.{arith}
+use lib.IntN.{pos}
 use mir.Syntax.{w64}
 use mir.Val.{toZ, ofZ}
 use mir.Facts.{toZ-pos}
@@ -9,36 +10,12 @@ use borrow.Author.Needs.{needs}
 use Rattle.planner_c.proofs.answers.write_plan.Statement.{statement}
 use Rattle.planner_c.proofs.answers.write_plan.Tie as tie
 
--- places that statements name, each from the next one
-abbrev put3-of-lent4 : tie.After-lent4 → tie.After-put3
-put3-of-lent4 c = c .before .before .before .before
+-- the deviation and the count come back as they were
+deviation-back : (s : tie.Start) → let D = s .args .r .deviation in toZ w64 (ofZ w64 D) ≡ D
+deviation-back s = search needs
 
-abbrev word2-of-lent4 : tie.After-lent4 → tie.After-word2
-word2-of-lent4 c = put3-of-lent4 c .before
-
-abbrev put2-of-lent4 : tie.After-lent4 → tie.After-put2
-put2-of-lent4 c = word2-of-lent4 c .before .before .before
-
-abbrev word-of-lent4 : tie.After-lent4 → tie.After-word
-word-of-lent4 c = put2-of-lent4 c .before
-
-abbrev put-of-lent4 : tie.After-lent4 → tie.After-put
-put-of-lent4 c = word-of-lent4 c .before .before .before
-
-abbrev then1-of-lent4 : tie.After-lent4 → tie.Then1
-then1-of-lent4 c = put-of-lent4 c .before .before .before
-
-abbrev start-of-lent4 : tie.After-lent4 → tie.Start
-start-of-lent4 c = then1-of-lent4 c .before .before .before
-
-abbrev then2-of-lent5 : tie.After-lent5 → tie.Then2
-then2-of-lent5 c = c .before .before .before
-
-abbrev else1-of-lent5 : tie.After-lent5 → tie.Else1
-else1-of-lent5 c = then2-of-lent5 c .before .before
-
-abbrev start-of-lent5 : tie.After-lent5 → tie.Start
-start-of-lent5 c = else1-of-lent5 c .before .before .before
+count-back : (s : tie.Start) → toZ w64 (s .args .r .count) ≡ pos (s .args .r .count)
+count-back s = toZ-pos w64 (omega (arith, s .pre))
 
 cast-count : tie.Need-cast-count
 cast-count c = search needs
@@ -69,16 +46,28 @@ same-length c = search needs
 
 returns : tie.Need-returns
 returns c =
-    let D = start-of-lent4 c .args .r .deviation in
-    let same : toZ w64 (ofZ w64 D) ≡ D = search needs in
-    planned-words _ _ (then1-of-lent4 c .if1 .taken) same (put-of-lent4 c .put .ensures) (back (record { sfits = word-of-lent4 c .word .ok }) (word-of-lent4 c .word .ensures)) (put2-of-lent4 c .put2 .ensures) (back (record { sfits = word2-of-lent4 c .word2 .ok }) (word2-of-lent4 c .word2 .ensures))
-    (put3-of-lent4 c .put3 .ensures) (toZ-pos w64 {n = start-of-lent4 c .args .r .count} (omega (arith, start-of-lent4 c .pre))) (c .before .put4 .ensures)
+    let fourth : tie.After-put4 = search in
+    let third : tie.After-put3 = search in
+    let selections : tie.After-word2 = search in
+    let second : tie.After-put2 = search in
+    let steps : tie.After-word = search in
+    let first : tie.After-put = search in
+    let then1 : tie.Then1 = search in
+    let s : tie.Start = search in
+    planned-words _ _ (then1 .if1 .taken) (deviation-back s) (first .put .ensures) (back (steps .word .ok) (steps .word .ensures))
+    (second .put2 .ensures) (back (selections .word2 .ok) (selections .word2 .ensures)) (third .put3 .ensures) (count-back s)
+    (fourth .put4 .ensures)
 
 same-length-2 : tie.Need-same-length-2
 same-length-2 c = search needs
 
 returns-2 : tie.Need-returns-2
-returns-2 c = full-words _ _ (else1-of-lent5 c .if1 .left) (then2-of-lent5 c .if2 .taken) (toZ-pos w64 {n = start-of-lent5 c .args .r .count} (omega (arith, start-of-lent5 c .pre))) (c .before .put5 .ensures)
+returns-2 c =
+    let fourth : tie.After-put5 = search in
+    let then2 : tie.Then2 = search in
+    let else1 : tie.Else1 = search in
+    let s : tie.Start = search in
+    full-words _ _ (else1 .if1 .left) (then2 .if2 .taken) (count-back s) (fourth .put5 .ensures)
 
 returns-3 : tie.Need-returns-3
 returns-3 c = no-words _ _ (c .before .before .if1 .left) (c .if2 .left)

@@ -1,4 +1,4 @@
--- `text_lines::put_items` meets its contract. The loop's invariant: the first `j` items are put. Assumes nothing.
+-- `text::lines::put_items` meets its contract. The loop's invariant: the first `j` items are put. Assumes nothing.
 use mathlib.Core.Path.{_≡_, ap, _∙_}
 use Prim.Native.Nat.{_+_, _-_, _≤_}
 use native.Mathlib.Omega.{arith}
@@ -45,12 +45,16 @@ loop-less c = omega arith
 
 loop-again : tie.Need-loop-again Inv-loop μ-loop
 loop-again c =
-    let k = c .before .before .before .before .before in
-    let a = k .before .before .before .args in
-    let p = c .before .before .put-next-item .ensures in
-    let l = k .before .loop in
+    let at-put-next-item : tie.After-put-next-item Inv-loop μ-loop = search in
+    let at-put-next-item-arg2 : tie.After-put-next-item-arg2 Inv-loop μ-loop = search in
+    let k : tie.In-loop Inv-loop μ-loop = search in
+    let at-loop : tie.At-loop Inv-loop μ-loop = search in
+    let start : tie.Start Inv-loop μ-loop = search in
+    let a = start .args in
+    let p = at-put-next-item .put-next-item .ensures in
+    let l = at-loop .loop in
     let word : ℤ = getD (a .words .now) (a .from + 1 + l .j) (pos 0) in
-    let f : SFits w32 word = record { sfits = c .before .before .before .put-next-item-arg2 .given } in
+    let f : SFits w32 word = record { sfits = at-put-next-item-arg2 .put-next-item-arg2 .given } in
     let e = item-back f ∙ item-of (a .n) (a .words .now) (a .from) (l .j) (k .loop-test .taken) in
     (omega arith, grown-more _ 12 (items-more _ _) (l .inv .1) (put-as (ap (next-item (l .j)) e) (p .0)) (p .1))
 

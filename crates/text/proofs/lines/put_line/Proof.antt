@@ -1,4 +1,4 @@
--- `text_lines::put_line` meets its contract. Assumes nothing.
+-- `text::lines::put_line` meets its contract. Assumes nothing.
 use native.Mathlib.Omega.{arith}
 use borrow.Author.Needs.{needs}
 use Rattle.sheet.specs.Text.{bytes}
@@ -25,10 +25,12 @@ same-length c = search needs
 returns : tie.Need-returns
 unfolding bytes
 returns c =
-    let k = c .before .before .before .before .before .before in
-    let key = k .before .before .before .before .put-bytes .ensures in
+    let at-put-byte : tie.After-put-byte = search in
+    let k : tie.After-put-items = search in
+    let at-put-bytes : tie.After-put-bytes = search in
+    let key = at-put-bytes .put-bytes .ensures in
     let i = k .put-items .ensures in
-    let end = c .before .before .put-byte .ensures in
+    let end = at-put-byte .put-byte .ensures in
     (put-as (line-text _ _) (then (then key (i .0)) end), omega (arith, key .end, i .1, end .end))
 
 pub put-line-spec : {M : Type 1} → statement M

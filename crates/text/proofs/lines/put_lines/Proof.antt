@@ -1,4 +1,4 @@
--- `text_lines::put_lines` meets its contract. The loop's invariant: the first `k` lines are put. Assumes nothing.
+-- `text::lines::put_lines` meets its contract. The loop's invariant: the first `k` lines are put. Assumes nothing.
 use mathlib.Core.Path.{_≡_}
 use Prim.Native.Nat.{_-_, _≤_}
 use native.Mathlib.Omega.{arith}
@@ -31,9 +31,10 @@ loop-less c = omega arith
 
 loop-again : tie.Need-loop-again Inv-loop μ-loop
 loop-again c =
-    let k = c .before .before .before .before in
-    let p = c .before .before .put-line .ensures in
-    (omega arith, grown-more _ 100 (lines-more _ _ _) (k .before .loop .inv .1) (p .0) (omega (arith, p .1)))
+    let at-put-line : tie.After-put-line Inv-loop μ-loop = search in
+    let at-loop : tie.At-loop Inv-loop μ-loop = search in
+    let p = at-put-line .put-line .ensures in
+    (omega arith, grown-more _ 100 (lines-more _ _ _) (at-loop .loop .inv .1) (p .0) (omega (arith, p .1)))
 
 same-length : tie.Need-same-length Inv-loop μ-loop
 same-length c = c .before .loop .inv .1 .puts .same-length

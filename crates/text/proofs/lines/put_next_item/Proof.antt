@@ -1,4 +1,4 @@
--- `text_lines::put_next_item` meets its contract. Assumes nothing.
+-- `text::lines::put_next_item` meets its contract. Assumes nothing.
 use mathlib.Core.Path.{_∙_}
 use native.Mathlib.Omega.{arith}
 use borrow.Author.Needs.{needs}
@@ -17,9 +17,11 @@ same-length c = search needs
 
 returns : tie.Need-returns
 returns c =
-    let k = c .before .before .before .before in
-    let p = c .before .before .put-item .ensures in
-    (put-as (item-back (k .before .before .fits .w) ∙ item-first _ _ (k .if1 .taken)) (p .0), omega (arith, p .1))
+    let at-put-item : tie.After-put-item = search in
+    let k : tie.Then1 = search in
+    let start : tie.Start = search in
+    let p = at-put-item .put-item .ensures in
+    (put-as (item-back (start .fits .w) ∙ item-first _ _ (k .if1 .taken)) (p .0), omega (arith, p .1))
 
 put-byte-requires : tie.Need-put-byte-requires
 put-byte-requires c κs = search needs
@@ -33,10 +35,13 @@ same-length-2 c = search needs
 returns-2 : tie.Need-returns-2
 unfolding bytes
 returns-2 c =
-    let k = c .before .before .before .before .before .before in
-    let p = c .before .before .put-item2 .ensures in
-    let q = then (k .put-byte .ensures) (put-as (item-back (k .before .before .before .before .fits .w)) (p .0)) in
-    (put-as (item-behind _ _ (k .before .before .if1 .left)) q, omega (arith, k .put-byte .ensures .end, p .1))
+    let at-put-item2 : tie.After-put-item2 = search in
+    let k : tie.After-put-byte = search in
+    let else1 : tie.Else1 = search in
+    let start : tie.Start = search in
+    let p = at-put-item2 .put-item2 .ensures in
+    let q = then (k .put-byte .ensures) (put-as (item-back (start .fits .w)) (p .0)) in
+    (put-as (item-behind _ _ (else1 .if1 .left)) q, omega (arith, k .put-byte .ensures .end, p .1))
 
 pub put-next-item-spec : {M : Type 1} → statement M
 put-next-item-spec =

@@ -1,4 +1,4 @@
--- `text_lines::put_panel` meets its contract. Assumes nothing.
+-- `text::lines::put_panel` meets its contract. Assumes nothing.
 use native.Mathlib.Omega.{arith}
 use borrow.Author.Needs.{needs}
 use Rattle.sheet.specs.Text.{bytes}
@@ -7,13 +7,6 @@ use Rattle.writing.proofs.NumeralLaws.{natural-8}
 use Rattle.writing.proofs.TextLaws.{panel-text, panel-length}
 use Rattle.text.proofs.lines.put_panel.Statement.{statement}
 use Rattle.text.proofs.lines.put_panel.Tie as tie
-
--- the entry, seen from behind the byte and from behind the count
-abbrev entered : tie.After-put-natural → tie.Start
-entered c = c .before .before .before .before .before .before .before .before
-
-abbrev first : tie.After-put-natural2 → tie.After-put-natural
-first c = c .before .before .before .before .before .before .before .before
 
 slice-aggregate-put-bytes : tie.Need-slice-aggregate-put-bytes
 slice-aggregate-put-bytes c = search needs
@@ -25,16 +18,19 @@ put-natural-requires : tie.Need-put-natural-requires
 put-natural-requires c κs = search needs
 
 put-byte-requires : tie.Need-put-byte-requires
-put-byte-requires c κs = omega (arith, natural-8 _ (entered (c .before .before .before) .fits .kept .fits))
+put-byte-requires c κs =
+    let start : tie.Start = search in
+    omega (arith, natural-8 _ (start .fits .kept .fits))
 
 put-natural-requires-2 : tie.Need-put-natural-requires-2
 put-natural-requires-2 c κs =
-    omega (arith, natural-8 _ (entered (c .before .before .before .before .before .before .before) .fits .kept .fits))
+    let start : tie.Start = search in
+    omega (arith, natural-8 _ (start .fits .kept .fits))
 
 put-byte-requires-2 : tie.Need-put-byte-requires-2
 put-byte-requires-2 c κs =
-    let f = entered (first (c .before .before .before)) .fits in
-    omega (arith, natural-8 _ (f .kept .fits), natural-8 _ (f .count .fits))
+    let start : tie.Start = search in
+    omega (arith, natural-8 _ (start .fits .kept .fits), natural-8 _ (start .fits .count .fits))
 
 same-length : tie.Need-same-length
 same-length c = search needs
@@ -42,13 +38,17 @@ same-length c = search needs
 returns : tie.Need-returns
 unfolding bytes
 returns c =
-    let d = c .before .before .before .before .before .before in
-    let b = first d in
-    let f = entered b .fits in
-    let key = b .before .before .before .before .put-bytes .ensures in
-    let pair = then (then (then key (b .put-natural .ensures)) (d .before .before .before .before .put-byte .ensures)) (d .put-natural2 .ensures) in
+    let at-put-byte2 : tie.After-put-byte2 = search in
+    let d : tie.After-put-natural2 = search in
+    let at-put-byte : tie.After-put-byte = search in
+    let b : tie.After-put-natural = search in
+    let at-put-bytes : tie.After-put-bytes = search in
+    let start : tie.Start = search in
+    let f = start .fits in
+    let kept = then (at-put-bytes .put-bytes .ensures) (b .put-natural .ensures) in
+    let pair = then (then kept (at-put-byte .put-byte .ensures)) (d .put-natural2 .ensures) in
     put-short (panel-length _ _ (natural-8 _ (f .kept .fits)) (natural-8 _ (f .count .fits)))
-    (put-as (panel-text _ _) (then pair (c .before .before .put-byte2 .ensures)))
+    (put-as (panel-text _ _) (then pair (at-put-byte2 .put-byte2 .ensures)))
 
 pub put-panel-spec : {M : Type 1} → statement M
 put-panel-spec =

@@ -1,4 +1,4 @@
--- `text_lines::put_panels` meets its contract. The loop's invariant: the lines of the first `i` panels are put. Assumes nothing.
+-- `text::lines::put_panels` meets its contract. The loop's invariant: the lines of the first `i` panels are put. Assumes nothing.
 use mathlib.Core.List.{[], _∷_}
 use mathlib.Core.Path.{_≡_}
 use Prim.Native.Nat.{_-_, _≤_}
@@ -37,9 +37,10 @@ loop-less c = omega arith
 
 loop-again : tie.Need-loop-again Inv-loop μ-loop
 loop-again c =
-    let k = c .before .before .before .before in
-    let p = c .before .before .put-panel .ensures in
-    (omega arith, grown-more _ 13 (panels-more _ _) (k .before .loop .inv .1) (p .0) (p .1))
+    let at-put-panel : tie.After-put-panel Inv-loop μ-loop = search in
+    let at-loop : tie.At-loop Inv-loop μ-loop = search in
+    let p = at-put-panel .put-panel .ensures in
+    (omega arith, grown-more _ 13 (panels-more _ _) (at-loop .loop .inv .1) (p .0) (p .1))
 
 same-length : tie.Need-same-length Inv-loop μ-loop
 same-length c = c .before .loop .inv .1 .puts .same-length

@@ -1,4 +1,4 @@
--- `argument::times` meets its contract. The loop's invariant: the first `count` numbers are read, and what is left from `place` on gives
+-- `tightest::argument::times` meets its contract. The loop's invariant: the first `count` numbers are read, and what is left from `place` on gives
 -- the others. Assumes nothing.
 use mathlib.Core.Path.{_≡_, ap, sym, _∙_}
 use Prim.Native.Nat.{_-_}
@@ -13,7 +13,8 @@ use Rattle.tightest.specs.Inner.{times-of}
 use Rattle.sheet.specs.Sheet.{item}
 use Rattle.items.specs.Inner.{ItemIs}
 use Rattle.items.specs.declared.Item.the-variants.{Entry}
-use Rattle.tightest.proofs.TimesLaws.{six-none, word-near, word-read, Found, found, lone-minus, no-item, ReadTo, read-none, read-faulty, read-other, read-more, times-last}
+use Rattle.tightest.proofs.TimesLaws.{six-none, word-near, word-read, Found, found, lone-minus, no-item}
+use Rattle.tightest.proofs.TimesLaws.{ReadTo, read-none, read-faulty, read-other, read-more, times-last}
 use Rattle.tightest.proofs.argument.times.Statement.{statement}
 use Rattle.tightest.proofs.argument.times.Tie as tie
 
@@ -24,41 +25,31 @@ abbrev μ-loop : tie.MeasureT-loop
 μ-loop s at₀ count₀ place₀ at count place = length s - place
 
 -- places that statements name, each from the next one
-abbrev at-loop-of-word : tie.After-word Inv-loop μ-loop → tie.At-loop Inv-loop μ-loop
-at-loop-of-word c = c .before .before .before
+abbrev loop : tie.After-word Inv-loop μ-loop → tie.At-loop Inv-loop μ-loop
+loop c = c .before .before .before
 
-abbrev start-of-word : tie.After-word Inv-loop μ-loop → tie.Start Inv-loop μ-loop
-start-of-word c = at-loop-of-word c .before .before
+abbrev start : tie.After-word Inv-loop μ-loop → tie.Start Inv-loop μ-loop
+start c = loop c .before .before
 
-abbrev at-loop-of-else1 : tie.Else1 Inv-loop μ-loop → tie.At-loop Inv-loop μ-loop
-at-loop-of-else1 c = c .before .before .before .before .before
+abbrev at-word : tie.Else1 Inv-loop μ-loop → tie.After-word Inv-loop μ-loop
+at-word c = c .before .before
 
-abbrev number-of-shared-slice-known2 : tie.After-shared-slice-known2 Inv-loop μ-loop → tie.After-number Inv-loop μ-loop
-number-of-shared-slice-known2 c = c .before .before .before
-
-abbrev else1-of-shared-slice-known2 : tie.After-shared-slice-known2 Inv-loop μ-loop → tie.Else1 Inv-loop μ-loop
-else1-of-shared-slice-known2 c = number-of-shared-slice-known2 c .before .before
-
-abbrev else1-of-else3 : tie.Else3 Inv-loop μ-loop → tie.Else1 Inv-loop μ-loop
-else1-of-else3 c = c .before .before .before .before .before .before
+abbrev at-else1 : tie.After-number Inv-loop μ-loop → tie.Else1 Inv-loop μ-loop
+at-else1 c = c .before .before
 
 -- the item that was found
 item-there : (c : tie.After-word Inv-loop μ-loop) →
-    ItemIs far-limit item (start-of-word c .args .s .now) (at-loop-of-word c .loop .place)
-    (Entry (c .word .given .0 .0) (c .word .given .0 .1 .0))
+    ItemIs far-limit item (start c .args .s .now) (loop c .loop .place) (Entry (c .word .given .0 .0) (c .word .given .0 .1 .0))
 item-there c = rw (c .word .given .1) at (c .before .before .item-at .ensures)
 
 -- which is a number
-number-there : (c : tie.Else1 Inv-loop μ-loop) →
-    let w = c .before .before in
-    Found (start-of-word w .args .s .now) (at-loop-of-word w .loop .place) (w .word .given .0 .0) (w .word .given .0 .1 .0)
-number-there c =
-    let w = c .before .before in
-    found _ _ (at-loop-of-word w .loop .inv .within) (item-there w) (c .if1 .left)
+number-there : (c : tie.Else1 Inv-loop μ-loop) → let w = at-word c in
+    Found (start w .args .s .now) (loop w .loop .place) (w .word .given .0 .0) (w .word .given .0 .1 .0)
+number-there c = let w = at-word c in found _ _ (loop w .loop .inv .within) (item-there w) (c .if1 .left)
 
 -- its component
-component : (c : tie.After-number Inv-loop μ-loop) → toZ w64 (ofZ w64 (c .number .result)) ≡ clip (number-there (c .before .before) .number-is)
-component c = let f = number-there (c .before .before) in word-read (f .number-is) _ (f .word-is) _ (c .number .ensures)
+component : (c : tie.After-number Inv-loop μ-loop) → toZ w64 (ofZ w64 (c .number .result)) ≡ clip (number-there (at-else1 c) .number-is)
+component c = let f = number-there (at-else1 c) in word-read (f .number-is) _ (f .word-is) _ (c .number .ensures)
 
 loop-holds : tie.Need-loop-holds Inv-loop μ-loop
 loop-holds c = read-none _ _ six-none
@@ -74,10 +65,8 @@ no-times-requires c κs = search needs
 
 returns : tie.Need-returns Inv-loop μ-loop
 returns c =
-    let at-word : tie.After-word Inv-loop μ-loop = search in
-    let at-at-loop : tie.At-loop Inv-loop μ-loop = search in
-    let w = at-word in
-    let l = at-at-loop in
+    let w : tie.After-word Inv-loop μ-loop = search in
+    let l : tie.At-loop Inv-loop μ-loop = search in
     c .no-times .ensures 2
     ∙ ap times-of (sym (read-faulty (l .loop .inv) (lone-minus _ (l .loop .place) (item-there w) (c .before .if1 .taken))))
 
@@ -92,43 +81,53 @@ add-count c = search needs
 
 returns-2 : tie.Need-returns-2 Inv-loop μ-loop
 returns-2 c =
-    let at-else1 : tie.Else1 Inv-loop μ-loop = search in
-    let at-at-loop : tie.At-loop Inv-loop μ-loop = search in
-    let e = at-else1 in
-    times-last (at-at-loop .loop .inv) (number-there e) (c .if2 .taken) (component (c .before .before)) (c .before .put .ensures)
+    let n : tie.After-number Inv-loop μ-loop = search in
+    let e : tie.Else1 Inv-loop μ-loop = search in
+    let l : tie.At-loop Inv-loop μ-loop = search in
+    times-last (l .loop .inv) (number-there e) (c .if2 .taken) (component n) (c .before .put .ensures)
 
 shared-slice-read-if3 : tie.Need-shared-slice-read-if3 Inv-loop μ-loop
-shared-slice-read-if3 c = let k = number-there ((else1-of-shared-slice-known2 c)) .within in omega arith
+shared-slice-read-if3 c =
+    let e : tie.Else1 Inv-loop μ-loop = search in
+    let k = number-there e .within in
+    omega arith
 
 no-times-requires-2 : tie.Need-no-times-requires-2 Inv-loop μ-loop
 no-times-requires-2 c κs = search needs
 
 returns-3 : tie.Need-returns-3 Inv-loop μ-loop
 returns-3 c =
-    let d = c .before .before in
-    let e = else1-of-shared-slice-known2 d in
+    let more : tie.Else2 Inv-loop μ-loop = search in
+    let e : tie.Else1 Inv-loop μ-loop = search in
     let f = number-there e in
-    c .no-times2 .ensures 2
-    ∙ ap times-of (sym (read-other (at-loop-of-else1 e .loop .inv) f
-    (let n = d .before .if2 .left in let k = f .within in omega arith) (c .before .if3 .taken)))
+    let left = more .if2 .left in
+    let k = f .within in
+    c .no-times2 .ensures 2 ∙ ap times-of (sym (read-other (loop (at-word e) .loop .inv) f (omega arith) (c .before .if3 .taken)))
 
 add-place : tie.Need-add-place Inv-loop μ-loop
-add-place c = let k = number-there ((else1-of-else3 c)) .within in omega arith
+add-place c =
+    let e : tie.Else1 Inv-loop μ-loop = search in
+    let k = number-there e .within in
+    omega arith
 
 loop-less : tie.Need-loop-less Inv-loop μ-loop
 loop-less c =
-    let f = number-there ((else1-of-else3 c)) in
+    let e : tie.Else1 Inv-loop μ-loop = search in
+    let f = number-there e in
     let k = f .within in
     let o = f .on in
     omega arith
 
 loop-again : tie.Need-loop-again Inv-loop μ-loop
 loop-again c =
-    let d = c .before in
-    let e = else1-of-shared-slice-known2 d in
+    let more : tie.Else2 Inv-loop μ-loop = search in
+    let put : tie.After-put Inv-loop μ-loop = search in
+    let n : tie.After-number Inv-loop μ-loop = search in
+    let e : tie.Else1 Inv-loop μ-loop = search in
     let f = number-there e in
-    read-more (at-loop-of-else1 e .loop .inv) f (let n = d .before .if2 .left in let k = f .within in omega arith)
-    (c .if3 .left) (component ((number-of-shared-slice-known2 d))) (d .before .before .put .ensures)
+    let left = more .if2 .left in
+    let k = f .within in
+    read-more (loop (at-word e) .loop .inv) f (omega arith) (c .if3 .left) (component n) (put .put .ensures)
 
 enum-told : tie.Need-enum-told Inv-loop μ-loop
 enum-told c = search needs
@@ -138,11 +137,11 @@ no-times-requires-3 c κs = search needs
 
 returns-4 : tie.Need-returns-4 Inv-loop μ-loop
 returns-4 c =
-    let at-item-at : tie.After-item-at Inv-loop μ-loop = search in
-    let d = at-item-at in
-    let l = d .before in
-    c .no-times3 .ensures 2
-    ∙ ap times-of (sym (read-faulty (l .loop .inv) (no-item (l .before .before .args .s .now) (l .loop .place) (rw (c .before .enum-told .given .1) at (d .item-at .ensures)))))
+    let d : tie.After-item-at Inv-loop μ-loop = search in
+    let l : tie.At-loop Inv-loop μ-loop = search in
+    let s : tie.Start Inv-loop μ-loop = search in
+    let none = no-item (s .args .s .now) (l .loop .place) (rw (c .before .enum-told .given .1) at (d .item-at .ensures)) in
+    c .no-times3 .ensures 2 ∙ ap times-of (sym (read-faulty (l .loop .inv) none))
 
 pub times-spec : {M : Type 1} → statement M
 times-spec =

@@ -1,4 +1,4 @@
--- `measuring::deviation::deviation` meets its contract. Assumes nothing.
+-- `timing::deviation::deviation` meets its contract. Assumes nothing.
 use mathlib.Core.Path.{ap₂, _∙_}
 use native.Mathlib.Omega.{arith}
 use borrow.Author.Needs.{needs}

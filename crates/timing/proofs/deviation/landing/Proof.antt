@@ -1,4 +1,4 @@
--- `measuring::deviation::landing` meets its contract. The largest of the sums passed, none of them far. Assumes nothing.
+-- `timing::deviation::landing` meets its contract. The largest of the sums passed, none of them far. Assumes nothing.
 use mathlib.Core.Path.{_≡_}
 use Prim.Native.Nat.{_+_, _≤_, _-_}
 use native.Mathlib.Omega.{arith}
@@ -58,8 +58,9 @@ loop-less c = omega arith
 loop-again : tie.Need-loop-again Inv-loop μ-loop
 unfolding meant meantV
 loop-again c =
-    let s = c .before .before .before .before .before in
-    let l = c .before .before .before .before .loop in
+    let at-loop : tie.At-loop Inv-loop μ-loop = search in
+    let s : tie.Start Inv-loop μ-loop = search in
+    let l = at-loop .loop in
     let a = s .pre .2 .at (s .args .i) (l .j) (omega arith) (omega arith) in
     let d = close-plus _ _ _ (c .before .plus .ensures) a (s .pre .3 .at (l .j) (omega arith)) in (
       omega arith,

@@ -1,4 +1,4 @@
--- `measuring::deviation::overdue` meets its contract. The largest of the differences passed, none of them far. Assumes nothing.
+-- `timing::deviation::overdue` meets its contract. The largest of the differences passed, none of them far. Assumes nothing.
 use mathlib.Core.Path.{_≡_}
 use Prim.Native.Nat.{_+_, _≤_, _-_}
 use native.Mathlib.Omega.{arith}
@@ -53,8 +53,9 @@ loop-less c = omega arith
 loop-again : tie.Need-loop-again Inv-loop μ-loop
 unfolding meantV
 loop-again c =
-    let s = c .before .before .before .before in
-    let l = c .before .before .before .loop in
+    let at-loop : tie.At-loop Inv-loop μ-loop = search in
+    let s : tie.Start Inv-loop μ-loop = search in
+    let l = at-loop .loop in
     let d = close-minus _ _ _ (c .before .minus .ensures) (s .pre .2 .at (l .j) (omega arith)) (s .pre .1 .at (l .j) (omega arith)) in (
       omega arith,
       largest-more _ _ _ _ _ (c .before .minus .ensures) (l .inv .1) (c .larger .ensures),

@@ -1,4 +1,4 @@
--- `measuring::deviation::shortfall` meets its contract. The largest of the differences passed, none of them far. Assumes nothing.
+-- `timing::deviation::shortfall` meets its contract. The largest of the differences passed, none of them far. Assumes nothing.
 use mathlib.Core.Path.{_≡_}
 use Prim.Native.Nat.{_+_, _≤_, _-_}
 use native.Mathlib.Omega.{arith}
@@ -52,9 +52,12 @@ loop-less c = omega arith
 loop-again : tie.Need-loop-again Inv-loop μ-loop
 unfolding meantV
 loop-again c =
-    let l = c .before .before .before .before .loop in
-    let y = c .before .before .landing .ensures in
-    let p = c .before .before .before .before .before .pre .3 .at (l .i) (omega arith) in
+    let at-landing : tie.After-landing Inv-loop μ-loop = search in
+    let at-loop : tie.At-loop Inv-loop μ-loop = search in
+    let start : tie.Start Inv-loop μ-loop = search in
+    let l = at-loop .loop in
+    let y = at-landing .landing .ensures in
+    let p = start .pre .3 .at (l .i) (omega arith) in
     let e = rw (y .0) at (c .before .minus .ensures) in (
       omega arith,
       largest-more _ _ _ _ _ e (l .inv .1) (c .larger .ensures),

@@ -3,6 +3,7 @@ use mathlib.Core.Path.{_≡_, ap, sym, _∙_}
 use mathlib.Core.Bool.{Bool, false}
 use Prim.Native.Nat.{_≤_, _-_}
 use native.Mathlib.Omega.{arith}
+use lib.IntN.{ℤ}
 use Rattle.timing.specs.Times.{beyond, component, some-beyond}
 use Rattle.timing.proofs.LimitLaws.{some-none, some-more, some-at, read-again}
 use Rattle.timing.proofs.limit.beyond.Statement.{statement}
@@ -14,11 +15,15 @@ Inv-loop n at j₀ j = (j ≤ n) × (some-beyond j (component at) ≡ false)
 abbrev μ-loop : tie.MeasureT-loop
 μ-loop n at j₀ j = n - j
 
-here : (c : tie.After-far-off Inv-loop μ-loop) (b : Bool) → c .far-off .result ≡ b →
-    beyond (component (c .before .before .before .before .before .args .timing .at) (c .before .before .before .loop .j)) ≡ b
-here c b e =
-    let x = component (c .before .before .before .before .before .args .timing .at) (c .before .before .before .loop .j) in
-    ap beyond (sym (read-again x (c .before .far-off-arg .given))) ∙ sym (c .far-off .ensures) ∙ e
+abbrev loop : tie.After-far-off Inv-loop μ-loop → tie.At-loop Inv-loop μ-loop
+loop c = c .before .before .before
+
+-- the component that was looked at
+abbrev seen : tie.After-far-off Inv-loop μ-loop → ℤ
+seen c = component (loop c .before .before .args .timing .at) (loop c .loop .j)
+
+here : (c : tie.After-far-off Inv-loop μ-loop) (b : Bool) → c .far-off .result ≡ b → beyond (seen c) ≡ b
+here c b e = ap beyond (sym (read-again (seen c) (c .before .far-off-arg .given))) ∙ sym (c .far-off .ensures) ∙ e
 
 loop-holds : tie.Need-loop-holds Inv-loop μ-loop
 loop-holds c = (omega arith, some-none beyond _)
@@ -33,7 +38,9 @@ far-off-requires : tie.Need-far-off-requires Inv-loop μ-loop
 far-off-requires c κs = tt
 
 returns : tie.Need-returns Inv-loop μ-loop
-returns c = sym (some-at beyond _ _ (c .before .before .before .before .loop .j) (omega arith) (here (c .before) _ (c .if1 .taken)))
+returns c =
+    let at-loop : tie.At-loop Inv-loop μ-loop = search in
+    sym (some-at beyond _ _ (at-loop .loop .j) (omega arith) (here (c .before) _ (c .if1 .taken)))
 
 add-j : tie.Need-add-j Inv-loop μ-loop
 add-j c = omega arith
@@ -42,7 +49,9 @@ loop-less : tie.Need-loop-less Inv-loop μ-loop
 loop-less c = omega arith
 
 loop-again : tie.Need-loop-again Inv-loop μ-loop
-loop-again c = (omega arith, some-more beyond _ _ (c .before .before .before .before .loop .inv .1) (here (c .before) _ (c .if1 .left)))
+loop-again c =
+    let at-loop : tie.At-loop Inv-loop μ-loop = search in
+    (omega arith, some-more beyond _ _ (at-loop .loop .inv .1) (here (c .before) _ (c .if1 .left)))
 
 returns-2 : tie.Need-returns-2 Inv-loop μ-loop
 returns-2 c = let e : c .before .loop .j ≡ c .before .before .before .args .n = omega arith in sym (rw e at (c .before .loop .inv .1))

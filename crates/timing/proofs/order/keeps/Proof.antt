@@ -1,4 +1,4 @@
--- `measuring::order::keeps` meets its contract. The rules passed, row by row, are kept. Assumes nothing.
+-- `timing::order::keeps` meets its contract. The rules passed, row by row, are kept. Assumes nothing.
 use Prim.Native.Nat.{ℕ, _≤_, _<_, _-_}
 use native.Mathlib.Omega.{arith}
 use borrow.Author.Count.{below-none, below-more}
@@ -54,18 +54,22 @@ array-read-plus c = omega arith
 
 plus-requires : tie.Need-plus-requires Inv-loop2 μ-loop2 Inv-loop μ-loop
 plus-requires c κs =
-    let s = c .before .before .before .before .before in
-    let j = c .before .before .loop2 .j in (
-      close-more (omega arith) (s .pre .1 .at (c .before .before .before .before .loop .i) j (omega arith) (omega arith)),
+    let at-loop2 : tie.At-loop2 Inv-loop2 μ-loop2 Inv-loop μ-loop = search in
+    let at-loop : tie.At-loop Inv-loop2 μ-loop2 Inv-loop μ-loop = search in
+    let s : tie.Start Inv-loop2 μ-loop2 Inv-loop μ-loop = search in
+    let j = at-loop2 .loop2 .j in (
+      close-more (omega arith) (s .pre .1 .at (at-loop .loop .i) j (omega arith) (omega arith)),
       close-more (omega arith) (s .pre .2 .at j (omega arith)),
     )
 
 returns : tie.Need-returns Inv-loop2 μ-loop2 Inv-loop μ-loop
 unfolding Keeps meant meantV
-returns c = λ k.
-    let i = c .before .before .before .before .before .before .loop .i in
-    let j = c .before .before .before .before .loop2 .j in
-    rule-broken _ _ _ (c .before .plus .ensures) (c .if1 .taken) (k i j (omega arith) (omega arith))
+returns c =
+    let at-loop2 : tie.At-loop2 Inv-loop2 μ-loop2 Inv-loop μ-loop = search in
+    let at-loop : tie.At-loop Inv-loop2 μ-loop2 Inv-loop μ-loop = search in
+    let i = at-loop .loop .i in
+    let j = at-loop2 .loop2 .j in
+    λ k. rule-broken _ _ _ (c .before .plus .ensures) (c .if1 .taken) (k i j (omega arith) (omega arith))
 
 add-j : tie.Need-add-j Inv-loop2 μ-loop2 Inv-loop μ-loop
 add-j c = omega arith
@@ -76,7 +80,8 @@ loop2-less c = omega arith
 loop2-again : tie.Need-loop2-again Inv-loop2 μ-loop2 Inv-loop μ-loop
 unfolding meant meantV
 loop2-again c =
-    (omega arith, below-more _ _ (c .before .before .before .before .loop2 .inv .1) (rule-kept _ _ _ (c .before .plus .ensures) (c .if1 .left)))
+    let at-loop2 : tie.At-loop2 Inv-loop2 μ-loop2 Inv-loop μ-loop = search in
+    (omega arith, below-more _ _ (at-loop2 .loop2 .inv .1) (rule-kept _ _ _ (c .before .plus .ensures) (c .if1 .left)))
 
 add-i : tie.Need-add-i Inv-loop2 μ-loop2 Inv-loop μ-loop
 add-i c = omega arith

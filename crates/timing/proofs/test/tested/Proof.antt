@@ -1,4 +1,4 @@
--- `measuring::tested` meets its contract. Assumes nothing.
+-- `timing::test::tested` meets its contract. Assumes nothing.
 use borrow.Author.Needs.{needs}
 use Rattle.timing.proofs.TestLaws.{tested-kept, tested-broken}
 use Rattle.timing.proofs.test.tested.Statement.{statement}

@@ -27,8 +27,9 @@ array-copy-out-word-of c = omega arith
 
 word-of-requires : tie.Need-word-of-requires Inv-loop μ-loop
 word-of-requires c κs =
-    let s = c .before .before .before .before in
-    let j = c .before .before .loop .j in
+    let at-loop : tie.At-loop Inv-loop μ-loop = search in
+    let s : tie.Start Inv-loop μ-loop = search in
+    let j = at-loop .loop .j in
     ap beyond (read-again (component (s .args .timing .at) j) (c .word-of-arg .given)) ∙ none-at beyond _ _ j (s .pre .1) (omega arith)
 
 mul-r : tie.Need-mul-r Inv-loop μ-loop
@@ -45,8 +46,10 @@ loop-less c = omega arith
 
 loop-again : tie.Need-loop-again Inv-loop μ-loop
 loop-again c =
-    let l = c .before .before .before .loop in
-    let x = component (c .before .before .before .before .before .args .timing .at) (l .j) in (
+    let at-loop : tie.At-loop Inv-loop μ-loop = search in
+    let start : tie.Start Inv-loop μ-loop = search in
+    let l = at-loop .loop in
+    let x = component (start .args .timing .at) (l .j) in (
       omega arith,
       written-more _ (omega arith) (l .inv .1)
           (c .word-of .ensures ∙ ap (λ z. word (num z)) (read-again x (c .before .word-of-arg .given))),

@@ -1,4 +1,0 @@
--- Laws of bytes as sets of triggers, and of narrowing.
-pub mod Small
-pub mod Bytes
-pub mod Narrow

@@ -1,2 +1,0 @@
--- The walk over masks as the list of what happens in it.
-pub mod Trace

@@ -1,0 +1,162 @@
+-- Laws of a sheet's sections: one kind of line more, its refusal, the end; and what is true of the rows of each kind that was read.
+use mathlib.Core.Path.{_≡_, refl, ap}
+use mathlib.Core.Logic.{inl, inr}
+use mathlib.Core.List.{List, [], _∷_}
+use mathlib.Core.Bool.{true, false}
+use Prim.Native.Nat.{ℕ, zero, suc, _≤_, _<_}
+use native.Mathlib.Omega.{arith}
+use borrow.Author.Tests.{lt-ltb, le-ltb}
+use lib.IntN.{pos}
+use lib.ListN.{length, drop, getD, drop-of-length-le}
+use lib.Seq.{drop-cons}
+use Rattle.maxplus.specs.Entry.{E, absent, num}
+use Rattle.maxplus.specs.Finite.{In}
+use Rattle.maxplus.proofs.FiniteLaws.{in-at}
+use Rattle.sheet.specs.Sheet.{got, refused, literal, ended, items, Rule, size, absent?, no-size, any, all, line, rows, table}
+use Rattle.sheet.specs.Sheet.{Section, section, sections, part, sizes, tables, count, panels-line, triggers-line, lag-lines, floor-line}
+use Rattle.sheet.specs.Sheet.{sheet-of, finished, sized, lines, read}
+use Rattle.sheet.proofs.LineLaws.{bind-got, onto, front, none-at, Passes, checked-passes, size-there}
+
+-- ---- the fold: the next kind is k
+module _ (ks rest : List Section) (k : Section) (x : List ℕ) (e : ks ≡ k ∷ rest) where
+  pub sections-refused : (f : ℕ) → section k x ≡ refused f → sections ks x ≡ refused f
+  unfolding sections
+  sections-refused f p = rw (e, p)
+
+  pub sections-more : (t : List (List E)) (y : List ℕ) → section k x ≡ got t y → sections ks x ≡ onto (t ∷ []) (sections rest y)
+  unfolding sections
+  sections-more t y p = rw (e, p) (front t (sections rest y))
+
+pub sections-end : (ks : List Section) (i : ℕ) (x : List ℕ) → length ks ≤ i → sections (drop i ks) x ≡ got [] x
+unfolding sections
+sections-end ks i x h = rw (drop-of-length-le ks {i = i} h)
+
+-- ---- the rows of one kind
+pub record RowsOf (r : Rule) (lines items : ℕ) (t : List (List E)) : Type 0 where
+  pub many : length t ≡ lines
+  pub long : (es : List E) → In es t → length es ≡ items
+  pub good : (es : List E) → In es t → Passes r es
+
+items-long : (k : ℕ) (s : List ℕ) {es : List E} {x : List ℕ} → items k s ≡ got es x → length es ≡ k
+unfolding items
+items-long zero s {es} e = let h : [] ≡ es = cc in rw (← h)
+items-long (suc k) s {es} e =
+    let (a, x, p, f) = bind-got (ended k s) e in
+    let (fs, y, q, g) = bind-got (items k x) f in
+    let h : a ∷ fs ≡ es = cc in
+    rw (← h) (ap suc (items-long k x q))
+
+module _ (key : List ℕ) (r : Rule) where
+  line-of : (n : ℕ) (s : List ℕ) {es : List E} {x : List ℕ} → line key r n s ≡ got es x → (length es ≡ n) × Passes r es
+  unfolding line
+  line-of n s {es} e =
+      let (t, y, p, f) = bind-got (literal key s) e in
+      let (fs, z, q, g) = bind-got (items n y) f in
+      let (passes, same) = checked-passes r fs z g in
+      let h : fs ≡ es = cc in
+      rw (← h) (items-long n y q, passes)
+
+  none : (n : ℕ) → RowsOf r 0 n []
+  none n = record { many = refl; long = λ es h. absurd h; good = λ es h. absurd h }
+
+  more : (m n : ℕ) (es : List E) (t : List (List E)) → (length es ≡ n) × Passes r es → RowsOf r m n t → RowsOf r (suc m) n (es ∷ t)
+  more m n es t (l, p) R = record { many = ap suc (R .many); long = long; good = good }
+    where
+      long : (fs : List E) → In fs (es ∷ t) → length fs ≡ n
+      long fs (inl e) = rw e l
+      long fs (inr h) = R .long fs h
+
+      good : (fs : List E) → In fs (es ∷ t) → Passes r fs
+      good fs (inl e) = rw e p
+      good fs (inr h) = R .good fs h
+
+  rows-of : (m n : ℕ) (s : List ℕ) {t : List (List E)} {x : List ℕ} → rows key r m n s ≡ got t x → RowsOf r m n t
+  unfolding rows
+  rows-of zero n s {t} e = let h : [] ≡ t = cc in rw (← h) (none n)
+  rows-of (suc m) n s {t} e =
+      let (es, y, p, f) = bind-got (line key r n s) e in
+      let (u, z, q, g) = bind-got (rows key r m n y) f in
+      let h : es ∷ u ≡ t = cc in
+      rw (← h) (more m n es u (line-of n s p) (rows-of m n y q))
+
+-- the rows of each kind that was read
+pub sections-of : (ks : List Section) (s : List ℕ) {ts : List (List (List E))} {x : List ℕ} → sections ks s ≡ got ts x →
+    (i : ℕ) {k : Section} {rest : List Section} → drop i ks ≡ k ∷ rest → RowsOf (k .rule) (k .lines) (k .items) (part ts i)
+unfolding sections
+sections-of [] s e zero q = absurd (let z : _≡_ {A = ℕ} 0 1 = cc in let y : ⊥ = omega arith in y)
+sections-of [] s e (suc i) q = absurd (let z : _≡_ {A = ℕ} 0 1 = cc in let y : ⊥ = omega arith in y)
+sections-of (j ∷ ks) s {ts} e i {k} q =
+    let (t, y, p, f) = bind-got (section j s) e in
+    let (us, z, r, g) = bind-got (sections ks y) f in
+    let h : t ∷ us ≡ ts = cc in
+    rw (← h) (go i t us (rows-of (j .key) (j .rule) (j .lines) (j .items) s p) (λ i k rest. sections-of ks y r i {k = k} {rest = rest}) _ _ q)
+  where
+    go : (i : ℕ) (t : List (List E)) (us : List (List (List E))) → RowsOf (j .rule) (j .lines) (j .items) t →
+        ((i : ℕ) (k : Section) (rest : List Section) → drop i ks ≡ k ∷ rest → RowsOf (k .rule) (k .lines) (k .items) (part us i)) →
+        (k : Section) (rest : List Section) → drop i (j ∷ ks) ≡ k ∷ rest → RowsOf (k .rule) (k .lines) (k .items) (part (t ∷ us) i)
+    go zero t us R ih k rest q = let h : j ≡ k = cc in rw (← h) R
+    go (suc i) t us R ih k rest q = ih i k rest q
+
+pub sections-many : (ks : List Section) (s : List ℕ) {ts : List (List (List E))} {x : List ℕ} → sections ks s ≡ got ts x → length ts ≡ length ks
+unfolding sections
+sections-many [] s {ts} e = let h : [] ≡ ts = cc in rw (← h)
+sections-many (k ∷ ks) s {ts} e =
+    let (t, y, p, f) = bind-got (section k s) e in
+    let (us, z, r, g) = bind-got (sections ks y) f in
+    let h : t ∷ us ≡ ts = cc in
+    rw (← h) (ap suc (sections-many ks y r))
+
+module _ {r : Rule} {lines items : ℕ} {t : List (List E)} (R : RowsOf r lines items t) (i : ℕ) (h : i < lines) where
+  in-rows : In (getD t i []) t
+  in-rows = in-at [] t i (let m = R .many in omega arith)
+
+  pub row-long : length (getD t i []) ≡ items
+  row-long = R .long (getD t i []) in-rows
+
+  pub row-passes : Passes r (getD t i [])
+  row-passes = R .good (getD t i []) in-rows
+
+-- a size line that was read has one number, 1 to 6
+pub size-read : {t : List (List E)} → RowsOf size 1 1 t → (m : ℕ) × (table t 0 0 ≡ num (pos (suc m))) × (suc m ≤ 6)
+size-read {t} R =
+    let l = row-long R 0 (omega arith) in
+    let p = row-passes R 0 (omega arith) in
+    size-there (table t 0 0) (none-at absent? absent (getD t 0 []) 0 (p .0) (omega arith)) (none-at no-size absent (getD t 0 []) 0 (p .1) (omega arith))
+
+-- ---- the whole
+module _ (m n : ℕ) (x : List ℕ) where
+  pub sized-refused : (f : ℕ) → sections (tables m n) x ≡ refused f → sized m n x ≡ refused f
+  sized-refused f e = rw e
+
+  module _ (ts : List (List (List E))) (s : List ℕ) (k : ℕ) (e : sections (tables m n) x ≡ got ts (drop k s)) where
+    pub sized-left : k < length s → sized m n x ≡ refused 2
+    sized-left h = rw (e, drop-cons s k 0 h)
+
+    pub sized-all : length s ≤ k → sized m n x ≡ finished m n ts []
+    sized-all h = rw (e, drop-of-length-le s h)
+
+module _ (m n : ℕ) (ts : List (List (List E))) where
+  pub finished-no-lag : any (all absent?) (part ts lag-lines) ≡ true → finished m n ts [] ≡ refused 6
+  finished-no-lag e = rw e
+
+  module _ (e : any (all absent?) (part ts lag-lines) ≡ false) where
+    pub finished-no-floor : any (all absent?) (part ts floor-line) ≡ true → finished m n ts [] ≡ refused 7
+    finished-no-floor f = rw (e, f)
+
+    pub finished-good : any (all absent?) (part ts floor-line) ≡ false → finished m n ts [] ≡ got (sheet-of m n ts) []
+    finished-good f = rw (e, f)
+
+module _ (s : List ℕ) where
+  pub read-long : 2048 < length s → read s ≡ refused 1
+  unfolding read
+  read-long h = rw (lt-ltb 2048 (length s) h)
+
+  module _ (h : length s ≤ 2048) where
+    pub read-sizes : (f : ℕ) → sections sizes s ≡ refused f → read s ≡ refused f
+    unfolding read lines
+    read-sizes f e = rw (le-ltb 2048 (length s) h, e)
+
+    pub read-sized : (ps : List (List (List E))) (y : List ℕ) → sections sizes s ≡ got ps y →
+        read s ≡ sized (count (part ps panels-line)) (count (part ps triggers-line)) y
+    unfolding read lines
+    read-sized ps y e = rw (le-ltb 2048 (length s) h, e)

@@ -1,0 +1,2 @@
+-- Sets of triggers as bytes.
+pub mod Sets
