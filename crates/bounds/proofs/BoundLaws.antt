@@ -15,6 +15,7 @@ use Rattle.tables.specs.Held.{meantV}
 use Rattle.trigger_sets.specs.Sets.{Has}
 use Rattle.buffer.specs.Buffer.{row}
 use Rattle.bounds.specs.Bounds.{places, Under, Covered, Among, Thinned, Grown, Joined, BoundRaised, RaisedBy, Branched, Expanded}
+use Rattle.cue.specs.Sizes.{size-limit}
 
 -- ---- below
 pub under-refl : (a : List ℕ) → Under a a
@@ -242,7 +243,7 @@ module _ {bounds : List (List ℕ)} {from mask : ℕ} {wants : List ℕ} {n : �
     new = λ i j h l. let e : ⊥ = omega arith in absurd e;
   }
 
-  pub expanded-more : {k held r : ℕ} {s after : List (List ℕ)} → n ≤ 6 → from ≤ k → Expanded bounds from k mask wants n s held →
+  pub expanded-more : {k held r : ℕ} {s after : List (List ℕ)} → n ≤ size-limit → from ≤ k → Expanded bounds from k mask wants n s held →
       Branched (row bounds k) mask wants n s held after r → Expanded bounds from (k + 1) mask wants n after r
   expanded-more {k} hn hk t b = record {
     size = b .grown .size;

@@ -9,6 +9,7 @@ use Rattle.words.specs.Words.{entry}
 use Rattle.tables.specs.Held.{meantV}
 use Rattle.trigger_sets.specs.Sets.{Has}
 use Rattle.buffer.specs.Buffer.{row}
+use Rattle.cue.specs.Sizes.{size-limit}
 
 -- how many bounds a set has room for
 abbrev pub places : ℕ
@@ -71,6 +72,6 @@ pub record Branched (w : List ℕ) (mask : ℕ) (wants : List ℕ) (n : ℕ) (be
 -- and so have all bounds of a set from one place to another
 pub record Expanded (bounds : List (List ℕ)) (from to mask : ℕ) (wants : List ℕ) (n : ℕ) (after : List (List ℕ)) (r : ℕ) : Type 0 where
   pub size : length after ≡ places
-  pub few : r ≤ 6 * (to - from)
+  pub few : r ≤ size-limit * (to - from)
   pub made : (k : ℕ) → k < r → (i : ℕ) × (i < to) × RaisedBy (row bounds i) mask wants n (row after k)
   pub new : (i j : ℕ) → from ≤ i → i < to → j < n → Has mask j → (v : List ℕ) × BoundRaised (row bounds i) wants j v × Covered after r v

@@ -4,6 +4,7 @@ ghost use Prim.Native.Nat.{_+_, _≤_, _<_};
 ghost use lib.ListN.{length};
 ghost use Rattle.tables.specs.Held.{Says};
 ghost use Rattle.bounds.specs.Bounds.{places, Under, Covered, Thinned, Joined, Branched, Expanded};
+ghost use Rattle.cue.specs.Sizes.{size-limit};
 use trigger_sets::has;
 
 // a lies below b in every component.
@@ -75,7 +76,7 @@ fn branch(
     wants: [u64; 6],
     n: usize,
 ) -> usize
-    requires { ⌜ (n ≤ 6) × (many + n ≤ places) × (length (now set) ≡ places) ⌝ }
+    requires { ⌜ (n ≤ size-limit) × (many + n ≤ places) × (length (now set) ≡ places) ⌝ }
     ensures { λ r. ⌜ Branched w mask wants n (now (set .entry)) many (now (set .exit)) r ⌝ }
 {
     let mut held = many;
@@ -101,7 +102,7 @@ pub fn expand(
     wants: [u64; 6],
     n: usize,
 ) -> usize
-    requires { ⌜ (n ≤ 6) × (from ≤ to) × (to ≤ from + 10) × (to ≤ places) × (length (now next) ≡ places) ⌝ }
+    requires { ⌜ (n ≤ size-limit) × (from ≤ to) × (to ≤ from + 10) × (to ≤ places) × (length (now next) ≡ places) ⌝ }
     ensures { λ r. ⌜ Expanded (now (set .entry)) from to mask wants n (now (next .exit)) r ⌝ }
 {
     let mut held: usize = 0;

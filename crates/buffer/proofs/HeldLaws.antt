@@ -26,6 +26,7 @@ use Rattle.buffer.specs.Buffer.{room, row, Before, Ordered, Placed, Fres
 use Rattle.buffer.specs.Space.{laid}
 use Rattle.buffer.proofs.SpaceLaws.{laid-more, list-words-more, list-words-single}
 use Rattle.buffer.proofs.ListLaws.{in-take, in-drop, sorted-at, put-new, put-there, map-take, map-drop}
+use Rattle.cue.specs.Sizes.{size-limit}
 
 module _ (n : ℕ) (buf : List (List ℕ)) where
   pub held-length : (len : ℕ) → len ≤ length buf → length (held n len buf) ≡ len
@@ -67,20 +68,20 @@ module _ (n : ℕ) (buf : List (List ℕ)) where
       size = list-words-length n (held n k buf) ∙ ap (λ m. line-size * m) (held-length k (omega arith))
 
 -- ---- the order of lines is that of their words
-before-line : {n : ℕ} {a b : List ℕ} → n ≤ 6 → Sized n a → Sized n b → Before a b → ltL n (line-of n a) (line-of n b)
+before-line : {n : ℕ} {a b : List ℕ} → n ≤ size-limit → Sized n a → Sized n b → Before a b → ltL n (line-of n a) (line-of n b)
 before-line h s t l = below-says true h s t l
 
-not-before-line : {n : ℕ} {a b : List ℕ} → n ≤ 6 → Sized n a → Sized n b → ¬ (Before a b) → ¬ (ltL n (line-of n a) (line-of n b))
+not-before-line : {n : ℕ} {a b : List ℕ} → n ≤ size-limit → Sized n a → Sized n b → ¬ (Before a b) → ¬ (ltL n (line-of n a) (line-of n b))
 not-before-line h s t l = below-says false h s t l
 
-line-before : {n : ℕ} {a b : List ℕ} → n ≤ 6 → Sized n a → Sized n b → ltL n (line-of n a) (line-of n b) → Before a b
+line-before : {n : ℕ} {a b : List ℕ} → n ≤ size-limit → Sized n a → Sized n b → ltL n (line-of n a) (line-of n b) → Before a b
 line-before {n} {a} {b} h s t l =
     elim (gt? (ltL 6) (strict 6) (line-of 6 a) (line-of 6 b)) [ yes q ↦ q | no q ↦ absurd (not-before-line h s t q l) ]
 
 pub stored-as : {n len : ℕ} {buf : List (List ℕ)} {L M : List (Line n)} → Stored n len buf L → L ≡ M → Stored n len buf M
 stored-as s e = record { few = s .few; size = s .size; sized = s .sized; lines = s .lines ∙ e }
 
-module _ {n len : ℕ} {buf : List (List ℕ)} {L : List (Line n)} (few : n ≤ 6) (s : Stored n len buf L) where
+module _ {n len : ℕ} {buf : List (List ℕ)} {L : List (Line n)} (few : n ≤ size-limit) (s : Stored n len buf L) where
   pub row-sized : (k : ℕ) → k < len → Sized n (row buf k)
   row-sized k h = s .sized (row buf k) (held-row n buf len k (omega (arith, s .few, s .size)) h)
 

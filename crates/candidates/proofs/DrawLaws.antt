@@ -10,8 +10,9 @@ use Rattle.maxplus.proofs.SupLaws.{sup-ext}
 use Rattle.words.specs.Words.{entry, Close}
 use Rattle.words.proofs.Laws.{close-more, close-larger, close-plus, close-minus}
 use Rattle.tables.specs.Held.{meantV, HoldsV, CloselyV}
-use Rattle.candidates.specs.Lines.{Written, Drawn}
-use Rattle.candidates.proofs.WordLaws.{written-same, close-largest}
+use Rattle.tables.proofs.LargestLaws.{close-largest}
+use Rattle.candidates.specs.Lines.{WordsOf, Drawn}
+use Rattle.candidates.proofs.WordLaws.{written-same}
 
 -- column t of M*, joined with M* w − r(t)
 pub ray-is : {c d e : ℕ} (a p y s r : ℕ) → c ≤ d + e → entry s ≡ entry p ⊗ entry y → entry r ≡ entry a ⊕ entry s →
@@ -20,7 +21,7 @@ ray-is a p y s r h e f k l m = (rw (← e) f, close-larger a s r f (close-more h
 
 -- and shifted so that the greatest component is 0
 pub candidate-drawn : {n c : ℕ} {x : Vec} (ray at : List ℕ) (top : ℕ) → HoldsV n x ray → entry top ≡ sup n (meantV ray) → CloselyV n c ray →
-    Written n (λ j. meantV ray j ⊗ inv (entry top)) at → Drawn n (c + c) (normal n x) (record { count = n; at = at })
+    WordsOf n (λ j. meantV ray j ⊗ inv (entry top)) at → Drawn n (c + c) (normal n x) (record { count = n; at = at })
 unfolding normal meantV
 candidate-drawn {n} {x = x} ray at top h e k w = record {
   count = refl;

@@ -2,4 +2,4 @@
 pub mod WordLaws
 pub mod OrderLaws
 pub mod DrawLaws
-pub mod PreparedLaws
+pub mod DrawableLaws

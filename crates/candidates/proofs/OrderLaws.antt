@@ -14,6 +14,7 @@ use Rattle.words.specs.Words.{bias, entry}
 use Rattle.tables.specs.Held.{meantV, Says}
 use Rattle.candidates.specs.Lines.{line-of, Sized}
 use Rattle.candidates.proofs.WordLaws.{line-same}
+use Rattle.cue.specs.Sizes.{size-limit}
 
 word-less : (a b : ℕ) → a < b → ltE (entry a) (entry b)
 unfolding entry
@@ -54,7 +55,7 @@ ltL-cut (suc m) (suc n) x y e h =
       λ l. elim l [ inl q ↦ inl q | inr q ↦ inr (q .0, ih .1 (q .1)) ],
     )
 
-pub below-says : {n : ℕ} {a b : List ℕ} (r : Bool) → n ≤ 6 → Sized n a → Sized n b → Says (ltL 6 (line-of 6 a) (line-of 6 b)) r →
+pub below-says : {n : ℕ} {a b : List ℕ} (r : Bool) → n ≤ size-limit → Sized n a → Sized n b → Says (ltL 6 (line-of 6 a) (line-of 6 b)) r →
     Says (ltL n (line-of n a) (line-of n b)) r
 unfolding line-of meantV
 below-says {n} {a} {b} r h s t = go r

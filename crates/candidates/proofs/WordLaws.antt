@@ -1,4 +1,4 @@
--- Laws of six words: written place by place, where they are close, and what their line is.
+-- Laws of six words: written place by place, compared as entries, and what their line is.
 use mathlib.Core.Path.{_≡_, refl, ap, sym, _∙_}
 use mathlib.Core.List.{List}
 use Prim.Native.Nat.{ℕ, _+_, _≤_, _<_}
@@ -6,17 +6,16 @@ use native.Mathlib.Omega.{arith}
 use native.Mathlib.Decide.{ℕ-discrete}
 use lib.ListN.{getD, set, replicate, length-set}
 use lib.Seq.{getD-set-same, getD-set-other}
-use Rattle.maxplus.specs.Entry.{E, _≼_, _⊗_}
-use Rattle.maxplus.specs.Tables.{sup, Vec, mv}
+use Rattle.maxplus.specs.Entry.{E, _≼_}
+use Rattle.maxplus.specs.Tables.{Vec}
 use Rattle.maxplus.specs.Line.{at, line}
-use Rattle.maxplus.proofs.EntryLaws.{_▸_, ≼-anti, ≼-of, ≼-back}
-use Rattle.maxplus.proofs.SupLaws.{sup-ub, sup-at}
+use Rattle.maxplus.proofs.EntryLaws.{_▸_, ≼-of, ≼-back}
 use Rattle.maxplus.proofs.LineLaws.{line-ext, at-line}
-use Rattle.words.specs.Words.{entry, Close}
-use Rattle.words.proofs.Laws.{entry-inj, entry-mono, entry-reflects, close-more, close-of, of-close, close-plus}
-use Rattle.tables.specs.Held.{cell, meant, meantV, Closely, CloselyV}
+use Rattle.words.specs.Words.{entry}
+use Rattle.words.proofs.Laws.{entry-inj, entry-mono, entry-reflects}
+use Rattle.tables.specs.Held.{meantV}
 use Rattle.tables.proofs.Loops.{blank-word}
-use Rattle.candidates.specs.Lines.{line-of, Sized, Written}
+use Rattle.candidates.specs.Lines.{line-of, Sized, WordsOf}
 
 -- ---- written place by place
 abbrev pub blank : List ℕ
@@ -31,10 +30,10 @@ sized-set w i v h s = record {
   past = λ j k. getD-set-other w i j v 0 (λ e. omega arith) ∙ s .past j k;
 }
 
-pub written-none : (x : Vec) → Written 0 x blank
+pub written-none : (x : Vec) → WordsOf 0 x blank
 written-none x = record { sized = sized-none 0; at = λ j h. let e : ⊥ = omega arith in absurd e }
 
-pub written-more : (x : Vec) (i v : ℕ) (w : List ℕ) → i < 6 → Written i x w → entry v ≡ x i → Written (i + 1) x (set w i v)
+pub written-more : (x : Vec) (i v : ℕ) (w : List ℕ) → i < 6 → WordsOf i x w → entry v ≡ x i → WordsOf (i + 1) x (set w i v)
 unfolding meantV
 written-more x i v w h r e = record {
   sized = sized-set w i v (omega arith) (record { size = r .sized .size; past = λ j k. r .sized .past j (omega arith) });
@@ -44,10 +43,10 @@ written-more x i v w h r e = record {
   ];
 }
 
-pub written-same : {n : ℕ} {x y : Vec} {w : List ℕ} → ((j : ℕ) → j < n → x j ≡ y j) → Written n x w → Written n y w
+pub written-same : {n : ℕ} {x y : Vec} {w : List ℕ} → ((j : ℕ) → j < n → x j ≡ y j) → WordsOf n x w → WordsOf n y w
 written-same h r = record { sized = r .sized; at = λ j k. r .at j k ∙ h j k }
 
-pub written-all : {x : Vec} {i n : ℕ} {w : List ℕ} → i ≤ n → n ≤ i → Written i x w → Written n x w
+pub written-all : {x : Vec} {i n : ℕ} {w : List ℕ} → i ≤ n → n ≤ i → WordsOf i x w → WordsOf n x w
 written-all {x} {i} {n} {w} h k r = let e : i ≡ n = omega arith in rw e at r
 
 -- ---- words and entries that are compared: s is the word of e
@@ -64,30 +63,6 @@ module _ {e : E} {s v : ℕ} (is : entry s ≡ e) where
   pub beyond-word : v < s → ¬ (e ≼ entry v)
   beyond-word h k = let l = entry-reflects s v (≼-of is ▸ k) in omega arith
 
--- ---- close words
-pub closely-moreV : {n c d : ℕ} {w : List ℕ} → c ≤ d → CloselyV n c w → CloselyV n d w
-closely-moreV h k = record { at = λ j hj. close-more h (k .at j hj) }
-
--- the rows down to row i
-pub closely-part : {m n c d : ℕ} {t : List (List ℕ)} (i : ℕ) → i < m → c ≤ d → Closely m n c t → Closely (i + 1) n d t
-closely-part i h l k = record { at = λ a b p q. close-more l (k .at a b (omega arith) q) }
-
--- a largest is one of its parts
-pub close-largest : {n c : ℕ} {x : List ℕ} (r : ℕ) → CloselyV n c x → entry r ≡ sup n (meantV x) → Close c r
-unfolding meantV
-close-largest {n} {c} {x} r h e = close-of c r (λ z f.
-    let (j, hj, l) = sup-at n (meantV x) (≼-back (sym e ∙ f)) in
-    of-close c (getD x j 0) (h .at j hj) z (≼-anti (sup-ub n (meantV x) j hj ▸ ≼-of (sym e ∙ f)) l))
-
--- and a largest sum is one of the sums
-pub close-dot : {m n c d : ℕ} {t : List (List ℕ)} {x : List ℕ} (i r : ℕ) → i < m → Closely m n c t → CloselyV n d x →
-    entry r ≡ mv n (meant t) (meantV x) i → Close (c + d) r
-unfolding mv meant meantV
-close-dot {n = n} {c} {d} {t} {x} i r h k l e = close-of (c + d) r (λ z f.
-    let (j, hj, g) = sup-at n (λ j. meant t i j ⊗ meantV x j) (≼-back (sym e ∙ f)) in
-    let s = f ∙ ≼-anti g (sup-ub n (λ j. meant t i j ⊗ meantV x j) j hj ▸ ≼-of (sym e ∙ f)) in
-    of-close (c + d) r (close-plus (cell t i j) (getD x j 0) r s (k .at i j h hj) (l .at j hj)) z f)
-
 -- ---- their line
 pub line-at : (n : ℕ) (w : List ℕ) (j : ℕ) → j < n → at n (line-of n w) j ≡ meantV w j
 unfolding line-of
@@ -96,6 +71,6 @@ line-at n w j h = at-line n (meantV w) j h
 pub line-same : {n : ℕ} {x y : Vec} → ((j : ℕ) → j < n → x j ≡ y j) → line n x ≡ line n y
 line-same {n} {x} {y} h = line-ext n (line n x) (line n y) (λ j k. at-line n x j k ∙ h j k ∙ sym (at-line n y j k))
 
-pub written-line : {n : ℕ} {x : Vec} {w : List ℕ} → Written n x w → line-of n w ≡ line n x
+pub written-line : {n : ℕ} {x : Vec} {w : List ℕ} → WordsOf n x w → line-of n w ≡ line n x
 unfolding line-of
 written-line r = line-same (r .at)

@@ -1,4 +1,4 @@
 -- What the words of lines and of their tables say, and step 6 and the test for extreme over entries.
 pub mod Lines
-pub mod Steps
-pub mod Prepared
+pub mod Rays
+pub mod Drawable

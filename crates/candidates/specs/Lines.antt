@@ -7,7 +7,7 @@ use Rattle.maxplus.specs.Tables.{Vec}
 use Rattle.maxplus.specs.Line as maxplus
 use Rattle.maxplus.specs.Line.{line}
 use Rattle.tables.specs.Held.{meantV, CloselyV}
-use Rattle.candidates.specs.declared.Line.{Line}
+use Rattle.candidates.specs.declared.LineWords.{LineWords}
 
 -- the line that the first n words stand for
 unfoldable pub line-of : (n : ℕ) → List ℕ → maxplus.Line n
@@ -19,12 +19,12 @@ pub record Sized (n : ℕ) (w : List ℕ) : Type 0 where
   pub past : (j : ℕ) → n ≤ j → getD w j 0 ≡ 0
 
 -- and the first n are those of x
-pub record Written (n : ℕ) (x : Vec) (w : List ℕ) : Type 0 where
+pub record WordsOf (n : ℕ) (x : Vec) (w : List ℕ) : Type 0 where
   pub sized : Sized n w
   pub at : (j : ℕ) → j < n → meantV w j ≡ x j
 
 -- a line of n triggers with the components of x, no number further than c from 0
-pub record Drawn (n c : ℕ) (x : Vec) (r : Line) : Type 0 where
+pub record Drawn (n c : ℕ) (x : Vec) (r : LineWords) : Type 0 where
   pub count : r .count ≡ n
-  pub written : Written n x (r .at)
+  pub written : WordsOf n x (r .at)
   pub close : CloselyV n c (r .at)

@@ -1,11 +1,10 @@
 // Step 6's candidates of a selection, and the order of lines.
 // A loop over n triggers, n at most 6, often names the constant end too, as in `j < n && j < 6`: the compiler then unrolls it.
 pub mod drawing;
-pub mod entries;
 pub mod order;
 
 // A line, or w: its count of triggers and its six components as words of entries, the unused ones absent.
-pub struct Line {
+pub struct LineWords {
     pub count: usize,
     pub at: [u64; 6],
 }

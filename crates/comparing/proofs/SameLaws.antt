@@ -119,14 +119,16 @@ module _ (s : List ℕ) (none : List ℤ) (few : length none / line-size ≡ 0) 
   unfolding planning
   at-none = e ∙ ap (λ k. plan-answer (plan-of k (ordered s))) few
 
-  at-space : (k : ℕ) → Found (ordered s) p at-none (words / line-size) k → Refuses (record { number = k; count = p .count }) (plan-answer (planning s space))
+  at-space : (k : ℕ) → Found (ordered s) p at-none (words / line-size) k →
+      Refuses (record { number = k; count = p .count }) (plan-answer (planning s space))
   unfolding planning
   at-space k = subst (λ w. Refuses (record { number = k; count = p .count }) (plan-answer (plan-of (w / line-size) (ordered s)))) (sym same)
 
   pub refused-enough : 0 < p .count → p .count ≤ words / line-size → Refuses (record { number = 0; count = p .count }) (plan-answer (planning s space))
   refused-enough h f = at-space 0 (found-enough (ordered s) p at-none (words / line-size) h f)
 
-  pub refused-short : (0 < p .count → words / line-size < p .count) → Refuses (record { number = p .refusal; count = p .count }) (plan-answer (planning s space))
+  pub refused-short : (0 < p .count → words / line-size < p .count) →
+      Refuses (record { number = p .refusal; count = p .count }) (plan-answer (planning s space))
   refused-short f = at-space (p .refusal) (found-short (ordered s) p at-none (words / line-size) f)
 
 -- ---- two sheets of which each is planned
@@ -142,11 +144,13 @@ unfolding planning
 front-fits s space = go (ordered s)
   where
     whole : (n : ℕ) (D : ℤ) (k l : ℕ) (L : List (Line n)) (b : Bool) → (b ≡ true → length L ≤ length space / line-size) →
-        Planned (cond b (planned n D k l L) (full (length L))) → line-size * plan-answer (cond b (planned n D k l L) (full (length L))) .count ≤ length space
+        Planned (cond b (planned n D k l L) (full (length L))) →
+        line-size * plan-answer (cond b (planned n D k l L) (full (length L))) .count ≤ length space
     whole n D k l L true f h = let q = f refl in omega arith
     whole n D k l L false f h = absurd h
 
-    go : (g : Got Sheet) → Planned (plan-of (length space / line-size) g) → line-size * plan-answer (plan-of (length space / line-size) g) .count ≤ length space
+    go : (g : Got Sheet) → Planned (plan-of (length space / line-size) g) →
+        line-size * plan-answer (plan-of (length space / line-size) g) .count ≤ length space
     go (sheet.refused k) h = absurd h
     go (got t r) h = whole _ _ _ _ (lines (t .triggers) (cue-of t)) (leb (length (lines (t .triggers) (cue-of t))) (length space / line-size))
         (leb-true (length (lines (t .triggers) (cue-of t))) (length space / line-size)) h
@@ -239,7 +243,8 @@ none-refused s space = go (ordered s) refl
     whole n D k l L true h = tt
     whole n D k l L false h = let x : ⊥ = omega arith in absurd x
 
-    go : (g : Got Sheet) → ordered s ≡ g → plan-answer (plan-of (length space / line-size) g) .refusal ≡ 0 → Planned (plan-of (length space / line-size) g)
+    go : (g : Got Sheet) → ordered s ≡ g → plan-answer (plan-of (length space / line-size) g) .refusal ≡ 0 →
+        Planned (plan-of (length space / line-size) g)
     go (sheet.refused k) e h = let x : ⊥ = omega (arith, orderly-numbered s k e) in absurd x
     go (got t r) e h = whole _ _ _ _ (lines (t .triggers) (cue-of t)) (leb (length (lines (t .triggers) (cue-of t))) (length space / line-size)) h
 

@@ -20,7 +20,7 @@ use Rattle.maxplus.proofs.LineLaws.{at-line}
 use Rattle.cue.specs.Cue.{Cue, timing, overdue, shortfall}
 use Rattle.cue.specs.Method.{Selection, through, pullE, pull, mark, leastE, least, ask, selections, need, seed, ray, candidate}
 use Rattle.cue.specs.Method.{candidates, lines}
-use Rattle.cue.specs.Sizes.{power-size, star-size, through-size, mark-down, mark-up, least-down, least-up, need-down, need-up}
+use Rattle.cue.specs.Sizes.{size-limit, power-size, star-size, through-size, mark-down, mark-up, least-down, least-up, need-down, need-up}
 use Rattle.cue.specs.Sizes.{ray-down, ray-up, line-down}
 use Rattle.cue.proofs.Deviation.{overdue-at, pull-is, due-pull, mv-through, mark-keeps}
 use Rattle.cue.proofs.Candidates.{candidate-of, candidates-normal, selection-trigger, selection-panel, selection-serving}
@@ -56,21 +56,21 @@ above-more h b = record { above = λ z e. let t = b .above z e in omega arith }
 pub below-more : {k l : ℕ} {a : E} → k ≤ l → Below k a → Below l a
 below-more h b = record { below = λ z e. let t = b .below z e in omega arith }
 
-above-⊗ : {k l : ℕ} (a b : E) → Above k a → Above l b → Above (k + l) (a ⊗ b)
+pub above-⊗ : {k l : ℕ} (a b : E) → Above k a → Above l b → Above (k + l) (a ⊗ b)
 above-⊗ {k} {l} absent b h i = rw ⊗-nothing (above-absent _)
 above-⊗ {k} {l} (num a) absent h i = rw ⊗-absent (above-absent _)
 above-⊗ {k} {l} (num a) (num b) h i = rw num-⊗ (above-num (a +z b) (omega (arith, h .above a refl, i .above b refl, up-add a b)))
 
-below-⊗ : {k l : ℕ} (a b : E) → Below k a → Below l b → Below (k + l) (a ⊗ b)
+pub below-⊗ : {k l : ℕ} (a b : E) → Below k a → Below l b → Below (k + l) (a ⊗ b)
 below-⊗ {k} {l} absent b h i = rw ⊗-nothing (below-absent _)
 below-⊗ {k} {l} (num a) absent h i = rw ⊗-absent (below-absent _)
 below-⊗ {k} {l} (num a) (num b) h i = rw num-⊗ (below-num (a +z b) (omega (arith, h .below a refl, i .below b refl, up-add a b)))
 
-above-inv : {k : ℕ} (a : E) → Below k a → Above k (inv a)
+pub above-inv : {k : ℕ} (a : E) → Below k a → Above k (inv a)
 above-inv absent h = unfold inv in above-absent _
 above-inv (num a) h = rw inv-num (above-num (neg a) (omega (arith, h .below a refl, up-neg a)))
 
-below-inv : {k : ℕ} (a : E) → Above k a → Below k (inv a)
+pub below-inv : {k : ℕ} (a : E) → Above k a → Below k (inv a)
 below-inv absent h = unfold inv in below-absent _
 below-inv (num a) h = rw inv-num (below-num (neg a) (omega (arith, h .above a refl, up-neg a)))
 
@@ -96,10 +96,10 @@ above-≼ absent h b = absurd (h .un)
 above-≼ {k} {z} (num a) h b = let l = h .un in above-num a (omega (arith, l, b .above z refl))
 
 -- a largest is one of its parts
-above-sup : (n : ℕ) {k : ℕ} (f : ℕ → E) → ((j : ℕ) → j < n → Above k (f j)) → Above k (sup n f)
+pub above-sup : (n : ℕ) {k : ℕ} (f : ℕ → E) → ((j : ℕ) → j < n → Above k (f j)) → Above k (sup n f)
 above-sup n f h = record { above = λ z e. let (j, hj, r) = sup-at n f (≼-back e) in h j hj .above z (≼-anti (sup-ub n f j hj ▸ ≼-of e) r) }
 
-below-sup : (n : ℕ) {k : ℕ} (f : ℕ → E) → ((j : ℕ) → j < n → Below k (f j)) → Below k (sup n f)
+pub below-sup : (n : ℕ) {k : ℕ} (f : ℕ → E) → ((j : ℕ) → j < n → Below k (f j)) → Below k (sup n f)
 below-sup n f h = record { below = λ z e. let (j, hj, r) = sup-at n f (≼-back e) in h j hj .below z (≼-anti (sup-ub n f j hj ▸ ≼-of e) r) }
 
 above-supL : {A : Type 0} (l : List A) {k : ℕ} (f : A → E) → ((a : A) → In a l → Above k (f a)) → Above k (supL l f)
@@ -273,7 +273,7 @@ module _ (n m L B : ℕ) (P : Cue) (l : Limited n L B P) (few : n ≤ suc m) whe
 -- ---- at most six triggers
 -- each finite result of the method: K k l a says of a that −k to l holds it
 pub record Results (L B : ℕ) (K : ℕ → ℕ → E → Type 0) (n : ℕ) (P : Cue) : Type 0 where
-  pub powers : (k i j : ℕ) → k ≤ 6 → i < n → j < n → K (power-size L B k) (power-size L B k) (power n (P .order) k i j)
+  pub powers : (k i j : ℕ) → k ≤ size-limit → i < n → j < n → K (power-size L B k) (power-size L B k) (power n (P .order) k i j)
   pub stars : (i j : ℕ) → i < n → j < n → K (star-size L B) (star-size L B) (star n (P .order) i j)
   pub throughs : (i j : ℕ) → i < P .panels → j < n → K (through-size L B) (through-size L B) (through n P i j)
   pub marks : (j : ℕ) → j < n → K (mark-down L B) (mark-up L B) (num (mark n P j))
@@ -283,7 +283,7 @@ pub record Results (L B : ℕ) (K : ℕ → ℕ → E → Type 0) (n : ℕ) (P :
       K (ray-down L B) (ray-up L B) (ray n P (least n P) s t i)
   pub components : (c : Line n) → In c (lines n P) → (i : ℕ) → i < n → K (line-down L B) 0 (at n c i)
 
-pub results-six : (n L B : ℕ) (P : Cue) → NoGain n (P .order) → Limited n L B P → n ≤ 6 → Results L B Within n P
+pub results-six : (n L B : ℕ) (P : Cue) → NoGain n (P .order) → Limited n L B P → n ≤ size-limit → Results L B Within n P
 results-six n L B P np l six =
     record {
       powers = λ k i j hk hi hj. power-within n 5 L B P l six k i j hi hj;
@@ -309,12 +309,12 @@ signed32 {k} {l} {a} hk hl w = record { fits = λ z e. go z (w .low .above z e) 
     go (pos z) h i = (omega arith, omega arith)
     go (negsuc z) h i = (omega arith, omega arith)
 
-pub results-32 : (n L B : ℕ) (P : Cue) → NoGain n (P .order) → Limited n L B P → n ≤ 6 → line-down L B < 2 ^ 31 →
+pub results-32 : (n L B : ℕ) (P : Cue) → NoGain n (P .order) → Limited n L B P → n ≤ size-limit → line-down L B < 2 ^ 31 →
     Results L B (λ k l. Signed32) n P
 results-32 n L B P np l six fit =
     let r = results-six n L B P np l six in
     record {
-      powers = λ k i j hk hi hj. let p : k * B ≤ 6 * B = times-le k 6 B hk in signed32 (omega arith) (omega arith) (r .powers k i j hk hi hj);
+      powers = λ k i j hk hi hj. let p : k * B ≤ size-limit * B = times-le k 6 B hk in signed32 (omega arith) (omega arith) (r .powers k i j hk hi hj);
       stars = λ i j hi hj. signed32 (omega arith) (omega arith) (r .stars i j hi hj);
       throughs = λ i j hi hj. signed32 (omega arith) (omega arith) (r .throughs i j hi hj);
       marks = λ j hj. signed32 (omega arith) (omega arith) (r .marks j hj);

@@ -16,7 +16,7 @@ use Rattle.maxplus.specs.Combination.{Weighed, Combination}
 use Rattle.maxplus.proofs.LineLaws.{strict}
 use Rattle.cue.specs.Minimal.{others}
 use Rattle.cue.specs.Cue.{Cue, timing, Keeps, deviation, Tightest, Readable}
-use Rattle.cue.specs.Sizes.{line-down}
+use Rattle.cue.specs.Sizes.{size-limit, line-down}
 use Rattle.cue.specs.Method.{Entries, Selection, least, floor-panels, walk, steps, candidates, lines}
 use Rattle.cue.proofs.Order.{keeps-iff-unchanged}
 use Rattle.cue.proofs.Deviation.{at-least, least-reached, tightest-least, order-possible}
@@ -93,10 +93,10 @@ module _ (n : ℕ) (P : Cue) (R : Readable n P) (np : NoGain n (P .order)) where
 
   -- ---- "All finite results fit signed 32 bits; this is proved." Entries within ±L, those of the order table within ±B, and six triggers at
   -- most: Results lists them, each with its size
-  pub sizes : (L B : ℕ) → Limited n L B P → n ≤ 6 → Results L B Within n P
+  pub sizes : (L B : ℕ) → Limited n L B P → n ≤ size-limit → Results L B Within n P
   sizes L B = results-six n L B P np
 
-  pub sizes-32 : (L B : ℕ) → Limited n L B P → n ≤ 6 → line-down L B < 2 ^ 31 → Results L B (λ k l. Signed32) n P
+  pub sizes-32 : (L B : ℕ) → Limited n L B P → n ≤ size-limit → line-down L B < 2 ^ 31 → Results L B (λ k l. Signed32) n P
   sizes-32 L B = results-32 n L B P np
 
 -- ---- demand 3: "every timing is tightest on both sheets or on neither" exactly when the lists are the same
@@ -105,6 +105,7 @@ pub demand-3 : (n : ℕ) (P Q : Cue) → Readable n P → Readable n Q → NoGai
 demand-3 = lists-equal
 
 -- "both lines carry the same count of triggers and the same six components, absent matching only absent": for two counts of triggers
-pub demand-3-written : (n k : ℕ) (P Q : Cue) → n ≤ 6 → k ≤ 6 → Readable n P → Readable k Q → NoGain n (P .order) → NoGain k (Q .order) →
+pub demand-3-written : (n k : ℕ) (P Q : Cue) → n ≤ size-limit → k ≤ size-limit → Readable n P → Readable k Q → NoGain n (P .order) →
+    NoGain k (Q .order) →
     (written n (lines n P) ≡ written k (lines k Q)) ↔ ((l : ℕ) (X : ℕ → ℤ) → TightestOf n P l X ↔ TightestOf k Q l X)
 demand-3-written = written-lists-equal

@@ -14,6 +14,7 @@ use Rattle.cue.specs.Minimal.{minimal, needed?}
 use Rattle.cue.specs.Cue.{Cue}
 use Rattle.cue.specs.Method.{least, selections, candidate, candidates, lines, floor-panels}
 use Rattle.cue.proofs.Walk.{selections-bound, floor-panels-few}
+use Rattle.cue.specs.Sizes.{size-limit}
 
 each-few : {A : Type 0} (n : ℕ) (f : ℕ → List A) → ((k : ℕ) → length (f k) ≤ 46656) → length (each n f) ≤ n * 46656
 unfolding each
@@ -23,12 +24,12 @@ each-few (suc n) f h = omega (arith, length-append (each n f) (f n), each-few n 
 abbrev pub most : ℕ
 most = 279936
 
-module _ (n : ℕ) (P : Cue) (hn : n ≤ 6) (hm : P .panels ≤ 6) where
+module _ (n : ℕ) (P : Cue) (hn : n ≤ size-limit) (hm : P .panels ≤ size-limit) where
   selections-few : length (selections n P (least n P)) ≤ 46656
   selections-few =
       le-trans (selections-bound n P (least n P))
       (le-trans (pow-le-pow-left hn (length (floor-panels n P)))
-      (let p : 6 ^ length (floor-panels n P) ≤ 6 ^ 6 = pow-le-pow-right (lit< tt) (le-trans (floor-panels-few n P) hm) in omega arith))
+      (let p : 6 ^ length (floor-panels n P) ≤ size-limit ^ 6 = pow-le-pow-right (lit< tt) (le-trans (floor-panels-few n P) hm) in omega arith))
 
   pub lines-few : length (lines n P) ≤ most
   unfolding lines minimal candidates

@@ -19,6 +19,7 @@ use Rattle.cue.specs.Method.{mark, least, lines}
 use Rattle.cue.proofs.Cone.{Cone, tightest-cone, mark-tightest, mark-cone, timings-determine}
 use Rattle.cue.proofs.Extreme.{lines-increasing, lines-extreme, some-line, extreme-same}
 use Rattle.cue.proofs.Weights.{tightest-weighed}
+use Rattle.cue.specs.Sizes.{size-limit}
 
 module _ (n : ℕ) (P Q : Cue) (R : Readable n P) (S : Readable n Q) (np : NoGain n (P .order)) (nq : NoGain n (Q .order)) where
   -- the same timings, so the same cone, so the same extreme lines
@@ -59,12 +60,12 @@ written n L = mapL (write n) L
 abbrev pub TightestOf : ℕ → Cue → ℕ → (ℕ → ℤ) → Type 0
 TightestOf n P k X = (k ≡ n) × Tightest n P X
 
-write-one : (n : ℕ) → n ≤ 6 → (c d : Line n) → write n c ≡ write n d → c ≡ d
+write-one : (n : ℕ) → n ≤ size-limit → (c d : Line n) → write n c ≡ write n d → c ≡ d
 unfolding write
 write-one n h c d e = line-ext n c d
     (λ i hi. sym (at-line 6 (at n c) i (omega arith)) ∙ ap (λ w. at 6 (w .1) i) e ∙ at-line 6 (at n d) i (omega arith))
 
-written-one : (n : ℕ) → n ≤ 6 → (L M : List (Line n)) → written n L ≡ written n M → L ≡ M
+written-one : (n : ℕ) → n ≤ size-limit → (L M : List (Line n)) → written n L ≡ written n M → L ≡ M
 unfolding written mapL
 written-one n h [] [] e = refl
 written-one n h [] (d ∷ M) e = absurd (let z : _≡_ {A = ℕ} 0 1 = cc in let f : ⊥ = omega arith in f)
@@ -87,7 +88,7 @@ abbrev Equal-when-tightest-agree : ℕ → Cue → ℕ → Cue → Type 0
 Equal-when-tightest-agree n P k Q =
     (written n (lines n P) ≡ written k (lines k Q)) ↔ ((l : ℕ) (X : ℕ → ℤ) → TightestOf n P l X ↔ TightestOf k Q l X)
 
-module _ (n : ℕ) (P : Cue) (hn : n ≤ 6) (R : Readable n P) (np : NoGain n (P .order)) where
+module _ (n : ℕ) (P : Cue) (hn : n ≤ size-limit) (R : Readable n P) (np : NoGain n (P .order)) where
   same-count : (Q : Cue) → Readable n Q → NoGain n (Q .order) → Equal-when-tightest-agree n P n Q
   same-count Q S nq = (
     λ e l X. let t = lists-equal n P Q R S np nq .0 (written-one n hn (lines n P) (lines n Q) e) X in
@@ -103,7 +104,7 @@ module _ (n : ℕ) (P : Cue) (hn : n ≤ 6) (R : Readable n P) (np : NoGain n (P
       from-lists e = let (c, hc) = some-line n P R np in
           count-in n k c (lines k Q) (subst (λ L. In (write n c) L) e (in-written n (lines n P) c hc))
 
-pub written-lists-equal : (n k : ℕ) (P Q : Cue) → n ≤ 6 → k ≤ 6 → Readable n P → Readable k Q → NoGain n (P .order) →
+pub written-lists-equal : (n k : ℕ) (P Q : Cue) → n ≤ size-limit → k ≤ size-limit → Readable n P → Readable k Q → NoGain n (P .order) →
     NoGain k (Q .order) →
     (written n (lines n P) ≡ written k (lines k Q)) ↔ ((l : ℕ) (X : ℕ → ℤ) → TightestOf n P l X ↔ TightestOf k Q l X)
 written-lists-equal n k P Q hn hk R S np nq = go (ℕ-discrete n k)

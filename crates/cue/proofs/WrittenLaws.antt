@@ -15,6 +15,7 @@ use Rattle.maxplus.proofs.EachLaws.{length-each, each-at}
 use Rattle.maxplus.proofs.LineLaws.{line-ext}
 use Rattle.cue.specs.Written.{line-size, signed, line-words, list-words}
 use Rattle.cue.proofs.Bounds.{Signed32}
+use Rattle.cue.specs.Sizes.{size-limit}
 
 -- absent's word is no number that fits
 no-absent : (z : ℤ) → Signed32 (num z) → ¬ (signed absent ≡ z)
@@ -44,7 +45,7 @@ line-words-at : (n : ℕ) (c : Line n) (i : ℕ) → i < 6 → getD (line-words 
 unfolding line-words
 line-words-at n c i h = each-at 6 i (λ i. signed (at n c i)) (pos 0) h
 
-line-words-one : (n : ℕ) → n ≤ 6 → (c d : Line n) → ((i : ℕ) → i < n → Signed32 (at n c i)) →
+line-words-one : (n : ℕ) → n ≤ size-limit → (c d : Line n) → ((i : ℕ) → i < n → Signed32 (at n c i)) →
     ((i : ℕ) → i < n → Signed32 (at n d i)) → line-words n c ≡ line-words n d → c ≡ d
 line-words-one n six c d f g e = line-ext n c d (λ i h. signed-one _ _ (f i h) (g i h)
     (sym (line-words-at n c i (omega arith)) ∙ ap (λ w. getD w (suc i) (pos 0)) e ∙ line-words-at n d i (omega arith)))
@@ -57,7 +58,7 @@ other-lines : (n : ℕ) (c : Line n) (L : List (Line n)) → drop line-size (lis
 unfolding list-words
 other-lines n c L = drop-at (line-words n c) (list-words n L) line-size (line-words-length n c)
 
-pub list-words-one : (n : ℕ) → n ≤ 6 → (L M : List (Line n)) → Fitting n L → Fitting n M → list-words n L ≡ list-words n M → L ≡ M
+pub list-words-one : (n : ℕ) → n ≤ size-limit → (L M : List (Line n)) → Fitting n L → Fitting n M → list-words n L ≡ list-words n M → L ≡ M
 list-words-one n six [] [] f g e = refl
 list-words-one n six [] (d ∷ M) f g e = absurd (shorter (list-words-length n []) (list-words-length n (d ∷ M)) (ap length e))
   where

@@ -1,6 +1,10 @@
 -- How large results are, each size by its name: L limits lags, floors and due marks, B the entries of the order table. At most six triggers.
 use Prim.Native.Nat.{ℕ, _+_, _*_}
 
+-- "There are m panels and n triggers, each 1 to 6."
+abbrev pub size-limit : ℕ
+size-limit = 6
+
 module _ (L B : ℕ) where
   -- a power of the order table; M*; d
   abbrev pub power-size : ℕ → ℕ
@@ -40,12 +44,9 @@ module _ (L B : ℕ) where
   abbrev pub line-down : ℕ
   line-down = 4 * star-size + 8 * L
 
-  -- words on the way: p(i) − Δ; the largest d(i,j) + r(j); M* w; a candidate drawn from it, before and after the shift; its lateness
+  -- words on the way: p(i) − Δ; M* w; a candidate drawn from it, before and after the shift; its lateness
   abbrev pub ask-size : ℕ
   ask-size = least-up + L
-
-  abbrev pub landing-size : ℕ
-  landing-size = through-size + mark-down
 
   abbrev pub starred-size : ℕ
   starred-size = star-size + need-down

@@ -13,8 +13,9 @@ use Rattle.maxplus.proofs.EntryLaws.{_▸_, ≼-anti, ≼-of, ≼-back, num-⊗
 use Rattle.maxplus.proofs.SupLaws.{sup-ub, sup-lub, sup-at}
 use Rattle.words.specs.Words.{entry}
 use Rattle.trigger_sets.specs.Sets.{SetOf}
-use Rattle.candidates.specs.Steps.{Reached, Tight, Reaching, Inside, Closed}
+use Rattle.candidates.specs.Rays.{ReachesTop, Tight, Reaching, Inside, Closed}
 use Rattle.trigger_sets.proofs.SetLaws.{set-same, set-self, set-none, set-or, set-some, set-empty}
+use Rattle.cue.specs.Sizes.{size-limit}
 
 -- ---- tests
 pub flag-present : (e : E) (r : Bool) → r ≡ present? e → r ≡ true → Present e
@@ -25,10 +26,10 @@ flag-absent e r p q h = absurd (rw (← p, q) at (present?-of e h))
 
 -- ---- places that reach a, and none beyond
 module _ (n : ℕ) (t : Vec) (a : E) where
-  pub reached-all : {m : ℕ} → SetOf (λ j. (j < n) × (t j ≡ a)) m → ((k : ℕ) → k < n → t k ≼ a) → SetOf (λ j. Reached n t a j) m
+  pub reached-all : {m : ℕ} → SetOf (λ j. (j < n) × (t j ≡ a)) m → ((k : ℕ) → k < n → t k ≼ a) → SetOf (λ j. ReachesTop n t a j) m
   reached-all p b = set-same (λ j h. (λ u. (u .0, u .1, b), λ u. (u .0, u .1))) p
 
-  pub reached-none : (k : ℕ) → k < n → ¬ (t k ≼ a) → SetOf (λ j. Reached n t a j) 0
+  pub reached-none : (k : ℕ) → k < n → ¬ (t k ≼ a) → SetOf (λ j. ReachesTop n t a j) 0
   reached-none k h q = set-none (λ j i u. q (u .2 k h))
 
 -- ---- tight panels
@@ -36,7 +37,7 @@ pub reaching-not : {n : ℕ} {t : Vec} {a o : E} → ¬ (Tight n t a o) → Reac
 reaching-not h = record { tight = λ p u. absurd (h u); never = λ u. refl }
 
 -- s is the sum of what is asked and the lateness, m the set of the triggers that reach it
-module _ {n : ℕ} {t : Vec} {a o : E} {m : ℕ} (s : ℕ) (es : entry s ≡ a ⊗ o) (p : SetOf (λ j. Reached n t (entry s) j) m) where
+module _ {n : ℕ} {t : Vec} {a o : E} {m : ℕ} (s : ℕ) (es : entry s ≡ a ⊗ o) (p : SetOf (λ j. ReachesTop n t (entry s) j) m) where
   pub reaching-some : Present a → ¬ (m ≡ 0) → Reaching n t a o m
   reaching-some h e = let (j, k, (hj, q, b)) = set-some p e in
       let lands : entry s ≡ sup n t = ≼-anti (≼-back q ▸ sup-ub n t j hj) (sup-lub n t b) in record {
@@ -45,7 +46,7 @@ module _ {n : ℕ} {t : Vec} {a o : E} {m : ℕ} (s : ℕ) (es : entry s ≡ a �
       }
 
   -- the landing of a tight panel is a number, and some trigger reaches it
-  pub reaching-none : n ≤ 6 → m ≡ 0 → Reaching n t a o 64
+  pub reaching-none : n ≤ size-limit → m ≡ 0 → Reaching n t a o 64
   reaching-none few e = record { tight = λ l u. absurd (none l (u .0) (es ∙ u .1)); never = λ u. refl }
     where
       none : Present o → Present a → entry s ≡ sup n t → ⊥

@@ -28,8 +28,8 @@ use Rattle.tables.specs.Held.{meant, meantV, HoldsV, Says}
 use Rattle.candidates.specs.declared.Marks.{Marks}
 use Rattle.trigger_sets.specs.Sets.{Has, SetOf}
 use Rattle.candidates.specs.Lines.{line-of}
-use Rattle.candidates.specs.Steps.{HeldSets, Tight, TightSets, Inside, Closed}
-use Rattle.candidates.specs.Prepared.{Prepared}
+use Rattle.candidates.specs.Rays.{HeldSets, Tight, TightSets, Inside, Closed}
+use Rattle.candidates.specs.Drawable.{Drawable}
 use Rattle.trigger_sets.proofs.SetLaws.{set-inside, set-some, set-empty, never-inside}
 use Rattle.candidates.proofs.WordLaws.{line-at}
 
@@ -39,7 +39,7 @@ asked a z = (
   λ p. (p .0 +z z, ap (λ e. e ⊗ num z) (p .1) ∙ num-⊗ (p .0) z),
 )
 
-module _ (n : ℕ) (P : Cue) (M : Marks) (stars lags needs : List (List ℕ)) (p : Prepared n P M stars lags needs) (w : List ℕ) where
+module _ (n : ℕ) (P : Cue) (M : Marks) (stars lags needs : List (List ℕ)) (p : Drawable n P M stars lags needs) (w : List ℕ) where
   open Cue P using (panels, lag, floor, due, order)
 
   abbrev D : ℤ
@@ -177,7 +177,7 @@ module _ (n : ℕ) (P : Cue) (M : Marks) (stars lags needs : List (List ℕ)) (p
 
 -- the marks tell n
 pub extreme-own : {n : ℕ} {P : Cue} {M : Marks} {stars lags needs : List (List ℕ)} (w : List ℕ) (r : Bool) →
-    (Prepared (M .triggers) P M stars lags needs → Says (Common (M .triggers) P (least (M .triggers) P) (line-of (M .triggers) w)) r) →
-    Prepared n P M stars lags needs → Says (Common n P (least n P) (line-of n w)) r
+    (Drawable (M .triggers) P M stars lags needs → Says (Common (M .triggers) P (least (M .triggers) P) (line-of (M .triggers) w)) r) →
+    Drawable n P M stars lags needs → Says (Common n P (least n P) (line-of n w)) r
 extreme-own {n} {P} {M} {stars} {lags} {needs} w r f p =
-    subst (λ n. Prepared n P M stars lags needs → Says (Common n P (least n P) (line-of n w)) r) (p .triggers) f p
+    subst (λ n. Drawable n P M stars lags needs → Says (Common n P (least n P) (line-of n w)) r) (p .triggers) f p

@@ -13,13 +13,14 @@ ghost use Rattle.sheet.specs.Sizes.{star-size, ask-size, shifted-size, late-siz
 ghost use Rattle.tables.specs.Held.{meant, meantV, HoldsV, Closely, CloselyV, Says};
 ghost use Rattle.trigger_sets.specs.Sets.{Has, SetOf};
 ghost use Rattle.candidates.specs.Lines.{line-of};
-ghost use Rattle.candidates.specs.Steps.{Held, HeldSets, TightSets, Reaching, Inside, Closed};
-ghost use Rattle.candidates.specs.Prepared.{Prepared, Ready};
+ghost use Rattle.candidates.specs.Rays.{Held, HeldSets, TightSets, Reaching, Inside, Closed};
+ghost use Rattle.candidates.specs.Drawable.{Drawable, MarksNear};
+ghost use Rattle.cue.specs.Sizes.{size-limit};
 use crate::sums::places;
 use crate::sums::reached;
-use candidates::Line;
+use candidates::LineWords;
 use candidates::Marks;
-use candidates::entries::largest;
+use tables::largest::largest;
 
 mod sums;
 
@@ -27,9 +28,9 @@ mod sums;
 const NEVER: u8 = 64;
 
 // Whether some trigger is in the closure of every trigger of the line.
-pub fn extreme(line: Line, marks: Marks, star: &[[u64; 6]; 6], lag: &[[u64; 6]; 6]) -> bool
-    requires { ⌜ Ready marks (now star) (now lag) × CloselyV (marks .triggers) shifted-size (line .at) ⌝ }
-    ensures { λ r. ⌜ ((n : ℕ) (P : Cue) (needs : List (List ℕ)) → Prepared n P marks (now (star .entry)) (now (lag .entry)) needs →
+pub fn extreme(line: LineWords, marks: Marks, star: &[[u64; 6]; 6], lag: &[[u64; 6]; 6]) -> bool
+    requires { ⌜ MarksNear marks (now star) (now lag) × CloselyV (marks .triggers) shifted-size (line .at) ⌝ }
+    ensures { λ r. ⌜ ((n : ℕ) (P : Cue) (needs : List (List ℕ)) → Drawable n P marks (now (star .entry)) (now (lag .entry)) needs →
         Says (Common n P (least n P) (line-of n (line .at))) r) ⌝ }
 {
     let n = marks.triggers;
@@ -46,7 +47,7 @@ pub fn extreme(line: Line, marks: Marks, star: &[[u64; 6]; 6], lag: &[[u64; 6]; 
 
 // c(j) − q(j)
 fn lateness(at: [u64; 6], due: [u64; 6], n: usize) -> [u64; 6]
-    requires { ⌜ (n ≤ 6) × CloselyV n shifted-size at × CloselyV n limit due ⌝ }
+    requires { ⌜ (n ≤ size-limit) × CloselyV n shifted-size at × CloselyV n limit due ⌝ }
     ensures is { λ r. ⌜ HoldsV n (λ j. meantV at j ⊗ inv (meantV due j)) r ⌝ }
     ensures close { λ r. ⌜ CloselyV n late-size r ⌝ }
 {
@@ -61,7 +62,7 @@ fn lateness(at: [u64; 6], due: [u64; 6], n: usize) -> [u64; 6]
 
 // A(k) for each trigger k.
 fn held_sets(star: &[[u64; 6]; 6], at: [u64; 6], n: usize) -> [u8; 6]
-    requires { ⌜ (n ≤ 6) × Closely n n star-size (now star) × CloselyV n shifted-size at ⌝ }
+    requires { ⌜ (n ≤ size-limit) × Closely n n star-size (now star) × CloselyV n shifted-size at ⌝ }
     ensures { λ r. ⌜ HeldSets n (meant (now (star .entry))) (meantV at) r ⌝ }
 {
     let mut r = [0u8; 6];
@@ -75,7 +76,7 @@ fn held_sets(star: &[[u64; 6]; 6], at: [u64; 6], n: usize) -> [u8; 6]
 
 // A(k): the j with M*(k,j) + c(j) = c(k). No closure asks for that of an absent c(k).
 fn held_by(star: &[[u64; 6]; 6], k: usize, at: [u64; 6], n: usize) -> u8
-    requires { ⌜ (n ≤ 6) × (k < n) × Closely n n star-size (now star) × CloselyV n shifted-size at ⌝ }
+    requires { ⌜ (n ≤ size-limit) × (k < n) × Closely n n star-size (now star) × CloselyV n shifted-size at ⌝ }
     ensures { λ r. ⌜ SetOf (λ j. Held n (meant (now (star .entry))) (meantV at) k j) r ⌝ }
 {
     let word = at[k];
@@ -87,7 +88,7 @@ fn held_by(star: &[[u64; 6]; 6], k: usize, at: [u64; 6], n: usize) -> u8
 
 // A(R): what is held by the triggers that reach the largest lateness.
 fn joined(held: [u8; 6], late: [u64; 6], most: u64, n: usize) -> u8
-    requires { ⌜ (n ≤ 6) × ((l : ℕ) → l < n → getD held l 0 < 64) ⌝ }
+    requires { ⌜ (n ≤ size-limit) × ((l : ℕ) → l < n → getD held l 0 < 64) ⌝ }
     ensures { λ r. ⌜ SetOf (λ j. (l : ℕ) × (l < n) × ((getD late l 0 ≡ most) × Has (getD held l 0) j)) r ⌝ }
 {
     let mut set: u8 = 0;
@@ -110,7 +111,8 @@ fn tight_sets(
     panels: usize,
     n: usize,
 ) -> [u8; 6]
-    requires { ⌜ (n ≤ 6) × (panels ≤ 6) × Closely panels n limit (now lag) × CloselyV panels ask-size asks × CloselyV n shifted-size at
+    requires { ⌜ (n ≤ size-limit) × (panels ≤ size-limit) × Closely panels n limit (now lag) × CloselyV panels ask-size asks ×
+        CloselyV n shifted-size at
         × Close late-size most ⌝ }
     ensures { λ r. ⌜ TightSets panels n (meant (now (lag .entry))) (meantV asks) (meantV at) (entry most) r ⌝ }
 {
@@ -125,7 +127,7 @@ fn tight_sets(
 
 // A panel with a floor is tight when it lands just where Δ asks.
 fn reaching(lag: &[[u64; 6]; 6], i: usize, ask: u64, at: [u64; 6], most: u64, n: usize) -> u8
-    requires { ⌜ (i < 6) × (n ≤ 6) × Closely (i + 1) n limit (now lag) × Close ask-size ask × CloselyV n shifted-size at
+    requires { ⌜ (i < 6) × (n ≤ size-limit) × Closely (i + 1) n limit (now lag) × Close ask-size ask × CloselyV n shifted-size at
         × Close late-size most ⌝ }
     ensures { λ r. ⌜ Reaching n (λ j. meant (now (lag .entry)) i j ⊗ meantV at j) (entry ask) (entry most) r ⌝ }
 {
@@ -138,7 +140,7 @@ fn reaching(lag: &[[u64; 6]; 6], i: usize, ask: u64, at: [u64; 6], most: u64, n:
 
 // Some tight panel's reaching triggers all lie in the set.
 fn fires(tight: [u8; 6], held: u8, panels: usize) -> bool
-    requires { ⌜ panels ≤ 6 ⌝ }
+    requires { ⌜ panels ≤ size-limit ⌝ }
     ensures { λ r. ⌜ Says (Inside tight panels held) r ⌝ }
 {
     let mut i: usize = 0;
@@ -153,7 +155,7 @@ fn fires(tight: [u8; 6], held: u8, panels: usize) -> bool
 
 // cl(k): A(k), with A(R) where some panel fires.
 fn closed(held: u8, tight: [u8; 6], front: u8, panels: usize) -> u8
-    requires { ⌜ (panels ≤ 6) × (held < 64) × (front < 64) ⌝ }
+    requires { ⌜ (panels ≤ size-limit) × (held < 64) × (front < 64) ⌝ }
     ensures { λ r. ⌜ SetOf (λ j. Closed tight panels front held j) r ⌝ }
 {
     if fires(tight, held, panels) {
@@ -165,7 +167,7 @@ fn closed(held: u8, tight: [u8; 6], front: u8, panels: usize) -> u8
 
 // The triggers in the closure of every present component. An empty set stays empty, so it ends the loop.
 fn common(at: [u64; 6], held: [u8; 6], tight: [u8; 6], front: u8, panels: usize, n: usize) -> u8
-    requires { ⌜ (n ≤ 6) × (panels ≤ 6) × ((k : ℕ) → k < n → getD held k 0 < 64) × (front < 64) ⌝ }
+    requires { ⌜ (n ≤ size-limit) × (panels ≤ size-limit) × ((k : ℕ) → k < n → getD held k 0 < 64) × (front < 64) ⌝ }
     ensures { λ r. ⌜ SetOf (λ j. (k : ℕ) → k < n → Present (meantV at k) → Closed tight panels front (getD held k 0) j) r ⌝ }
 {
     let mut all: u8 = 63;

@@ -23,16 +23,17 @@ use Rattle.cue.proofs.Covering.{Covering, lines-covered}
 use Rattle.sheet.specs.Sizes.{shifted-size}
 use Rattle.tables.specs.Held.{meant, meantV, HoldsV}
 use Rattle.candidates.specs.Lines.{line-of, Sized, Drawn}
-use Rattle.candidates.specs.Steps.{ray-of}
-use Rattle.candidates.specs.Prepared.{Prepared}
-use Rattle.candidates.specs.declared.Line as candidates
+use Rattle.candidates.specs.Rays.{ray-of}
+use Rattle.candidates.specs.Drawable.{Drawable}
+use Rattle.candidates.specs.declared.LineWords as candidates
 use Rattle.candidates.specs.declared.Marks.{Marks}
 use Rattle.candidates.proofs.OrderLaws.{below-says}
-use Rattle.candidates.proofs.PreparedLaws.{drawn-line}
+use Rattle.candidates.proofs.DrawableLaws.{drawn-line}
 use Rattle.buffer.specs.Buffer.{room, Before, Ordered, Placed, Fresh, Inserted}
 use Rattle.gather.specs.Gathering.{Wanted, wanted?, first, Gathered, drawn, drawn-all, rest}
 use Rattle.buffer.proofs.ListLaws.{sorted-take}
 use Rattle.buffer.proofs.HeldLaws.{stored-as, stored-ordered, stale-line, fresh-line}
+use Rattle.cue.specs.Sizes.{size-limit}
 
 module _ (n : ℕ) (P : Cue) (last : Line n) where
   first-increasing : (C : List (Line n)) → Increasing n (first n P last C)
@@ -60,7 +61,7 @@ gathered-as {n} {P} {last} {len = len} {buf} g e = subst (λ C. Gathered n P las
 
 -- ---- one line more in the buffer, or not
 module _ {n : ℕ} {P : Cue} {last c : List ℕ} {C : List (Line n)} {len : ℕ} {buf : List (List ℕ)}
-    (few : n ≤ 6) (z : Sized n last) (y : Sized n c) (g : Gathered n P last C len buf) where
+    (few : n ≤ size-limit) (z : Sized n last) (y : Sized n c) (g : Gathered n P last C len buf) where
   kept : first n P (line-of n last) (C ++ line-of n c ∷ []) ≡ first n P (line-of n last) C → Gathered n P last (C ++ line-of n c ∷ []) len buf
   kept e = record { stored = stored-as (g .stored) (sym e) }
 
@@ -146,7 +147,7 @@ pub record Drawing (M : Marks) (stars lags : List (List ℕ)) (last y : List ℕ
     (buf : List (List ℕ)) : Type 0 where
   pub so-far : t ≤ M .triggers
   pub gathered : (P : Cue) (needs : List (List ℕ)) (C : List (Line (M .triggers))) (w : List ℕ) →
-      Prepared (M .triggers) P M stars lags needs → HoldsV (M .triggers) (mv (M .triggers) (meant stars) (meantV w)) y →
+      Drawable (M .triggers) P M stars lags needs → HoldsV (M .triggers) (mv (M .triggers) (meant stars) (meantV w)) y →
       Gathered (M .triggers) P last C len₀ buf₀ →
       Gathered (M .triggers) P last (C ++ drawn (M .triggers) (meant stars) (meantV (M .pulls)) t w) len buf
 
@@ -158,9 +159,9 @@ module _ {M : Marks} {stars lags : List (List ℕ)} {last y : List ℕ} {len₀ 
   }
 
   module _ {t len : ℕ} {buf : List (List ℕ)} (s : Drawing M stars lags last y len₀ buf₀ t len buf) where
-    pub drawing-more : t < M .triggers → {r : candidates.Line} {more : ℕ} {after : List (List ℕ)} →
+    pub drawing-more : t < M .triggers → {r : candidates.LineWords} {more : ℕ} {after : List (List ℕ)} →
         Drawn (M .triggers) shifted-size (normal (M .triggers) (ray-of (meant stars) (meantV (M .pulls)) (meantV y) t)) r →
-        ((P : Cue) (needs : List (List ℕ)) (C : List (Line (M .triggers))) → Prepared (M .triggers) P M stars lags needs →
+        ((P : Cue) (needs : List (List ℕ)) (C : List (Line (M .triggers))) → Drawable (M .triggers) P M stars lags needs →
         Gathered (M .triggers) P last C len buf → Gathered (M .triggers) P last (C ++ line-of (M .triggers) (r .at) ∷ []) more after) →
         Drawing M stars lags last y len₀ buf₀ (t + 1) more after
     drawing-more q {r} e f = record {

@@ -29,15 +29,16 @@ use Rattle.tables.specs.Held.{cell, meant, meantV}
 use Rattle.tables.proofs.Loops.{blank-word}
 use Rattle.trigger_sets.specs.Sets.{Has}
 use Rattle.candidates.specs.Lines.{line-of}
-use Rattle.candidates.specs.Prepared.{Prepared}
+use Rattle.candidates.specs.Drawable.{Drawable}
 use Rattle.candidates.specs.declared.Marks.{Marks}
 use Rattle.candidates.proofs.WordLaws.{blank, sized-none, sized-set}
-use Rattle.candidates.proofs.PreparedLaws.{needs-close, drawn-from}
+use Rattle.candidates.proofs.DrawableLaws.{needs-close, drawn-from}
 use Rattle.buffer.specs.Buffer.{room, row, held}
 use Rattle.bounds.specs.Bounds.{places, Under, BoundRaised, Expanded}
 use Rattle.gather.specs.Gathering.{first, Gathered, drawn, drawn-all, Met, Bound, Bounds, Below, Spread, Filled}
 use Rattle.buffer.proofs.HeldLaws.{held-row, stored-as}
 use Rattle.gather.proofs.GatherLaws.{gathered-as, all-none, all-snoc, all-append, in-drawn-all, drawn-all-in, first-all}
+use Rattle.cue.specs.Sizes.{size-limit}
 
 -- ---- raised words
 module _ {w wants : List ℕ} {j : ℕ} {v : List ℕ} (z : length w ≡ 6) (hj : j < 6) (x : BoundRaised w wants j v) where
@@ -65,11 +66,11 @@ module _ {w wants : List ℕ} {j : ℕ} {v : List ℕ} (z : length w ≡ 6) (hj 
     | no d ↦ ≼-of (ap entry (raised-other t d)) ▸ (unfold meantV in h t ht)
   ]
 
-under-below : {n : ℕ} {a w : List ℕ} {b : Vec} → n ≤ 6 → Under a w → Below n w b → Below n a b
+under-below : {n : ℕ} {a w : List ℕ} {b : Vec} → n ≤ size-limit → Under a w → Below n w b → Below n a b
 unfolding meantV
 under-below {a = a} {w} h u k j hj = entry-mono (getD a j 0) (getD w j 0) (u .at j (omega arith)) ▸ (unfold meantV in k j hj)
 
-module _ {M : Marks} {stars lags needs : List (List ℕ)} {P : Cue} (g : Prepared (M .triggers) P M stars lags needs) where
+module _ {M : Marks} {stars lags needs : List (List ℕ)} {P : Cue} (g : Drawable (M .triggers) P M stars lags needs) where
   abbrev n : ℕ
   n = M .triggers
 
@@ -170,7 +171,7 @@ module _ {M : Marks} {stars lags needs : List (List ℕ)} {P : Cue} (g : Prepare
 pub record Drawn-to (M : Marks) (stars lags : List (List ℕ)) (last : List ℕ) (s : List (List ℕ)) (many len₀ : ℕ) (buf₀ : List (List ℕ))
     (k len : ℕ) (buf : List (List ℕ)) : Type 0 where
   pub so-far : k ≤ many
-  pub gathered : (P : Cue) (needs : List (List ℕ)) (C : List (Line (M .triggers))) → Prepared (M .triggers) P M stars lags needs →
+  pub gathered : (P : Cue) (needs : List (List ℕ)) (C : List (Line (M .triggers))) → Drawable (M .triggers) P M stars lags needs →
       Gathered (M .triggers) P last C len₀ buf₀ →
       Gathered (M .triggers) P last (C ++ drawn-all (M .triggers) (meant stars) (meantV (M .pulls)) (take k s)) len buf
 
@@ -183,7 +184,7 @@ module _ {M : Marks} {stars lags : List (List ℕ)} {last : List ℕ} {s : List 
 
   module _ {k len : ℕ} {buf : List (List ℕ)} (d : Drawn-to M stars lags last s many len₀ buf₀ k len buf) where
     pub drawn-to-more : k < many → many ≤ length s → {more : ℕ} {after : List (List ℕ)} →
-        ((P : Cue) (needs : List (List ℕ)) (C : List (Line (M .triggers))) → Prepared (M .triggers) P M stars lags needs →
+        ((P : Cue) (needs : List (List ℕ)) (C : List (Line (M .triggers))) → Drawable (M .triggers) P M stars lags needs →
         Gathered (M .triggers) P last C len buf →
         Gathered (M .triggers) P last (C ++ drawn (M .triggers) (meant stars) (meantV (M .pulls)) (M .triggers) (row s k)) more after) →
         Drawn-to M stars lags last s many len₀ buf₀ (k + 1) more after
@@ -202,7 +203,7 @@ module _ {M : Marks} {stars lags : List (List ℕ)} {last : List ℕ} {s : List 
 module _ {M : Marks} {stars lags needs : List (List ℕ)} {last : List ℕ} {s : List (List ℕ)} {from many level len : ℕ} {buf : List (List ℕ)} where
   -- at the last level the bounds are those of the set
   pub spread-end : {r : ℕ} {after : List (List ℕ)} → many ≤ length s → level ≡ M .levels → Bounds M needs level s many →
-      ((P : Cue) (needs : List (List ℕ)) (C : List (Line (M .triggers))) → Prepared (M .triggers) P M stars lags needs →
+      ((P : Cue) (needs : List (List ℕ)) (C : List (Line (M .triggers))) → Drawable (M .triggers) P M stars lags needs →
       Gathered (M .triggers) P last C len buf →
       Gathered (M .triggers) P last (C ++ drawn-all (M .triggers) (meant stars) (meantV (M .pulls)) (take many s)) r after) →
       Spread M stars lags needs last s from many level len buf r after
@@ -225,7 +226,7 @@ module _ {M : Marks} {stars lags needs : List (List ℕ)} {last : List ℕ} {s :
   }
 
   -- the bounds up to a place with one panel more, and then the others
-  pub spread-more : {to found held r : ℕ} {next mid after : List (List ℕ)} {P : Cue} → Prepared (M .triggers) P M stars lags needs →
+  pub spread-more : {to found held r : ℕ} {next mid after : List (List ℕ)} {P : Cue} → Drawable (M .triggers) P M stars lags needs →
       level < M .levels → many ≤ places → to ≤ many → Bounds M needs level s many →
       Expanded s from to (getD (M .kept) level 0) (getD needs level []) (M .triggers) next found →
       Spread M stars lags needs last next 0 found (level + 1) len buf held mid →
@@ -248,7 +249,7 @@ module _ {M : Marks} {stars lags needs : List (List ℕ)} {last : List ℕ} {s :
       early v m k h i d =
           let (j, hj, q, y) = m level (omega arith) hl in
           let (u, e, o) = x .new k j h i hj q in
-          let n6 : M .triggers ≤ 6 = g .few in
+          let n6 : M .triggers ≤ size-limit = g .few in
           let z : length (row s k) ≡ 6 = b k (omega arith) .sized .size in
           a .covers v (λ l hl. m l (omega arith)) (o .place) (omega arith) (o .there)
           (under-below n6 (o .under) (raised-below z (omega arith) e d (unfold meant meantV in y)))
@@ -275,7 +276,7 @@ none-gathered n P last buf h = record { stored = record { few = omega arith; siz
 
 module _ {M : Marks} {stars lags needs : List (List ℕ)} {last : List ℕ} where
   pub spread-filled : {buf : List (List ℕ)} {r : ℕ} {after : List (List ℕ)} → length buf ≡ room →
-      Spread M stars lags needs last none 0 1 0 0 buf r after → (P : Cue) → Prepared (M .triggers) P M stars lags needs →
+      Spread M stars lags needs last none 0 1 0 0 buf r after → (P : Cue) → Drawable (M .triggers) P M stars lags needs →
       Filled (M .triggers) P last r after
   unfolding meantV
   spread-filled {buf} z s P g = record {

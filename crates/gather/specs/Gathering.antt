@@ -17,8 +17,8 @@ use Rattle.sheet.specs.Sizes.{need-down}
 use Rattle.tables.specs.Held.{meant, meantV, CloselyV}
 use Rattle.trigger_sets.specs.Sets.{Has}
 use Rattle.candidates.specs.Lines.{line-of, Sized}
-use Rattle.candidates.specs.Steps.{ray-of}
-use Rattle.candidates.specs.Prepared.{Prepared}
+use Rattle.candidates.specs.Rays.{ray-of}
+use Rattle.candidates.specs.Drawable.{Drawable}
 use Rattle.candidates.specs.declared.Marks.{Marks}
 use Rattle.buffer.specs.Buffer.{room, row, Stored}
 
@@ -70,7 +70,7 @@ pub record Spread (M : Marks) (stars lags needs : List (List ℕ)) (last : List 
     (len : ℕ) (buf : List (List ℕ)) (r : ℕ) (after : List (List ℕ)) : Type 0 where
   pub used : List (List ℕ)
   pub bounds : (w : List ℕ) → In w used → Bound M needs (M .levels) w
-  pub gathered : (P : Cue) (C : List (Line (M .triggers))) → Prepared (M .triggers) P M stars lags needs →
+  pub gathered : (P : Cue) (C : List (Line (M .triggers))) → Drawable (M .triggers) P M stars lags needs →
       Gathered (M .triggers) P last C len buf →
       Gathered (M .triggers) P last (C ++ drawn-all (M .triggers) (meant stars) (meantV (M .pulls)) used) r after
   pub covers : (b : Vec) → ((l : ℕ) → level ≤ l → l < M .levels → Met M needs l b) →

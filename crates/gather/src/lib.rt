@@ -8,7 +8,7 @@ ghost use Rattle.cue.specs.Cue.{Cue};
 ghost use Rattle.sheet.specs.Sizes.{need-down, shifted-size};
 ghost use Rattle.tables.specs.Held.{meant, meantV, CloselyV};
 ghost use Rattle.candidates.specs.Lines.{Sized, line-of};
-ghost use Rattle.candidates.specs.Prepared.{Prepared};
+ghost use Rattle.candidates.specs.Drawable.{Drawable};
 ghost use Rattle.buffer.specs.Buffer.{room, row};
 ghost use Rattle.bounds.specs.Bounds.{places};
 ghost use Rattle.gather.specs.Gathering.{Gathered, drawn, drawn-all, Bounds, Spread, Filled};
@@ -16,7 +16,7 @@ use bounds::expand;
 use buffer::fresh;
 use buffer::insert;
 use buffer::place;
-use candidates::Line;
+use candidates::LineWords;
 use candidates::Marks;
 use candidates::drawing::candidate;
 use candidates::drawing::starred;
@@ -29,16 +29,16 @@ fn consider(
     buf: &mut [[u64; 6]; 128],
     len: usize,
     last: [u64; 6],
-    line: Line,
+    line: LineWords,
     marks: Marks,
     star: &[[u64; 6]; 6],
     lag: &[[u64; 6]; 6],
 ) -> usize
     requires { ⌜ ((P : Cue) × (needs : List (List ℕ)) × (C : List (maxplus.Line (marks .triggers)))
-        × Prepared (marks .triggers) P marks (now star) (now lag) needs × Gathered (marks .triggers) P last C len (now buf))
+        × Drawable (marks .triggers) P marks (now star) (now lag) needs × Gathered (marks .triggers) P last C len (now buf))
         × Sized (marks .triggers) last × Sized (marks .triggers) (line .at) × CloselyV (marks .triggers) shifted-size (line .at) ⌝ }
     ensures { λ r. ⌜ ((P : Cue) (needs : List (List ℕ)) (C : List (maxplus.Line (marks .triggers))) →
-        Prepared (marks .triggers) P marks (now (star .entry)) (now (lag .entry)) needs →
+        Drawable (marks .triggers) P marks (now (star .entry)) (now (lag .entry)) needs →
         Gathered (marks .triggers) P last C len (now (buf .entry)) →
         Gathered (marks .triggers) P last (C ++ line-of (marks .triggers) (line .at) ∷ []) r (now (buf .exit))) ⌝ }
 {
@@ -67,16 +67,16 @@ fn consider_bound(
     lag: &[[u64; 6]; 6],
 ) -> usize
     requires { ⌜ ((P : Cue) × (needs : List (List ℕ)) × (C : List (maxplus.Line (marks .triggers)))
-        × Prepared (marks .triggers) P marks (now star) (now lag) needs × Gathered (marks .triggers) P last C len (now buf))
+        × Drawable (marks .triggers) P marks (now star) (now lag) needs × Gathered (marks .triggers) P last C len (now buf))
         × Sized (marks .triggers) last × CloselyV (marks .triggers) need-down bound ⌝ }
     ensures { λ r. ⌜ ((P : Cue) (needs : List (List ℕ)) (C : List (maxplus.Line (marks .triggers))) →
-        Prepared (marks .triggers) P marks (now (star .entry)) (now (lag .entry)) needs →
+        Drawable (marks .triggers) P marks (now (star .entry)) (now (lag .entry)) needs →
         Gathered (marks .triggers) P last C len (now (buf .entry)) → Gathered (marks .triggers) P last
         (C ++ drawn (marks .triggers) (meant (now (star .entry))) (meantV (marks .pulls)) (marks .triggers) bound) r (now (buf .exit))) ⌝ }
 {
     let n = marks.triggers;
     let pulls = marks.pulls;
-    let w = Line {
+    let w = LineWords {
         count: n,
         at: bound,
     };
@@ -103,11 +103,11 @@ fn consider_bounds(
     lag: &[[u64; 6]; 6],
 ) -> usize
     requires { ⌜ ((P : Cue) × (needs : List (List ℕ)) × (C : List (maxplus.Line (marks .triggers)))
-        × Prepared (marks .triggers) P marks (now star) (now lag) needs × Gathered (marks .triggers) P last C len (now buf))
+        × Drawable (marks .triggers) P marks (now star) (now lag) needs × Gathered (marks .triggers) P last C len (now buf))
         × Sized (marks .triggers) last × (many ≤ places) × (length (now set) ≡ places)
         × ((k : ℕ) → k < many → CloselyV (marks .triggers) need-down (row (now set) k)) ⌝ }
     ensures { λ r. ⌜ ((P : Cue) (needs : List (List ℕ)) (C : List (maxplus.Line (marks .triggers))) →
-        Prepared (marks .triggers) P marks (now (star .entry)) (now (lag .entry)) needs →
+        Drawable (marks .triggers) P marks (now (star .entry)) (now (lag .entry)) needs →
         Gathered (marks .triggers) P last C len (now (buf .entry)) → Gathered (marks .triggers) P last
         (C ++ drawn-all (marks .triggers) (meant (now (star .entry))) (meantV (marks .pulls)) (take many (now (set .entry)))) r (now (buf .exit))) ⌝ }
 {
@@ -143,7 +143,7 @@ fn spread(
     needs: &[[u64; 6]; 6],
 ) -> usize
     requires { ⌜ ((P : Cue) × (C : List (maxplus.Line (marks .triggers)))
-        × Prepared (marks .triggers) P marks (now star) (now lag) (now needs) × Gathered (marks .triggers) P last C len (now buf))
+        × Drawable (marks .triggers) P marks (now star) (now lag) (now needs) × Gathered (marks .triggers) P last C len (now buf))
         × Sized (marks .triggers) last × (many ≤ places) × (length (now set) ≡ places) × (level ≤ marks .levels)
         × Bounds marks (now needs) level (now set) many ⌝ }
     ensures { λ r. ⌜ Spread marks (now (star .entry)) (now (lag .entry)) (now (needs .entry)) last (now (set .entry)) from many level
@@ -205,9 +205,9 @@ pub fn gather(
     lag: &[[u64; 6]; 6],
     needs: &[[u64; 6]; 6],
 ) -> usize
-    requires { ⌜ ((P : Cue) × Prepared (marks .triggers) P marks (now star) (now lag) (now needs)) × Sized (marks .triggers) last ×
+    requires { ⌜ ((P : Cue) × Drawable (marks .triggers) P marks (now star) (now lag) (now needs)) × Sized (marks .triggers) last ×
         (length (now buf) ≡ room) ⌝ }
-    ensures { λ r. ⌜ ((P : Cue) → Prepared (marks .triggers) P marks (now (star .entry)) (now (lag .entry)) (now (needs .entry)) →
+    ensures { λ r. ⌜ ((P : Cue) → Drawable (marks .triggers) P marks (now (star .entry)) (now (lag .entry)) (now (needs .entry)) →
         Filled (marks .triggers) P last r (now (buf .exit))) ⌝ }
 {
     let set = [[0u64; 6]; 64];

@@ -25,6 +25,7 @@ use Rattle.preparing.specs.declared.Marked.{Marked}
 use Rattle.keeping.specs.Keeping.{kept-of, keeping, six, six-counts, kept-answer}
 use Rattle.sheet.specs.Ordered.{ordered}
 use Rattle.keeping.specs.declared.KeptTable.{KeptTable}
+use Rattle.cue.specs.Sizes.{size-limit}
 
 -- the byte and the number of panel i
 abbrev pub Pair : Type 0
@@ -36,7 +37,7 @@ pair b c i = (b i, c i)
 none : Pair
 none = (0, 0)
 
-module _ (m : ℕ) (b c : ℕ → ℕ) (bytes : List ℕ) (few : m ≤ 6) (long : length bytes ≡ 6)
+module _ (m : ℕ) (b c : ℕ → ℕ) (bytes : List ℕ) (few : m ≤ size-limit) (long : length bytes ≡ 6)
     (here : (i : ℕ) → i < m → getD bytes i 0 ≡ b i) (past : (i : ℕ) → m ≤ i → getD bytes i 0 ≡ 0)
     (counted : (i : ℕ) → ones (b i) ≡ c i) where
   abbrev pub pairs : List Pair
@@ -99,7 +100,7 @@ walked-answer s x {r} M D d ns e k f =
     P : Cue
     P = cue-of s
 
-    few : s .panels ≤ 6
+    few : s .panels ≤ size-limit
     few = M .prepared .few-panels
 
     counted : _≡_ {A = Counts} k (record { steps = steps n P (least n P); selections = length (selections n P (least n P)) })

@@ -26,9 +26,10 @@ use Rattle.sheet.specs.Ordered.{ordered}
 use Rattle.keeping.specs.declared.KeptTable.{KeptTable}
 use Rattle.advice.proofs.AdviceLaws.{advised}
 use Rattle.kept.specs.Output.{kept-output, kept-complaint}
+use Rattle.cue.specs.Sizes.{size-limit}
 
 abbrev pub Sound : KeptOutcome → Type 0
-Sound (kept D panels k l) = length panels ≤ 6
+Sound (kept D panels k l) = length panels ≤ size-limit
 Sound (refused k) = (1 ≤ k) × (k ≤ 8)
 
 -- a sheet that was read, whether or not its order can be kept
@@ -47,7 +48,7 @@ keeping-sound s = go (read s) refl
     go (got t r) e = ordered-sound s t r e (orderly? t)
 
 -- the first six pairs, part by part, are the pairs again
-module _ (P : List (ℕ × ℕ)) (few : length P ≤ 6) where
+module _ (P : List (ℕ × ℕ)) (few : length P ≤ size-limit) where
   again : ℕ → ℕ × ℕ
   again i = (getD (six (λ i. getD P i (0, 0) .0)) i 0, getD (six (λ i. getD P i (0, 0) .1)) i 0)
 
@@ -72,7 +73,7 @@ refused-out : (o : KeptOutcome) → ¬ (kept-answer o .refusal ≡ 0) → refusa
 refused-out (kept D P k l) h = absurd (h refl)
 refused-out (refused k) h = refl
 
-few-kept : (o : KeptOutcome) → Sound o → kept-answer o .panels ≤ 6
+few-kept : (o : KeptOutcome) → Sound o → kept-answer o .panels ≤ size-limit
 few-kept (kept D P k l) h = h
 few-kept (refused k) h = omega arith
 
@@ -90,8 +91,8 @@ module _ (s : List ℕ) (t : KeptTable) (e : t ≡ kept-answer (keeping s)) wher
   refusal-out h =
       subst (λ (t : KeptTable). ¬ (t .refusal ≡ 0) → refusal-text (t .refusal) ≡ kept-output (keeping s)) (sym e) (refused-out (keeping s)) h
 
-  pub few-out : t .panels ≤ 6
-  few-out = subst (λ (t : KeptTable). t .panels ≤ 6) (sym e) (few-kept (keeping s) (keeping-sound s))
+  pub few-out : t .panels ≤ size-limit
+  few-out = subst (λ (t : KeptTable). t .panels ≤ size-limit) (sym e) (few-kept (keeping s) (keeping-sound s))
 
   pub table-out : t .refusal ≡ 0 → table-text t ≡ kept-output (keeping s)
   table-out h = subst (λ (t : KeptTable). t .refusal ≡ 0 → table-text t ≡ kept-output (keeping s)) (sym e) (kept-out (keeping s) (keeping-sound s)) h

@@ -27,13 +27,14 @@ use Rattle.tables.specs.Held.{meantV, CloselyV}
 use Rattle.cue.proofs.Few as few
 use Rattle.cue.proofs.Few.{most}
 use Rattle.candidates.specs.Lines.{line-of, Sized}
-use Rattle.candidates.specs.Prepared.{Prepared}
+use Rattle.candidates.specs.Drawable.{Drawable}
 use Rattle.candidates.specs.declared.Marks.{Marks}
 use Rattle.candidates.proofs.WordLaws.{blank, sized-none, line-at}
 use Rattle.buffer.specs.Buffer.{room, row, held}
 use Rattle.gather.specs.Gathering.{rest, Filled}
 use Rattle.buffer.proofs.ListLaws.{in-take}
 use Rattle.buffer.proofs.HeldLaws.{stored-length, row-line}
+use Rattle.cue.specs.Sizes.{size-limit}
 
 -- ---- a line with no component stands below every line that has one
 below-some : (n : ℕ) (x : Vec) (c : Line n) (j : ℕ) → j < n → ((k : ℕ) → x k ≡ absent) → Present (at n c j) → ltL n (line n x) c
@@ -84,7 +85,7 @@ module _ {A : Type 0} (lt : A → A → Type 0) (S : Strict lt) where
           (in-above lt S a l c .0 (subst (λ r. In c r) (sym e) (in-right k (b ∷ m) c (inr h))) .0, q .1 .0 c h)
 
 -- ---- a buffer that was not filled holds all, and a full one leaves what is above its last line
-module _ {n len : ℕ} {P : Cue} {last : List ℕ} {buf : List (List ℕ)} (few : n ≤ 6) (s : Filled n P last len buf) where
+module _ {n len : ℕ} {P : Cue} {last : List ℕ} {buf : List (List ℕ)} (few : n ≤ size-limit) (s : Filled n P last len buf) where
   abbrev left : List (Line n)
   left = rest n P (line-of n last)
 
@@ -107,12 +108,12 @@ module _ {n len : ℕ} {P : Cue} {last : List ℕ} {buf : List (List ℕ)} (few 
       after = sym (above-after (ltL n) (strict n) (line-of n last) b (lines n P) (take 127 left) (drop room left)
           (split-at left 127 (line-of n last) (omega (arith, filled-few)))) ∙ ap (rest n P) e
 
-pub lines-few : {P : Cue} {M : Marks} {stars lags needs : List (List ℕ)} → Prepared (M .triggers) P M stars lags needs →
+pub lines-few : {P : Cue} {M : Marks} {stars lags needs : List (List ℕ)} → Drawable (M .triggers) P M stars lags needs →
     length (lines (M .triggers) P) ≤ most
 lines-few {P} {M} g = few.lines-few (M .triggers) P (g .few) (g .few-panels)
 
 -- ---- the words of lines that are held fit
-pub held-close : {n len : ℕ} {P : Cue} {M : Marks} {stars lags needs buf : List (List ℕ)} {last : List ℕ} → Prepared n P M stars lags needs →
+pub held-close : {n len : ℕ} {P : Cue} {M : Marks} {stars lags needs buf : List (List ℕ)} {last : List ℕ} → Drawable n P M stars lags needs →
     Filled n P last len buf → (w : List ℕ) → In w (take len buf) → Sized n w × CloselyV n line-down w
 unfolding held meantV
 held-close {n} {len} {P} {buf = buf} {last} p s w h = (

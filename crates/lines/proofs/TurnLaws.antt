@@ -15,7 +15,7 @@ use Rattle.candidates.specs.declared.Marks.{Marks}
 use Rattle.candidates.proofs.WordLaws.{blank, sized-none}
 use Rattle.buffer.specs.Buffer.{room, row, held}
 use Rattle.buffer.specs.Space.{laid}
-use Rattle.candidates.specs.Prepared.{Prepared}
+use Rattle.candidates.specs.Drawable.{Drawable}
 use Rattle.gather.specs.Gathering.{rest, Filled}
 use Rattle.lines.specs.Listing.{Answers}
 use Rattle.lines.specs.declared.Listed.the-variants.{Lines}
@@ -38,7 +38,7 @@ answers-lines n L before after k e h o = (e, omega arith, o ∙ laid-front befor
 -- ---- counting: so many lines are not above last
 pub record Counted (M : Marks) (stars lags needs : List (List ℕ)) (last : List ℕ) (count : ℕ) : Type 0 where
   pub sized : Sized (M .triggers) last
-  pub counted : (P : Cue) → Prepared (M .triggers) P M stars lags needs →
+  pub counted : (P : Cue) → Drawable (M .triggers) P M stars lags needs →
       count + length (rest (M .triggers) P (line-of (M .triggers) last)) ≡ length (lines (M .triggers) P)
 
 -- ---- writing: the lines that are not above last are written
@@ -51,7 +51,7 @@ pub record Laid (n : ℕ) (P : Cue) (last : List ℕ) (before out : List ℤ) (a
 pub record Writing (M : Marks) (stars lags needs : List (List ℕ)) (last : List ℕ) (before out : List ℤ) (at : ℕ) : Type 0 where
   pub sized : Sized (M .triggers) last
   pub size : length out ≡ length before
-  pub written : (P : Cue) → Prepared (M .triggers) P M stars lags needs → line-size * length (lines (M .triggers) P) ≤ length before →
+  pub written : (P : Cue) → Drawable (M .triggers) P M stars lags needs → line-size * length (lines (M .triggers) P) ≤ length before →
       Laid (M .triggers) P last before out at
 
 module _ {M : Marks} {stars lags needs : List (List ℕ)} where
@@ -75,8 +75,8 @@ module _ {M : Marks} {stars lags needs : List (List ℕ)} where
 
   -- what a walk has gathered
   module _ {last : List ℕ} {len : ℕ} {buf : List (List ℕ)}
-      (s : (P : Cue) → Prepared (M .triggers) P M stars lags needs → Filled (M .triggers) P last len buf) where
-    module _ {P : Cue} (g : Prepared (M .triggers) P M stars lags needs) where
+      (s : (P : Cue) → Drawable (M .triggers) P M stars lags needs → Filled (M .triggers) P last len buf) where
+    module _ {P : Cue} (g : Drawable (M .triggers) P M stars lags needs) where
       all-held : len < room → held (M .triggers) len buf ≡ rest (M .triggers) P (line-of (M .triggers) last)
       all-held = filled-all (g .few) (s P g)
 
@@ -94,13 +94,13 @@ module _ {M : Marks} {stars lags needs : List (List ℕ)} where
       next-sized h = row-sized (g .few) (s P g .stored) 127 (omega arith)
 
     module _ {count : ℕ} (k : Counted M stars lags needs last count) where
-      pub counted-few : {P : Cue} → Prepared (M .triggers) P M stars lags needs → count + len ≤ most
+      pub counted-few : {P : Cue} → Drawable (M .triggers) P M stars lags needs → count + len ≤ most
       counted-few {P} g = omega (arith, k .counted P g, few-held g, lines-few g)
 
-      pub counted-end : len < room → (P : Cue) → Prepared (M .triggers) P M stars lags needs → count + len ≡ length (lines (M .triggers) P)
+      pub counted-end : len < room → (P : Cue) → Drawable (M .triggers) P M stars lags needs → count + len ≡ length (lines (M .triggers) P)
       counted-end h P g = omega (arith, k .counted P g, ap length (all-held g h), many-held g)
 
-      pub counted-more : {P : Cue} → Prepared (M .triggers) P M stars lags needs → room ≤ len →
+      pub counted-more : {P : Cue} → Drawable (M .triggers) P M stars lags needs → room ≤ len →
           Counted M stars lags needs (row buf 127) (count + len)
       counted-more f h = record {
         sized = next-sized f h;
@@ -114,7 +114,7 @@ module _ {M : Marks} {stars lags needs : List (List ℕ)} where
       }
 
     module _ {before out : List ℤ} {at : ℕ} (w : Writing M stars lags needs last before out at) where
-      module _ {P : Cue} (g : Prepared (M .triggers) P M stars lags needs) (h : line-size * length (lines (M .triggers) P) ≤ length before) where
+      module _ {P : Cue} (g : Drawable (M .triggers) P M stars lags needs) (h : line-size * length (lines (M .triggers) P) ≤ length before) where
         abbrev written : List (Line (M .triggers))
         written = w .written P g h .done
 
@@ -157,7 +157,7 @@ module _ {M : Marks} {stars lags needs : List (List ℕ)} where
             words = more-words;
           }
 
-      pub writing-more : {P : Cue} → Prepared (M .triggers) P M stars lags needs → room ≤ len → {after : List ℤ} →
+      pub writing-more : {P : Cue} → Drawable (M .triggers) P M stars lags needs → room ≤ len → {after : List ℤ} →
           length after ≡ length out → after ≡ laid out at (list-words (M .triggers) (held (M .triggers) len buf)) →
           Writing M stars lags needs (row buf 127) before after (at + line-size * len)
       writing-more f k z e = record {
@@ -167,8 +167,8 @@ module _ {M : Marks} {stars lags needs : List (List ℕ)} where
       }
 
   -- ---- the first walk: a buffer that was not filled holds the whole list
-  module _ {len : ℕ} {buf : List (List ℕ)} (s : (P : Cue) → Prepared (M .triggers) P M stars lags needs → Filled (M .triggers) P blank len buf)
-      (h : len < room) {P : Cue} (g : Prepared (M .triggers) P M stars lags needs) where
+  module _ {len : ℕ} {buf : List (List ℕ)} (s : (P : Cue) → Drawable (M .triggers) P M stars lags needs → Filled (M .triggers) P blank len buf)
+      (h : len < room) {P : Cue} (g : Drawable (M .triggers) P M stars lags needs) where
     whole-held : held (M .triggers) len buf ≡ lines (M .triggers) P
     whole-held = all-held s g h ∙ above-blank (M .triggers) P
 

@@ -12,5 +12,6 @@ use Rattle.lines.specs.declared.Listed.the-variants.{Lines, NoRoom}
 -- "writes exactly the list at the front of the space and leaves the rest", or "the list has more lines than the lent space holds" and no word
 -- changes
 abbrev pub Answers : (n : ℕ) → List (Line n) → List ℤ → List ℤ → Listed → Type 0
-Answers n L before after (Lines k) = (k ≡ length L) × (length L ≤ length before / line-size) × (after ≡ list-words n L ++ drop (line-size * length L) before)
+Answers n L before after (Lines k) = (k ≡ length L) × (length L ≤ length before / line-size) ×
+    (after ≡ list-words n L ++ drop (line-size * length L) before)
 Answers n L before after (NoRoom k) = (k ≡ length L) × (length before / line-size < length L) × (after ≡ before)

@@ -3,7 +3,7 @@ ghost use mathlib.Core.Path.{_≡_};
 ghost use lib.ListN.{length};
 ghost use Rattle.cue.specs.Cue.{Cue};
 ghost use Rattle.cue.specs.Method.{lines};
-ghost use Rattle.candidates.specs.Prepared.{Prepared};
+ghost use Rattle.candidates.specs.Drawable.{Drawable};
 use buffer::ROOM;
 use candidates::Marks;
 use gather::gather;
@@ -14,8 +14,8 @@ pub fn count_lines(
     lag: &[[u64; 6]; 6],
     needs: &[[u64; 6]; 6],
 ) -> usize
-    requires { ⌜ ((P : Cue) × Prepared (marks .triggers) P marks (now star) (now lag) (now needs)) ⌝ }
-    ensures { λ r. ⌜ ((P : Cue) → Prepared (marks .triggers) P marks (now (star .entry)) (now (lag .entry)) (now (needs .entry)) →
+    requires { ⌜ ((P : Cue) × Drawable (marks .triggers) P marks (now star) (now lag) (now needs)) ⌝ }
+    ensures { λ r. ⌜ ((P : Cue) → Drawable (marks .triggers) P marks (now (star .entry)) (now (lag .entry)) (now (needs .entry)) →
         r ≡ length (lines (marks .triggers) P)) ⌝ }
 {
     let mut buf = [[0u64; 6]; 128];

@@ -1,7 +1,7 @@
 // From prepared tables to document 01's list in a lent space. A buffer gathers the lines in order, one buffer-full after the other.
 ghost use Rattle.cue.specs.Cue.{Cue};
 ghost use Rattle.cue.specs.Method.{lines};
-ghost use Rattle.candidates.specs.Prepared.{Prepared};
+ghost use Rattle.candidates.specs.Drawable.{Drawable};
 ghost use Rattle.lines.specs.Listing.{Answers};
 use crate::count::count_lines;
 use crate::write::write_held;
@@ -28,8 +28,8 @@ pub fn list(
     lag: &[[u64; 6]; 6],
     needs: &[[u64; 6]; 6],
 ) -> Listed
-    requires { ⌜ ((P : Cue) × Prepared (marks .triggers) P marks (now star) (now lag) (now needs)) ⌝ }
-    ensures { λ r. ⌜ ((P : Cue) → Prepared (marks .triggers) P marks (now (star .entry)) (now (lag .entry)) (now (needs .entry)) →
+    requires { ⌜ ((P : Cue) × Drawable (marks .triggers) P marks (now star) (now lag) (now needs)) ⌝ }
+    ensures { λ r. ⌜ ((P : Cue) → Drawable (marks .triggers) P marks (now (star .entry)) (now (lag .entry)) (now (needs .entry)) →
         Answers (marks .triggers) (lines (marks .triggers) P) (now (out .entry)) (now (out .exit)) r) ⌝ }
 {
     let mut buf = [[0u64; 6]; 128];

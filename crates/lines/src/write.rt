@@ -12,8 +12,9 @@ ghost use Rattle.sheet.specs.Sizes.{line-down};
 ghost use Rattle.tables.specs.Held.{CloselyV};
 ghost use Rattle.candidates.specs.Lines.{Sized, line-of};
 ghost use Rattle.buffer.specs.Buffer.{room, held};
-ghost use Rattle.candidates.specs.Prepared.{Prepared};
+ghost use Rattle.candidates.specs.Drawable.{Drawable};
 ghost use Rattle.buffer.specs.Space.{laid};
+ghost use Rattle.cue.specs.Sizes.{size-limit};
 use buffer::ROOM;
 use candidates::Marks;
 use gather::gather;
@@ -38,7 +39,7 @@ fn signed_word(w: u64) -> i32
 
 // The words of one line from a place on.
 fn write_line(out: &mut [i32], at: usize, n: usize, c: [u64; 6])
-    requires { ⌜ (n ≤ 6) × (at + line-size ≤ length (now out)) × Sized n c × CloselyV n line-down c ⌝ }
+    requires { ⌜ (n ≤ size-limit) × (at + line-size ≤ length (now out)) × Sized n c × CloselyV n line-down c ⌝ }
     ensures { λ r. ⌜ now (out .exit) ≡ laid (now (out .entry)) at (line-words n (line-of n c)) ⌝ }
 {
     out[at] = n as i32;
@@ -51,7 +52,7 @@ fn write_line(out: &mut [i32], at: usize, n: usize, c: [u64; 6])
 
 // Those of the lines that the buffer holds.
 pub fn write_held(out: &mut [i32], at: usize, buf: &[[u64; 6]; 128], len: usize, n: usize)
-    requires { ⌜ (n ≤ 6) × (len ≤ room) × (length (now buf) ≡ room) × (at + line-size * len ≤ length (now out))
+    requires { ⌜ (n ≤ size-limit) × (len ≤ room) × (length (now buf) ≡ room) × (at + line-size * len ≤ length (now out))
         × ((w : List ℕ) → In w (take len (now buf)) → Sized n w × CloselyV n line-down w) ⌝ }
     ensures { λ r. ⌜ now (out .exit) ≡ laid (now (out .entry)) at (list-words n (held n len (now (buf .entry)))) ⌝ }
 {
@@ -70,9 +71,9 @@ pub fn write_lines(
     lag: &[[u64; 6]; 6],
     needs: &[[u64; 6]; 6],
 )
-    requires { ⌜ ((P : Cue) × Prepared (marks .triggers) P marks (now star) (now lag) (now needs)
+    requires { ⌜ ((P : Cue) × Drawable (marks .triggers) P marks (now star) (now lag) (now needs)
         × (line-size * length (lines (marks .triggers) P) ≤ length (now out))) ⌝ }
-    ensures { λ r. ⌜ ((P : Cue) → Prepared (marks .triggers) P marks (now (star .entry)) (now (lag .entry)) (now (needs .entry)) →
+    ensures { λ r. ⌜ ((P : Cue) → Drawable (marks .triggers) P marks (now (star .entry)) (now (lag .entry)) (now (needs .entry)) →
         line-size * length (lines (marks .triggers) P) ≤ length (now (out .entry)) →
         now (out .exit) ≡ laid (now (out .entry)) 0 (list-words (marks .triggers) (lines (marks .triggers) P))) ⌝ }
 {

@@ -20,6 +20,7 @@ use Rattle.cue.proofs.Bounds.{Limited, power-within}
 use Rattle.tables.specs.Held.{meant, Holds, Closely}
 use Rattle.tables.proofs.Loops.{largest-none}
 use Rattle.tables.proofs.SquareLaws.{entry-unit, closely-within, meant-within}
+use Rattle.cue.specs.Sizes.{size-limit}
 
 -- a product of tables that are held
 pub mm-held : {m n : ℕ} {A B : Mat} {a b r : List (List ℕ)} → Holds m n A a → Holds n n B b →
@@ -32,7 +33,7 @@ module _ (n : ℕ) (t : List (List ℕ)) where
   abbrev alone : Cue
   alone = record { panels = 0; lag = λ i j. absent; floor = λ i. absent; due = λ j. pos 0; order = meant t }
 
-  module _ (six : n ≤ 6) (c : Closely n n order-limit t) where
+  module _ (six : n ≤ size-limit) (c : Closely n n order-limit t) where
     alone-limited : Limited n limit order-limit alone
     alone-limited = record {
       lags = λ i j h. let e : ⊥ = omega arith in absurd e;
@@ -44,10 +45,10 @@ module _ (n : ℕ) (t : List (List ℕ)) where
       orders = λ i j hi hj. meant-within c i j hi hj;
     }
 
-    pub power-near : (k : ℕ) {p : List (List ℕ)} → k ≤ 6 → Holds n n (power n (meant t) k) p → Closely n n far p
+    pub power-near : (k : ℕ) {p : List (List ℕ)} → k ≤ size-limit → Holds n n (power n (meant t) k) p → Closely n n far p
     power-near k h e = closely-within (omega arith) (omega arith) e (λ i j hi hj. power-within n 5 limit order-limit alone alone-limited six k i j hi hj)
 
-  pub power-none : {p : List (List ℕ)} → n ≤ 6 → Holds 6 6 idm p → Holds n n (power n (meant t) 0) p
+  pub power-none : {p : List (List ℕ)} → n ≤ size-limit → Holds 6 6 idm p → Holds n n (power n (meant t) 0) p
   unfolding power
   power-none six e = record { at = λ i j hi hj. e .at i j (omega arith) (omega arith) }
 
@@ -60,7 +61,7 @@ module _ (n : ℕ) (t : List (List ℕ)) where
   unfoldable pub powers : ℕ → Mat
   powers k i j = sup k (λ k. power n (meant t) k i j)
 
-  pub powers-none : n ≤ 6 → Holds n n (powers 0) (replicate 6 (replicate 6 0))
+  pub powers-none : n ≤ size-limit → Holds n n (powers 0) (replicate 6 (replicate 6 0))
   unfolding powers meant
   powers-none six = record {
     at = λ i j hi hj. ap (λ (l : List ℕ). entry (getD l j 0)) (getD-replicate 6 i _ [] (omega arith)) ∙

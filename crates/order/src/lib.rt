@@ -4,6 +4,7 @@ ghost use Rattle.maxplus.specs.Entry.{_≼_, unit};
 ghost use Rattle.tables.specs.Held.{meant, Closely, Says};
 ghost use Rattle.order.specs.Closed.{Closed};
 ghost use Rattle.sheet.specs.Sizes.{order-limit};
+ghost use Rattle.cue.specs.Sizes.{size-limit};
 use tables::identity;
 use tables::joined;
 use tables::product;
@@ -11,7 +12,7 @@ use tables::product;
 // "Timings that keep the order exist exactly when no diagonal entry of powers 1 to n is above 0." Then the lent table is M*, "the sum of the
 // powers 0 to n − 1 of the after table".
 pub fn closed(after: &[[u64; 6]; 6], star: &mut [[u64; 6]; 6], n: usize) -> bool
-    requires { ⌜ (n ≤ 6) × Closely n n order-limit (now after) ⌝ }
+    requires { ⌜ (n ≤ size-limit) × Closely n n order-limit (now after) ⌝ }
     ensures { λ r. ⌜ Closed n (meant (now (after .entry))) (now (star .exit)) r ⌝ }
 {
     let blank = [0u64; 6];
@@ -32,7 +33,7 @@ pub fn closed(after: &[[u64; 6]; 6], star: &mut [[u64; 6]; 6], n: usize) -> bool
 
 // No diagonal entry is above 0.
 fn diagonal_low(power: &[[u64; 6]; 6], n: usize) -> bool
-    requires { ⌜ n ≤ 6 ⌝ }
+    requires { ⌜ n ≤ size-limit ⌝ }
     ensures { λ r. ⌜ Says ((i : ℕ) → i < n → meant (now (power .entry)) i i ≼ unit) r ⌝ }
 {
     let zero = words::positive(0);

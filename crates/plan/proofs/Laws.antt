@@ -39,9 +39,10 @@ use Rattle.planning.proofs.PlanLaws.{planning-refused, planning-8, planning-lis
 use Rattle.advice.proofs.AdviceLaws.{advised}
 use Rattle.plan.specs.Output.{complaint, program-complaint}
 use Rattle.cue.specs.Written.{line-size}
+use Rattle.cue.specs.Sizes.{size-limit}
 
 abbrev pub Sound : ℕ → PlanOutcome → Type 0
-Sound room (planned n D k l L) = (n ≤ 6) × (length L ≤ room) × Fitting n L
+Sound room (planned n D k l L) = (n ≤ size-limit) × (length L ≤ room) × Fitting n L
 Sound room (full k) = 1 ≤ k
 Sound room (refused k) = (1 ≤ k) × (k ≤ 8)
 
@@ -63,7 +64,8 @@ pub planning-sound : (s : List ℕ) (space : List ℤ) → Sound (length space /
 planning-sound s space = go (read s) refl
   where
     ordered-by : (t : Sheet) (r : List ℕ) → read s ≡ got t r → Dec (Orderly t) → Sound (length space / line-size) (planning s space)
-    ordered-by t r e (yes np) = subst (Sound (length space / line-size)) (planning-listed s space t r e np) (listed-sound (length space / line-size) t (read-good s t r e) np)
+    ordered-by t r e (yes np) =
+        subst (Sound (length space / line-size)) (planning-listed s space t r e np) (listed-sound (length space / line-size) t (read-good s t r e) np)
     ordered-by t r e (no f) = subst (Sound (length space / line-size)) (sym (planning-8 s space t r e f)) (omega arith, omega arith)
 
     go : (g : Got Sheet) → read s ≡ g → Sound (length space / line-size) (planning s space)
@@ -77,7 +79,8 @@ pub record Lists (o : PlanOutcome) (space : List ℤ) (p : CuePlan) : Type 0 whe
   pub stands : Stands (p .triggers) (p .count) (space-after o space) list
   pub text-is : plan-text (p .triggers) (p .deviation) (p .steps) (p .selections) list ≡ text o
 
-full-of : (room : ℕ) (o : PlanOutcome) → ¬ (plan-answer o .refusal ≡ 0) → ¬ (plan-answer o .count ≡ 0) → full-text (plan-answer o .count) ≡ text o
+full-of : (room : ℕ) (o : PlanOutcome) → ¬ (plan-answer o .refusal ≡ 0) → ¬ (plan-answer o .count ≡ 0) →
+    full-text (plan-answer o .count) ≡ text o
 unfolding text
 full-of room (planned n D k l L) h g = absurd (h refl)
 full-of room (full k) h g = refl
@@ -90,7 +93,8 @@ refusal-of room (planned n D k l L) q h g = absurd (h refl)
 refusal-of room (full k) q h g = let x : ⊥ = omega arith in absurd x
 refusal-of room (refused k) q h g = refl
 
-few-of : (room : ℕ) (o : PlanOutcome) → Sound room o → plan-answer o .refusal ≡ 0 → (plan-answer o .triggers ≤ 6) × (plan-answer o .count ≤ room)
+few-of : (room : ℕ) (o : PlanOutcome) → Sound room o → plan-answer o .refusal ≡ 0 →
+    (plan-answer o .triggers ≤ size-limit) × (plan-answer o .count ≤ room)
 few-of room (planned n D k l L) q h = (q .0, q .1)
 few-of room (full k) q h = let x : ⊥ = omega arith in absurd x
 few-of room (refused k) q h = let n = q .0 in let x : ⊥ = omega arith in absurd x
@@ -129,8 +133,8 @@ module _ (s : List ℕ) (space : List ℤ) (sized : length space ≡ 14000) (p :
   refusal-out = subst (λ (p : CuePlan). ¬ (p .refusal ≡ 0) → p .count ≡ 0 → refusal-text (p .refusal) ≡ program-text s) (sym e)
       (λ h g. rw (← program-is) (refusal-of 2000 (planning s space) sound h g))
 
-  pub few-out : p .refusal ≡ 0 → (p .triggers ≤ 6) × (p .count ≤ 2000)
-  few-out = subst (λ (p : CuePlan). p .refusal ≡ 0 → (p .triggers ≤ 6) × (p .count ≤ 2000)) (sym e) (few-of 2000 (planning s space) sound)
+  pub few-out : p .refusal ≡ 0 → (p .triggers ≤ size-limit) × (p .count ≤ 2000)
+  few-out = subst (λ (p : CuePlan). p .refusal ≡ 0 → (p .triggers ≤ size-limit) × (p .count ≤ 2000)) (sym e) (few-of 2000 (planning s space) sound)
 
   lists : p .refusal ≡ 0 → Lists (planning s space) space p
   lists = subst (λ (p : CuePlan). p .refusal ≡ 0 → Lists (planning s space) space p) (sym e) (lists-of 2000 (planning s space) space sound)

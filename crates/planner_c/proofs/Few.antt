@@ -21,11 +21,12 @@ use Rattle.planning.specs.Planning.{planned, full, plan-of, planning, plan-answ
 use Rattle.keeping.specs.Keeping.{kept-of, keeping, kept-answer}
 use Rattle.sheet.specs.Ordered.{ordered}
 use Rattle.cue.specs.Written.{line-size}
+use Rattle.cue.specs.Sizes.{size-limit}
 
 module _ (s : List ℕ) where
   abbrev Sized : Got Sheet → Type 0
   Sized (sheet.refused k) = Unit {0}
-  Sized (got t r) = (t .triggers ≤ 6) × (t .panels ≤ 6)
+  Sized (got t r) = (t .triggers ≤ size-limit) × (t .panels ≤ size-limit)
 
   sized : Sized (ordered s)
   unfolding ordered
@@ -55,11 +56,11 @@ module _ (s : List ℕ) where
       go (got t r) (hn, hm) = either _ _ _ _ (lines (t .triggers) (cue-of t)) (leb (length (lines (t .triggers) (cue-of t))) (length space / line-size))
           (lines-few (t .triggers) (cue-of t) hn hm)
 
-  pub panels-few : kept-answer (keeping s) .panels ≤ 6
+  pub panels-few : kept-answer (keeping s) .panels ≤ size-limit
   unfolding keeping
   panels-few = go (ordered s) sized
     where
-      go : (g : Got Sheet) → Sized g → kept-answer (kept-of g) .panels ≤ 6
+      go : (g : Got Sheet) → Sized g → kept-answer (kept-of g) .panels ≤ size-limit
       go (sheet.refused k) z = omega arith
       go (got t r) (hn, hm) =
           let n = t .triggers in

@@ -5,6 +5,7 @@ ghost use lib.IntN.{pos};
 ghost use lib.ListN.{getD, set};
 ghost use lib.Seq.{sets};
 ghost use Rattle.planner_c.specs.Words.{pairs, plan-words, kept-words, six-times};
+ghost use Rattle.cue.specs.Sizes.{size-limit};
 use keeping::KeptTable;
 use planning::CuePlan;
 
@@ -46,7 +47,7 @@ pub fn write_plan(lent: &mut [i64], r: CuePlan)
 }
 
 pub fn write_kept(lent: &mut [i64], r: KeptTable)
-    requires { ⌜ r .panels ≤ 6 ⌝ }
+    requires { ⌜ r .panels ≤ size-limit ⌝ }
     ensures { λ _. ⌜ now (lent .exit) ≡ kept-words r (now (lent .entry)) ⌝ }
 {
     if r.refusal == 0 {

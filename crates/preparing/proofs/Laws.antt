@@ -16,22 +16,23 @@ use Rattle.maxplus.proofs.FiniteLaws.{in-at}
 use Rattle.maxplus.proofs.EachLaws.{map-at}
 use Rattle.maxplus.proofs.EntryLaws.{inv-num, absent-not}
 use Rattle.cue.proofs.Walk.{in-floor-panels, floor-panels-few}
-use Rattle.cue.specs.Cue.{Cue}
+use Rattle.cue.specs.Cue.{Cue, overdue, shortfall}
 use Rattle.cue.specs.Method.{through, pull, least, ask, kept, kept-byte, floor-panels, serves-as-well}
 use Rattle.words.specs.Words.{entry, far, Close, Near}
 use Rattle.sheet.specs.Sheet.{limit}
 use Rattle.sheet.specs.Sizes.{star-size, through-size, mark-down, least-up}
 use Rattle.tables.specs.Held.{meant, meantV, HoldsV, Closely, CloselyV}
-use Rattle.thresholds.specs.Steps.{pull-of, least-of, kept-of, KeptBytes, floored}
+use Rattle.thresholds.specs.Thresholds.{kept-of, KeptBytes, floored}
 use Rattle.preparing.proofs.Results.{floors-close, dues-close, star-close, through-close, pulls-held, pulls-close}
 use Rattle.preparing.proofs.Results.{least-held, least-close, kept-held, floored-is, level-floored, kept-bit, kept-small}
 use Rattle.words.proofs.Laws.{word-order, close-more, close-minus, entry-zero}
 use Rattle.trigger_sets.specs.Sets.{bit}
 use Rattle.walk.specs.Follows.{Follows}
-use Rattle.preparing.specs.Levels.{PackedAs, LevelsNear, Compared}
-use Rattle.preparing.specs.declared.Cue as words
+use Rattle.preparing.specs.Levels.{PackedAs, LevelsNear, LevelTables}
+use Rattle.preparing.specs.declared.CueWords.{CueWords}
 use Rattle.preparing.specs.Prepared.{Fit, MarkedAs}
 use Rattle.preparing.specs.declared.Packed.{Packed}
+use Rattle.cue.specs.Sizes.{size-limit}
 
 positive : (v : ℕ) {z : ℤ} → entry v ≡ num z → 0 < v
 positive zero e = absurd (absent-not (sym entry-zero ∙ e))
@@ -41,7 +42,7 @@ not-empty : (l : List ℕ) (i : ℕ) → In i l → 0 < length l
 not-empty [] i h = absurd h
 not-empty (k ∷ l) i h = omega arith
 
-module _ {P : Cue} {c : words.Cue} {orders lags stars throughs : List (List ℕ)} (F : Fit P c orders lags stars throughs) where
+module _ {P : Cue} {c : CueWords} {orders lags stars throughs : List (List ℕ)} (F : Fit P c orders lags stars throughs) where
   abbrev n : ℕ
   n = c .triggers
 
@@ -51,17 +52,17 @@ module _ {P : Cue} {c : words.Cue} {orders lags stars throughs : List (List ℕ)
   abbrev panels : List ℕ
   panels = floor-panels n P
 
-  pub six-panels : c .panels ≤ 6
+  pub six-panels : c .panels ≤ size-limit
   six-panels = rw (F .held .panels-are) (F .held .few-panels)
 
   pub floors-near : CloselyV (c .panels) limit (c .floor)
   floors-near = rw (F .held .panels-are) (floors-close (F .held))
 
   -- ---- the pulls
-  pub pulls-ask : (c .triggers ≤ 6) × Closely (c .triggers) (c .triggers) star-size stars × CloselyV (c .triggers) limit (c .due)
+  pub pulls-ask : (c .triggers ≤ size-limit) × Closely (c .triggers) (c .triggers) star-size stars × CloselyV (c .triggers) limit (c .due)
   pulls-ask = (F .held .few, star-close (F .held) (F .starred), dues-close (F .held))
 
-  module _ {u : List ℕ} (hu : HoldsV (c .triggers) (pull-of (c .triggers) (meant stars) (meantV (c .due))) u) where
+  module _ {u : List ℕ} (hu : HoldsV (c .triggers) (λ j. overdue (c .triggers) (meantV (c .due)) (λ i. meant stars i j)) u) where
     pulled : HoldsV n (λ j. num (pull n P j)) u
     pulled = pulls-held (F .held) (F .starred) hu
 
@@ -69,18 +70,18 @@ module _ {P : Cue} {c : words.Cue} {orders lags stars throughs : List (List ℕ)
     pulls-near = pulls-close (F .held) pulled
 
     -- ---- Δ
-    pub least-ask : (c .panels ≤ 6) × (c .triggers ≤ 6) × Closely (c .panels) (c .triggers) through-size throughs ×
+    pub least-ask : (c .panels ≤ size-limit) × (c .triggers ≤ size-limit) × Closely (c .panels) (c .triggers) through-size throughs ×
         CloselyV (c .triggers) mark-down u × CloselyV (c .panels) limit (c .floor)
     least-ask = (six-panels, F .held .few, rw (F .held .panels-are) (through-close (F .held) (F .reached)), pulls-near, floors-near)
 
-    module _ (e : ℕ) (he : entry e ≡ least-of (c .panels) (c .triggers) (meant throughs) (meantV u) (meantV (c .floor))) where
+    module _ (e : ℕ) (he : entry e ≡ shortfall (c .panels) (c .triggers) (meant throughs) (meantV (c .floor)) (λ j. inv (meantV u j))) where
       pub deviation-is : entry e ≡ num (least (c .triggers) P)
       deviation-is = least-held (F .held) (F .reached) pulled (F .order) e (rw (F .held .panels-are) at he)
 
       pub least-near : Close least-up e
       least-near = least-close (F .held) (F .reached) pulled (F .order) e deviation-is
 
-      pub asks-ask : (c .panels ≤ 6) × CloselyV (c .panels) far (c .floor) × Near e
+      pub asks-ask : (c .panels ≤ size-limit) × CloselyV (c .panels) far (c .floor) × Near e
       asks-ask = (six-panels, record { at = λ i h. close-more (omega arith) (floors-near .at i h) }, close-more (omega arith) least-near)
 
       -- ---- the kept triggers, packed by levels
@@ -99,7 +100,7 @@ module _ {P : Cue} {c : words.Cue} {orders lags stars throughs : List (List ℕ)
         many : k .panels ≡ length panels
         many = hk .many ∙ ap length floored-are
 
-        pub levels-few : k .panels ≤ 6
+        pub levels-few : k .panels ≤ size-limit
         levels-few = rw many (let a = floor-panels-few n P in let b = F .held .few-panels in omega arith)
 
         some : 0 < k .panels
@@ -151,7 +152,7 @@ module _ {P : Cue} {c : words.Cue} {orders lags stars throughs : List (List ℕ)
 
           -- ---- what the walk compares, and what step 6's w is made of
           module _ {gains needs : List (List ℕ)}
-              (C : Compared (k .panels) (c .triggers) (meant throughs) (meantV (c .floor)) (meantV a) (k .at) gains needs) where
+              (C : LevelTables (k .panels) (c .triggers) (meant throughs) (meantV (c .floor)) (meantV a) (k .at) gains needs) where
             gain-is : (l j : ℕ) → l < k .panels → j < n → meant gains l j ≡ through n P (getD panels l 0) j ⊗ inv (P .floor (getD panels l 0))
             gain-is l j h hj = C .gained .at l j h hj ∙
                 ap₂ (λ a p. a ⊗ inv p) (F .reached .at _ j (panel-there l h) hj) (F .held .floors-are .at _ (panel-there l h)) ∙

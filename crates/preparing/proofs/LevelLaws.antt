@@ -13,9 +13,10 @@ use Rattle.maxplus.specs.Tables.{Vec}
 use Rattle.maxplus.proofs.EachLaws.{map-append}
 use Rattle.words.specs.Words.{entry}
 use Rattle.tables.specs.Held.{meant, meantV, HoldsV}
-use Rattle.thresholds.specs.Steps.{floored}
+use Rattle.thresholds.specs.Thresholds.{floored}
 use Rattle.preparing.specs.Levels.{PackedAs}
 use Rattle.tables.proofs.Loops.{blank-word}
+use Rattle.cue.specs.Sizes.{size-limit}
 
 module _ (kept : List ℕ) (p : Vec) where
   -- the panels below i are packed into f places
@@ -64,7 +65,7 @@ module _ (kept : List ℕ) (p : Vec) where
     past = k .past;
   }
 
-  pub packing-all : (bytes at : List ℕ) (f i m : ℕ) → m ≤ 6 → i ≡ m → Packing bytes at f i →
+  pub packing-all : (bytes at : List ℕ) (f i m : ℕ) → m ≤ size-limit → i ≡ m → Packing bytes at f i →
       PackedAs kept (floored m p) (record { panels = f; kept = bytes; at = at })
   packing-all bytes at f i m h e k = rw (← e) (record {
     size = k .bytes-size;

@@ -24,11 +24,12 @@ use Rattle.rows.specs.declared.Row.{Row}
 use Rattle.tables.specs.Held.{meant, Holds, Closely}
 use Rattle.tables.proofs.SquareLaws.{closely-more}
 use Rattle.order.specs.Closed.{Closed}
-use Rattle.preparing.specs.declared.Cue.{Cue}
+use Rattle.preparing.specs.declared.CueWords.{CueWords}
 use Rattle.preparing.specs.declared.Marked.{Marked}
 use Rattle.preparing.specs.declared.Prepared.{Prepared}
-use Rattle.preparing.specs.Prepared.{Worded, CueWords, Fit, Tabled, MarkedAs, Made, Ready}
+use Rattle.preparing.specs.Prepared.{Worded, HoldsCue, Fit, Tabled, MarkedAs, Made, PreparedAs}
 use Rattle.preparing.proofs.Results.{strip-held, grid-held, dues-held, lags-close, orders-close, star-held, star-close, through-held, order-says}
+use Rattle.cue.specs.Sizes.{size-limit}
 
 -- ---- what reading answers
 module _ (s : List ℕ) (R : Reading) (e : R ≡ answer (read s)) where
@@ -48,21 +49,21 @@ module _ (s : List ℕ) (R : Reading) (e : R ≡ answer (read s)) where
 
 -- ---- the words of a good sheet's cue
 -- rows of words as a table
-abbrev Rows : List Row → List (List ℕ) → Type 0
-Rows rows table = (i : ℕ) → i < 6 → getD table i [] ≡ getD rows i (record { at = [] }) .at
+abbrev SameRows : List Row → List (List ℕ) → Type 0
+SameRows rows table = (i : ℕ) → i < 6 → getD table i [] ≡ getD rows i (record { at = [] }) .at
 
 module _ {s : spec.Sheet} {t : SheetWords} (W : Worded s t) where
   pub triggers-of : t .triggers ≡ s .triggers
   triggers-of = rw (W .words)
 
-  pub cue-words : (orders lags : List (List ℕ)) → Rows (t .after) orders → Rows (t .lag) lags →
-      CueWords (cue-of s) orders lags (record { triggers = t .triggers; panels = t .panels; floor = t .floor; due = t .due })
-  cue-words orders lags = subst (λ t. Rows (t .after) orders → Rows (t .lag) lags →
-      CueWords (cue-of s) orders lags (record { triggers = t .triggers; panels = t .panels; floor = t .floor; due = t .due })) (sym (W .words))
+  pub cue-words : (orders lags : List (List ℕ)) → SameRows (t .after) orders → SameRows (t .lag) lags →
+      HoldsCue (cue-of s) orders lags (record { triggers = t .triggers; panels = t .panels; floor = t .floor; due = t .due })
+  cue-words orders lags = subst (λ t. SameRows (t .after) orders → SameRows (t .lag) lags →
+      HoldsCue (cue-of s) orders lags (record { triggers = t .triggers; panels = t .panels; floor = t .floor; due = t .due })) (sym (W .words))
       (by-good (W .good))
     where
-      by-good : Good s → let t = answer (got s []) .sheet in Rows (t .after) orders → Rows (t .lag) lags →
-          CueWords (cue-of s) orders lags (record { triggers = t .triggers; panels = t .panels; floor = t .floor; due = t .due })
+      by-good : Good s → let t = answer (got s []) .sheet in SameRows (t .after) orders → SameRows (t .lag) lags →
+          HoldsCue (cue-of s) orders lags (record { triggers = t .triggers; panels = t .panels; floor = t .floor; due = t .due })
       by-good G ha hl = record {
         some = G .triggers-some;
         few = G .triggers-few;
@@ -77,8 +78,8 @@ module _ {s : spec.Sheet} {t : SheetWords} (W : Worded s t) where
       }
 
 -- ---- the order check, M* and d
-module _ {P : theory.Cue} {orders lags : List (List ℕ)} {c : Cue} (H : CueWords P orders lags c) where
-  pub closed-asks : (c .triggers ≤ 6) × Closely (c .triggers) (c .triggers) order-limit orders
+module _ {P : theory.Cue} {orders lags : List (List ℕ)} {c : CueWords} (H : HoldsCue P orders lags c) where
+  pub closed-asks : (c .triggers ≤ size-limit) × Closely (c .triggers) (c .triggers) order-limit orders
   closed-asks = (H .few, orders-close H)
 
   pub untabled : {stars throughs : List (List ℕ)} → ¬ (NoGain (c .triggers) (meant orders)) → Tabled P c orders lags stars throughs false
@@ -88,7 +89,8 @@ module _ {P : theory.Cue} {orders lags : List (List ℕ)} {c : Cue} (H : CueWord
     starred : Holds (c .triggers) (c .triggers) (star (c .triggers) (P .order)) stars
     starred = star-held H (C .starred np)
 
-    pub product-asks : (c .panels ≤ 6) × (c .triggers ≤ 6) × Closely (c .panels) (c .triggers) far lags × Closely (c .triggers) (c .triggers) far stars
+    pub product-asks : (c .panels ≤ size-limit) × (c .triggers ≤ size-limit) × Closely (c .panels) (c .triggers) far lags ×
+        Closely (c .triggers) (c .triggers) far stars
     product-asks = (
       rw (H .panels-are) (H .few-panels),
       H .few,
@@ -110,12 +112,12 @@ module _ {P : theory.Cue} {orders lags : List (List ℕ)} {c : Cue} (H : CueWord
 
 -- ---- what is ready
 module _ {g : Got spec.Sheet} {orders lags stars gains needs : List (List ℕ)} where
-  pub unready : {r : Prepared} (k : ℕ) → r .refusal ≡ k → ¬ (k ≡ 0) → g ≡ refused k → Ready g orders lags stars gains needs r
+  pub unready : {r : Prepared} (k : ℕ) → r .refusal ≡ k → ¬ (k ≡ 0) → g ≡ refused k → PreparedAs g orders lags stars gains needs r
   unready k e h q = record { refusal = λ _. q ∙ ap refused (sym e); made = λ z. absurd (h (sym e ∙ z)) }
 
-  pub readied : {c : Cue} {r : Marked} (s : spec.Sheet) (x : List ℕ) → g ≡ got s x → c .triggers ≡ cue-size s →
-      CueWords (cue-of s) orders lags c → NoGain (c .triggers) (cue-of s .order) → MarkedAs (c .triggers) (cue-of s) lags stars gains needs r →
-      Ready g orders lags stars gains needs (record { refusal = 0; cue = c; marked = r })
+  pub readied : {c : CueWords} {r : Marked} (s : spec.Sheet) (x : List ℕ) → g ≡ got s x → c .triggers ≡ cue-size s →
+      HoldsCue (cue-of s) orders lags c → NoGain (c .triggers) (cue-of s .order) → MarkedAs (c .triggers) (cue-of s) lags stars gains needs r →
+      PreparedAs g orders lags stars gains needs (record { refusal = 0; cue = c; marked = r })
   readied {c} {r} s x e q H np M =
       record {
         refusal = λ h. absurd (h refl);

@@ -31,24 +31,26 @@ use Rattle.cue.proofs.Bounds.{Within, star-within, through-within, pull-within,
 use Rattle.tables.specs.Held.{meant, meantV, Holds, HoldsV, Closely, CloselyV, Says}
 use Rattle.trigger_sets.specs.Sets.{bit, byte-of}
 use Rattle.trigger_sets.proofs.ByteLaws.{byte-ext, byte-small, byte-ones, byte-bit}
-use Rattle.thresholds.specs.Steps.{pull-of, landing-of, least-of, reaches, kept-of, KeptBytes, floored}
+use Rattle.thresholds.specs.Thresholds.{reaches, kept-of, KeptBytes, floored}
 use Rattle.sheet.specs.Cue.{cue-of}
 use Rattle.tables.proofs.SquareLaws.{close-within, closely-within, closely-withinV}
 use Rattle.order.proofs.OrderLaws.{mm-held}
 use Rattle.sheet.specs.Good.{Good}
-use Rattle.preparing.specs.declared.Cue as words
-use Rattle.preparing.specs.Prepared.{CueWords}
+use Rattle.preparing.specs.declared.CueWords.{CueWords}
+use Rattle.preparing.specs.Prepared.{HoldsCue}
+use Rattle.cue.specs.Sizes.{size-limit}
 
 -- ---- the arrays of a sheet that was read
 word-held : (e : E) → Within limit limit e → entry (word e) ≡ e
 word-held e w = entry-word e (λ z q. let b = w .low .above z q in omega arith)
 
-pub strip-held : {n : ℕ} (x : Vec) → n ≤ 6 → ((j : ℕ) → j < n → Within limit limit (x j)) → HoldsV n x (strip x)
+pub strip-held : {n : ℕ} (x : Vec) → n ≤ size-limit → ((j : ℕ) → j < n → Within limit limit (x j)) → HoldsV n x (strip x)
 unfolding meantV
 strip-held x six w = record { at = λ j h. ap entry (strip-at x j (omega arith)) ∙ word-held (x j) (w j h) }
 
 -- r is the table of the rows of A
-pub grid-held : {m n : ℕ} (A : Mat) (r : List (List ℕ)) → m ≤ 6 → n ≤ 6 → ((i j : ℕ) → i < m → j < n → Within limit limit (A i j)) →
+pub grid-held : {m n : ℕ} (A : Mat) (r : List (List ℕ)) → m ≤ size-limit → n ≤ size-limit →
+    ((i j : ℕ) → i < m → j < n → Within limit limit (A i j)) →
     ((i : ℕ) → i < 6 → getD r i [] ≡ getD (grid A) i (record { at = [] }) .at) → Holds m n A r
 unfolding meant
 grid-held A r six few w h = record {
@@ -77,11 +79,11 @@ power-ext n A B h (suc k) i j hi hj = sup-ext n (λ l hl. ap₂ _⊗_ (h i l hi 
 -- ---- the bits of a kept byte, for any tables
 module _ (n : ℕ) (P : Cue) (D : ℤ) (i : ℕ) where
   -- bit j is set exactly when trigger j is kept; no other bit is
-  pub kept-bit : (j : ℕ) → n ≤ 6 → j < 6 → bit (kept-byte n P D i) j ≡ ltb j n && kept n P D i j
+  pub kept-bit : (j : ℕ) → n ≤ size-limit → j < 6 → bit (kept-byte n P D i) j ≡ ltb j n && kept n P D i j
   unfolding kept-byte
   kept-bit j six h = unfold byte-of in byte-bit n (kept n P D i) j six h
 
-  pub kept-small : n ≤ 6 → kept-byte n P D i < 64
+  pub kept-small : n ≤ size-limit → kept-byte n P D i < 64
   unfolding kept-byte
   kept-small six = unfold byte-of in byte-small n (kept n P D i) six
 
@@ -89,7 +91,7 @@ module _ (n : ℕ) (P : Cue) (D : ℤ) (i : ℕ) where
   unfolding kept-byte kept-count
   kept-ones = unfold byte-of in byte-ones n (kept n P D i)
 
-module _ {P : Cue} {orders lags : List (List ℕ)} {c : words.Cue} (H : CueWords P orders lags c) where
+module _ {P : Cue} {orders lags : List (List ℕ)} {c : CueWords} (H : HoldsCue P orders lags c) where
   abbrev n : ℕ
   n = c .triggers
 
@@ -131,9 +133,9 @@ module _ {P : Cue} {orders lags : List (List ℕ)} {c : words.Cue} (H : CueWords
   pub through-close : {d : List (List ℕ)} → Holds (P .panels) n (through n P) d → Closely (P .panels) n through-size d
   through-close h = closely-within (omega arith) (omega arith) h (through-within n 5 limit order-limit P (H .limited) (H .few))
 
-  pub pulls-held : {s : List (List ℕ)} {u : List ℕ} → Holds n n (star n (P .order)) s → HoldsV n (pull-of n (meant s) (meantV (c .due))) u →
-      HoldsV n (λ j. num (pull n P j)) u
-  unfolding pull-of pullE overdue
+  pub pulls-held : {s : List (List ℕ)} {u : List ℕ} → Holds n n (star n (P .order)) s →
+      HoldsV n (λ j. overdue n (meantV (c .due)) (λ i. meant s i j)) u → HoldsV n (λ j. num (pull n P j)) u
+  unfolding pullE overdue
   pulls-held hs hu = record {
     at = λ j hj. hu .at j hj ∙ sup-ext n (λ i hi. ap₂ _⊗_ (hs .at i j hi hj) (ap inv (H .dues-are .at i hi))) ∙ pull-is n P j hj;
   }
@@ -155,8 +157,8 @@ module _ {P : Cue} {orders lags : List (List ℕ)} {c : words.Cue} (H : CueWords
 
   module _ {d : List (List ℕ)} {u : List ℕ} (hd : Holds (P .panels) n (through n P) d) (hu : HoldsV n (λ j. num (pull n P j)) u) where
     -- ---- step 3
-    landing-is : (i : ℕ) → i < P .panels → landing-of n (meant d) (meantV u) i ≡ mv n (through n P) (timing (mark n P)) i
-    unfolding landing-of mv
+    landing-is : (i : ℕ) → i < P .panels → mv n (meant d) (λ j. inv (meantV u j)) i ≡ mv n (through n P) (timing (mark n P)) i
+    unfolding mv
     landing-is i hi = sup-ext n (λ j hj. ap₂ _⊗_ (hd .at i j hi hj) (ap inv (hu .at j hj) ∙ inv-num (pull n P j)))
 
     module _ (np : NoGain n (P .order)) where
@@ -168,8 +170,9 @@ module _ {P : Cue} {orders lags : List (List ℕ)} {c : words.Cue} (H : CueWords
           same = unfold shortfall in
               sup-ext (P .panels) (λ i hi. ap (λ e. P .floor i ⊗ inv e) (sym (mv-through n P (timing (mark n P)) (mark-keeps n P np) i)))
 
-      pub least-held : (e : ℕ) → entry e ≡ least-of (P .panels) n (meant d) (meantV u) (meantV (c .floor)) → entry e ≡ num (least n P)
-      unfolding least-of leastE shortfall
+      pub least-held : (e : ℕ) → entry e ≡ shortfall (P .panels) n (meant d) (meantV (c .floor)) (λ j. inv (meantV u j)) →
+          entry e ≡ num (least n P)
+      unfolding leastE shortfall
       least-held e h = h ∙ sup-ext (P .panels) (λ i hi. ap₂ (λ p l. p ⊗ inv l) (H .floors-are .at i hi) (landing-is i hi)) ∙
           unfold leastE shortfall in least-is
 

@@ -26,6 +26,6 @@ pub record LevelsNear (f n : ℕ) (through : List (List ℕ)) (floor asks at : L
   pub ask-near : (l : ℕ) → l < f → Near (getD asks (getD at l 0) 0)
 
 -- row l of gains has d(i,j) − p(i), and row l of needs p(i) − Δ − d(i,j), for the l-th panel i; a is p − Δ
-pub record Compared (f n : ℕ) (D : Mat) (p a : Vec) (at : List ℕ) (gains needs : List (List ℕ)) : Type 0 where
+pub record LevelTables (f n : ℕ) (D : Mat) (p a : Vec) (at : List ℕ) (gains needs : List (List ℕ)) : Type 0 where
   pub gained : Holds f n (λ l j. D (getD at l 0) j ⊗ inv (p (getD at l 0))) gains
   pub needed : Holds f n (λ l j. a (getD at l 0) ⊗ inv (D (getD at l 0) j)) needs

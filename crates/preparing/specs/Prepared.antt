@@ -20,10 +20,11 @@ use Rattle.reading.specs.Reading.{answer}
 use Rattle.reading.specs.declared.SheetWords.{SheetWords}
 use Rattle.tables.specs.Held.{Holds, HoldsV, Says}
 use Rattle.walk.specs.Follows.{Follows}
-use Rattle.candidates.specs.Prepared as drawing
-use Rattle.preparing.specs.declared.Cue.{Cue}
+use Rattle.candidates.specs.Drawable.{Drawable}
+use Rattle.preparing.specs.declared.CueWords.{CueWords}
 use Rattle.preparing.specs.declared.Marked.{Marked}
 use Rattle.preparing.specs.declared.Prepared.{Prepared}
+use Rattle.cue.specs.Sizes.{size-limit}
 
 -- the words of a good sheet s
 pub record Worded (s : spec.Sheet) (t : SheetWords) : Type 0 where
@@ -31,10 +32,10 @@ pub record Worded (s : spec.Sheet) (t : SheetWords) : Type 0 where
   pub good : Good s
 
 -- the words of a cue P that can be planned
-pub record CueWords (P : theory.Cue) (orders lags : List (List ℕ)) (c : Cue) : Type 0 where
+pub record HoldsCue (P : theory.Cue) (orders lags : List (List ℕ)) (c : CueWords) : Type 0 where
   pub some : 0 < c .triggers
-  pub few : c .triggers ≤ 6
-  pub few-panels : P .panels ≤ 6
+  pub few : c .triggers ≤ size-limit
+  pub few-panels : P .panels ≤ size-limit
   pub panels-are : c .panels ≡ P .panels
   pub readable : Readable (c .triggers) P
   pub limited : Limited (c .triggers) limit order-limit P
@@ -44,14 +45,14 @@ pub record CueWords (P : theory.Cue) (orders lags : List (List ℕ)) (c : Cue) :
   pub orders-are : Holds (c .triggers) (c .triggers) (P .order) orders
 
 -- and its order can be kept; two more tables hold M* and d
-pub record Fit (P : theory.Cue) (c : Cue) (orders lags stars throughs : List (List ℕ)) : Type 0 where
-  pub held : CueWords P orders lags c
+pub record Fit (P : theory.Cue) (c : CueWords) (orders lags stars throughs : List (List ℕ)) : Type 0 where
+  pub held : HoldsCue P orders lags c
   pub order : NoGain (c .triggers) (P .order)
   pub starred : Holds (c .triggers) (c .triggers) (star (c .triggers) (P .order)) stars
   pub reached : Holds (P .panels) (c .triggers) (through (c .triggers) P) throughs
 
 -- whether it can, and then these tables
-pub record Tabled (P : theory.Cue) (c : Cue) (orders lags stars throughs : List (List ℕ)) (r : Bool) : Type 0 where
+pub record Tabled (P : theory.Cue) (c : CueWords) (orders lags stars throughs : List (List ℕ)) (r : Bool) : Type 0 where
   pub order : Says (NoGain (c .triggers) (P .order)) r
   pub fit : NoGain (c .triggers) (P .order) → Fit P c orders lags stars throughs
 
@@ -65,19 +66,19 @@ pub record MarkedAs (n : ℕ) (P : theory.Cue) (lags stars gains needs : List (L
   pub bytes : (i : ℕ) → i < P .panels → getD (r .kept) i 0 ≡ kept-byte n P (least n P) i
   pub past : (i : ℕ) → P .panels ≤ i → getD (r .kept) i 0 ≡ 0
   pub some-levels : 0 < r .marks .levels
-  pub few-levels : r .marks .levels ≤ 6
+  pub few-levels : r .marks .levels ≤ size-limit
   pub masks-size : length (r .marks .kept) ≡ 6
   pub follows : Follows n P (least n P) (r .marks .levels) (r .marks .kept) gains (floor-panels n P)
-  pub prepared : drawing.Prepared (r .marks .triggers) P (r .marks) stars lags needs
+  pub prepared : Drawable (r .marks .triggers) P (r .marks) stars lags needs
 
 -- a sheet whose order can be kept, with all that is made from it
 pub record Made (s : spec.Sheet) (orders lags stars gains needs : List (List ℕ)) (r : Prepared) : Type 0 where
   pub sized : r .cue .triggers ≡ cue-size s
-  pub held : CueWords (cue-of s) orders lags (r .cue)
+  pub held : HoldsCue (cue-of s) orders lags (r .cue)
   pub order : NoGain (cue-size s) (cue-of s .order)
   pub marked : MarkedAs (cue-size s) (cue-of s) lags stars gains needs (r .marked)
 
 -- what reading and the order check came to: a refusal, or a sheet with all that is made from it
-pub record Ready (g : Got spec.Sheet) (orders lags stars gains needs : List (List ℕ)) (r : Prepared) : Type 0 where
+pub record PreparedAs (g : Got spec.Sheet) (orders lags stars gains needs : List (List ℕ)) (r : Prepared) : Type 0 where
   pub refusal : ¬ (r .refusal ≡ 0) → g ≡ refused (r .refusal)
   pub made : r .refusal ≡ 0 → (s : spec.Sheet) × (x : List ℕ) × (g ≡ got s x) × Made s orders lags stars gains needs r

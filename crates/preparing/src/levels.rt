@@ -1,16 +1,17 @@
 // Step 5's levels: the panels with a floor, packed to the front in sheet order, and what is compared there.
 ghost use mathlib.Core.Path.{_≡_};
 ghost use Prim.Native.Nat.{_≤_};
-ghost use Rattle.maxplus.specs.Entry.{_⊗_, inv};
-ghost use Rattle.words.specs.Words.{entry, far, Near};
-ghost use Rattle.tables.specs.Held.{meant, meantV, HoldsV, CloselyV};
-ghost use Rattle.thresholds.specs.Steps.{floored};
-ghost use Rattle.preparing.specs.Levels.{PackedAs, LevelsNear, Compared};
+ghost use Rattle.tables.specs.Held.{meant, meantV};
+ghost use Rattle.thresholds.specs.Thresholds.{floored};
+ghost use Rattle.preparing.specs.Levels.{PackedAs, LevelsNear, LevelTables};
+ghost use Rattle.cue.specs.Sizes.{size-limit};
 use crate::Packed;
+use tables::differences::less;
+use tables::differences::rest;
 
 // Packs the panels with a floor.
 pub fn pack(kept: [u8; 6], floor: [u64; 6], m: usize) -> Packed
-    requires { ⌜ m ≤ 6 ⌝ }
+    requires { ⌜ m ≤ size-limit ⌝ }
     ensures { λ r. ⌜ PackedAs kept (floored m (meantV floor)) r ⌝ }
 {
     let mut bytes = [0u8; 6];
@@ -32,34 +33,6 @@ pub fn pack(kept: [u8; 6], floor: [u64; 6], m: usize) -> Packed
     }
 }
 
-// Each entry less one number; absent stays absent.
-pub fn less(row: [u64; 6], x: u64, n: usize) -> [u64; 6]
-    requires { ⌜ (n ≤ 6) × CloselyV n far row × Near x ⌝ }
-    ensures { λ r. ⌜ HoldsV n (λ j. meantV row j ⊗ inv (entry x)) r ⌝ }
-{
-    let mut r = [0u64; 6];
-    let mut j: usize = 0;
-    while j < n {
-        r[j] = words::minus(row[j], x);
-        j += 1;
-    }
-    r
-}
-
-// One number less each entry.
-fn rest(x: u64, row: [u64; 6], n: usize) -> [u64; 6]
-    requires { ⌜ (n ≤ 6) × CloselyV n far row × Near x ⌝ }
-    ensures { λ r. ⌜ HoldsV n (λ j. entry x ⊗ inv (meantV row j)) r ⌝ }
-{
-    let mut r = [0u64; 6];
-    let mut j: usize = 0;
-    while j < n {
-        r[j] = words::minus(x, row[j]);
-        j += 1;
-    }
-    r
-}
-
 // For the panel i of each level what the walk compares, d(i,j) − p(i), and what step 6's w is made of, p(i) − Δ − d(i,j).
 pub fn compared(
     through: &[[u64; 6]; 6],
@@ -71,8 +44,8 @@ pub fn compared(
     gains: &mut [[u64; 6]; 6],
     needs: &mut [[u64; 6]; 6],
 )
-    requires { ⌜ (f ≤ 6) × (n ≤ 6) × LevelsNear f n (now through) floor asks at ⌝ }
-    ensures { λ _. ⌜ Compared f n (meant (now (through .entry))) (meantV floor) (meantV asks) at (now (gains .exit)) (now (needs .exit)) ⌝ }
+    requires { ⌜ (f ≤ size-limit) × (n ≤ size-limit) × LevelsNear f n (now through) floor asks at ⌝ }
+    ensures { λ _. ⌜ LevelTables f n (meant (now (through .entry))) (meantV floor) (meantV asks) at (now (gains .exit)) (now (needs .exit)) ⌝ }
 {
     let blank = [0u64; 6];
     let mut g = [blank; 6];

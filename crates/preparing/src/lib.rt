@@ -9,7 +9,7 @@ ghost use Rattle.sheet.specs.Cue.{cue-size, cue-of};
 ghost use Rattle.sheet.specs.Ordered.{ordered};
 ghost use Rattle.reading.specs.Reading.{answer};
 ghost use Rattle.cue.specs.Cue as theory;
-ghost use Rattle.preparing.specs.Prepared.{Worded, CueWords, Tabled, Ready};
+ghost use Rattle.preparing.specs.Prepared.{Worded, HoldsCue, Tabled, PreparedAs};
 use candidates::Marks;
 use reading::Reading;
 use reading::SheetWords;
@@ -18,7 +18,7 @@ mod levels;
 mod marks;
 
 // A cue's sizes, floors and due marks as words. Its tables, lag and order, are lent beside it.
-pub struct Cue {
+pub struct CueWords {
     pub triggers: usize,
     pub panels: usize,
     pub floor: [u64; 6],
@@ -42,14 +42,14 @@ pub struct Marked {
 // Document 01's refusal, 1 to 8; or 0, the cue and what steps 3 and 4 give.
 pub struct Prepared {
     pub refusal: u8,
-    pub cue: Cue,
+    pub cue: CueWords,
     pub marked: Marked,
 }
 
 // The one place where the words of a sheet become those of its cue: the lent tables are its order and its lags.
-pub fn cue_of(t: SheetWords, order: &mut [[u64; 6]; 6], lag: &mut [[u64; 6]; 6]) -> Cue
+pub fn cue_of(t: SheetWords, order: &mut [[u64; 6]; 6], lag: &mut [[u64; 6]; 6]) -> CueWords
     ensures sized { λ r. ⌜ ((s : spec.Sheet) → Worded s t → r .triggers ≡ cue-size s) ⌝ }
-    ensures held { λ r. ⌜ ((s : spec.Sheet) → Worded s t → CueWords (cue-of s) (now (order .exit)) (now (lag .exit)) r) ⌝ }
+    ensures held { λ r. ⌜ ((s : spec.Sheet) → Worded s t → HoldsCue (cue-of s) (now (order .exit)) (now (lag .exit)) r) ⌝ }
 {
     let after_rows = t.after;
     let afters = tables::table(after_rows);
@@ -59,7 +59,7 @@ pub fn cue_of(t: SheetWords, order: &mut [[u64; 6]; 6], lag: &mut [[u64; 6]; 6])
     *lag = lags;
     let floor = t.floor;
     let due = t.due;
-    Cue {
+    CueWords {
         triggers: t.triggers,
         panels: t.panels,
         floor: floor,
@@ -69,14 +69,14 @@ pub fn cue_of(t: SheetWords, order: &mut [[u64; 6]; 6], lag: &mut [[u64; 6]; 6])
 
 // Whether the order of a cue can be kept, and then M* and d.
 pub fn closed_tables(
-    cue: Cue,
+    cue: CueWords,
     order: &[[u64; 6]; 6],
     lag: &[[u64; 6]; 6],
     star: &mut [[u64; 6]; 6],
     through: &mut [[u64; 6]; 6],
 ) -> bool
-    requires { ⌜ ((P : theory.Cue) × CueWords P (now order) (now lag) cue) ⌝ }
-    ensures { λ r. ⌜ ((P : theory.Cue) → CueWords P (now (order .entry)) (now (lag .entry)) cue →
+    requires { ⌜ ((P : theory.Cue) × HoldsCue P (now order) (now lag) cue) ⌝ }
+    ensures { λ r. ⌜ ((P : theory.Cue) → HoldsCue P (now (order .entry)) (now (lag .entry)) cue →
         Tabled P cue (now (order .entry)) (now (lag .entry)) (now (star .exit)) (now (through .exit)) r) ⌝ }
 {
     let n = cue.triggers;
@@ -99,7 +99,7 @@ pub fn prepare(
 ) -> Prepared
     requires { ⌜ ((s : List ℕ) × (reading ≡ answer (read s))) ⌝ }
     ensures { λ r. ⌜ ((s : List ℕ) → reading ≡ answer (read s) →
-        Ready (ordered s) (now (order .exit)) (now (lag .exit)) (now (star .exit)) (now (gains .exit)) (now (needs .exit)) r) ⌝ }
+        PreparedAs (ordered s) (now (order .exit)) (now (lag .exit)) (now (star .exit)) (now (gains .exit)) (now (needs .exit)) r) ⌝ }
 {
     if reading.refusal != 0 {
         return not_prepared(reading.refusal);
@@ -123,7 +123,7 @@ pub fn prepare(
 fn not_prepared(refusal: u8) -> Prepared
     ensures { λ r. ⌜ r .refusal ≡ refusal ⌝ }
 {
-    let cue = Cue {
+    let cue = CueWords {
         triggers: 0,
         panels: 0,
         floor: [0u64; 6],

@@ -3,16 +3,16 @@ ghost use mathlib.Core.List.{List};
 ghost use Prim.Native.Nat.{ℕ};
 ghost use Rattle.cue.specs.Cue as theory;
 ghost use Rattle.preparing.specs.Prepared.{Fit, MarkedAs};
-use crate::Cue;
+use crate::CueWords;
 use crate::Marked;
 use crate::levels::compared;
-use crate::levels::less;
 use crate::levels::pack;
 use candidates::Marks;
+use tables::differences::less;
 
 // Steps 2 to 5 up to the walk, for the tables M* and d; into the lent tables what the walk compares and what step 6's w is made of.
 pub fn marks_of(
-    cue: Cue,
+    cue: CueWords,
     star: &[[u64; 6]; 6],
     through: &[[u64; 6]; 6],
     gains: &mut [[u64; 6]; 6],

@@ -16,6 +16,7 @@ use Rattle.sheet.proofs.SectionLaws.{RowsOf, row-long, row-passes}
 use Rattle.rows.specs.Grid.{strips}
 use Rattle.rows.proofs.PlaceLaws.{strip-at, strips-at}
 use Rattle.reading.specs.Inner.{EmptyWords}
+use Rattle.cue.specs.Sizes.{size-limit}
 
 -- an entry within the limit is absent exactly where its word is 0
 word-none : (e : E) → out-of-range e ≡ false → word e ≡ 0 → absent? e ≡ true
@@ -34,7 +35,7 @@ inside [] j h = absurd (h refl)
 inside (e ∷ es) zero h = omega arith
 inside (e ∷ es) (suc j) h = let q = inside es j h in omega arith
 
-module _ (ws : List (List ℕ)) (lines n : ℕ) (t : List (List E)) (six : lines ≤ 6) (few : n ≤ 6) (R : RowsOf entry lines n t)
+module _ (ws : List (List ℕ)) (lines n : ℕ) (t : List (List E)) (six : lines ≤ size-limit) (few : n ≤ size-limit) (R : RowsOf entry lines n t)
     (w : ws ≡ strips (table t)) where
   word-there : (k j : ℕ) → k < lines → j < 6 → getD (getD ws k []) j 0 ≡ word (table t k j)
   word-there k j h q =

@@ -22,6 +22,7 @@ use Rattle.rows.proofs.PlaceLaws.{strip-at, strips-at, strip-eq}
 use Rattle.reading.specs.Reading.{answer}
 use Rattle.reading.specs.declared.Reading.{Reading}
 use Rattle.reading.specs.Inner.{Stacked, each-row}
+use Rattle.cue.specs.Sizes.{size-limit}
 
 each-row-grid : (A : Mat) → each-row (strips A) ≡ grid A
 unfolding grid
@@ -45,7 +46,7 @@ module _ {ts : List (List (List E))} {ws : List (List (List ℕ))} (S : Stacked 
 
   -- a size line's word
   pub size-word : (i : ℕ) → i < length ts → RowsOf size 1 1 (part ts i) →
-      (getD (getD (getD ws i []) 0 []) 0 0 ≡ bias + count (part ts i)) × (count (part ts i) ≤ 6)
+      (getD (getD (getD ws i []) 0 []) 0 0 ≡ bias + count (part ts i)) × (count (part ts i) ≤ size-limit)
   unfolding word val
   size-word i h R =
       let (m, q, l) = size-read R in

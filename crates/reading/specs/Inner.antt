@@ -17,6 +17,7 @@ use Rattle.reading.specs.Reading.{answer}
 use Rattle.reading.specs.declared.Reading.{Reading}
 use Rattle.reading.specs.declared.Group.{Group}
 use Rattle.reading.specs.declared.Group.the-variants as group
+use Rattle.cue.specs.Sizes.{size-limit}
 
 abbrev pub kinds : Group → ℕ → ℕ → List Section
 kinds group.Sizes m n = sizes
@@ -49,7 +50,8 @@ FinishedIs ps m n r = (s x : List ℕ) (ts : List (List (List E))) → sections 
 
 -- some of the rows that were read has no entry
 abbrev pub EmptyRow : List (List ℕ) → ℕ → Bool → Type 0
-EmptyRow rs lines b = (n : ℕ) (t : List (List E)) → n ≤ 6 → RowsOf sheet.entry lines n t → rs ≡ strips (table t) → b ≡ any (all absent?) t
+EmptyRow rs lines b = (n : ℕ) (t : List (List E)) → n ≤ size-limit → RowsOf sheet.entry lines n t → rs ≡ strips (table t) →
+    b ≡ any (all absent?) t
 
 -- all six words are 0
 abbrev pub EmptyWords : List ℕ → Bool → Type 0

@@ -8,6 +8,7 @@ ghost use Rattle.sheet.specs.Sheet as sheet;
 ghost use Rattle.sheet.specs.Sheet.{read, sections};
 ghost use Rattle.reading.specs.Reading.{answer};
 ghost use Rattle.reading.specs.Inner.{kinds, most, SectionIs, SectionsAre, FinishedIs, EmptyRow, EmptyWords, each-row};
+ghost use Rattle.cue.specs.Sizes.{size-limit};
 use rows::Items;
 use rows::Place;
 use rows::Row;
@@ -99,7 +100,7 @@ fn read_section(
     triggers: usize,
     rows: &mut [[u64; 6]; 6],
 ) -> Place
-    requires { ⌜ (from ≤ length (now s)) × (k < length (kinds group panels triggers)) × (panels ≤ 6) × (triggers ≤ 6) ⌝ }
+    requires { ⌜ (from ≤ length (now s)) × (k < length (kinds group panels triggers)) × (panels ≤ size-limit) × (triggers ≤ size-limit) ⌝ }
     ensures { λ r. ⌜ SectionIs (kinds group panels triggers) k (now (s .entry)) from r (now (rows .exit)) ⌝ }
 {
     match group {
@@ -126,7 +127,7 @@ fn read_sections(
     triggers: usize,
     parts: &mut [[[u64; 6]; 6]; TABLES],
 ) -> Place
-    requires { ⌜ (from ≤ length (now s)) × (count ≡ length (kinds group panels triggers)) × (panels ≤ 6) × (triggers ≤ 6) ×
+    requires { ⌜ (from ≤ length (now s)) × (count ≡ length (kinds group panels triggers)) × (panels ≤ size-limit) × (triggers ≤ size-limit) ×
         (length (now parts) ≡ most) ⌝ }
     ensures { λ r. ⌜ SectionsAre (sections (kinds group panels triggers) (drop from (now (s .entry)))) (now (s .entry)) r (now (parts .exit)) ⌝ }
 {
@@ -159,7 +160,7 @@ fn size(line: [[u64; 6]; 6]) -> usize
 
 // The answer once all lines are read: the one place where the rows of each kind are used.
 fn finished(parts: &[[[u64; 6]; 6]; TABLES], panels: usize, triggers: usize) -> Reading
-    requires { ⌜ (panels ≤ 6) × (triggers ≤ 6) ⌝ }
+    requires { ⌜ (panels ≤ size-limit) × (triggers ≤ size-limit) ⌝ }
     ensures { λ r. ⌜ FinishedIs (now (parts .entry)) panels triggers r ⌝ }
 {
     let lag = parts[LAG];
@@ -233,7 +234,7 @@ fn refused(refusal: u8) -> Reading
 
 // One of the first `lines` rows has no entry.
 fn empty_row(rows: [[u64; 6]; 6], lines: usize) -> bool
-    requires { ⌜ lines ≤ 6 ⌝ }
+    requires { ⌜ lines ≤ size-limit ⌝ }
     ensures { λ r. ⌜ EmptyRow rows lines r ⌝ }
 {
     let mut i: usize = 0;

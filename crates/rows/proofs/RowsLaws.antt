@@ -14,6 +14,7 @@ use Rattle.rows.specs.Grid.{strip, strips}
 use Rattle.rows.specs.Inner.{clip, LiteralAt, verdict, words-of, earlier-of, least, fault-of, FaultIs, Found, Reads}
 use Rattle.sheet.proofs.LineLaws.{onto, onto-onto, onto-nil, front, at-last, at-other}
 use Rattle.rows.proofs.FaultLaws.{checked-least, least-last, good-words}
+use Rattle.cue.specs.Sizes.{size-limit}
 
 -- one entry more, at its place
 map-last : (es : List E) (e : E) → mapL clip (es ++ e ∷ []) ≡ mapL clip es ++ clip e ∷ []
@@ -92,7 +93,7 @@ module _ {s : List ℕ} {from : ℕ} {r : Rule} {n : ℕ} where
     pub items-stop : k < n → ended (n - k - 1) (drop at s) ≡ refused 2 → items n (drop from s) ≡ refused 2
     items-stop h e = I .left ∙ ap (onto (I .es)) (items-bad k n (drop at s) h 2 e)
 
-    pub items-step : k < n → n ≤ 6 → (e : E) (w next f found′ : ℕ) → ended (n - k - 1) (drop at s) ≡ got e (drop next s) →
+    pub items-step : k < n → n ≤ size-limit → (e : E) (w next f found′ : ℕ) → ended (n - k - 1) (drop at s) ≡ got e (drop next s) →
         w ≡ word (clip e) →
         next ≤ length s → FaultIs r w f → found′ ≡ earlier-of found f → ItemsRead s from r n (set ws k w) found′ next (k + 1)
     items-step h six e w next f found′ p q b is now =
@@ -142,7 +143,7 @@ module _ {s key : List ℕ} {from : ℕ} {r : Rule} {lines n : ℕ} where
     pub rows-stop : i < lines → (f : ℕ) → line key r n (drop at s) ≡ refused f → rows key r lines n (drop from s) ≡ refused f
     rows-stop h f e = R .left ∙ ap (onto (R .t)) (rows-bad key r n (drop at s) i lines h f e)
 
-    pub rows-step : i < lines → lines ≤ 6 → (es : List E) (next : ℕ) → line key r n (drop at s) ≡ got es (drop next s) →
+    pub rows-step : i < lines → lines ≤ size-limit → (es : List E) (next : ℕ) → line key r n (drop at s) ≡ got es (drop next s) →
         next ≤ length s →
         RowsRead s key from r lines n (set ws i (strip (row es))) next (i + 1)
     rows-step h six es next e b =

@@ -6,6 +6,7 @@ ghost use Rattle.sheet.specs.Sheet.{limit, ended};
 ghost use Rattle.sheet.specs.Sheet as sheet;
 ghost use Rattle.items.specs.Inner.{ItemIs};
 ghost use Rattle.rows.specs.Inner.{LiteralAt, FaultIs, RowsAre, earlier-of, rule-of};
+ghost use Rattle.cue.specs.Sizes.{size-limit};
 use items::Item;
 use items::item_at;
 
@@ -41,7 +42,7 @@ pub fn read_rows(
     count: usize,
     rows: &mut [[u64; 6]; 6],
 ) -> Place
-    requires { ⌜ (from ≤ length (now s)) × (lines ≤ 6) × (count ≤ 6) ⌝ }
+    requires { ⌜ (from ≤ length (now s)) × (lines ≤ size-limit) × (count ≤ size-limit) ⌝ }
     ensures { λ r. ⌜ RowsAre (sheet.rows (now (key .entry)) (rule-of rule) lines count (drop from (now (s .entry)))) (now (s .entry)) r
         (now (rows .exit)) ⌝ }
 {

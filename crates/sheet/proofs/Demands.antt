@@ -20,6 +20,7 @@ use Rattle.sheet.specs.Meaning.{Timing, Keeps, deviation, Tightest}
 use Rattle.sheet.specs.Cue.{cue-size, cue-of, Orderly, sheet-lines}
 use Rattle.sheet.specs.Good.{Good}
 use Rattle.sheet.proofs.Seam.{keeps-cue, deviation-cue, tightest-cue}
+use Rattle.cue.specs.Sizes.{size-limit}
 
 -- "8: no timing keeps the order"
 pub order-kept : (t : Sheet) → ((X : Timing) × Keeps t X) ↔ Orderly t
@@ -58,7 +59,7 @@ module _ (t : Sheet) (G : Good t) (o : Orderly t) where
   fitting c h i q = results-32 (cue-size t) limit order-limit (cue-of t) o (G .limited) (G .triggers-few) (omega arith) .components c h i q
 
 -- ---- demand 3: for equal numbers of triggers the words of the lists are the same exactly when the same timings are tightest
-same-lists : (n k : ℕ) → n ≡ k → (P Q : Cue) → n ≤ 6 → Readable n P → Readable k Q → NoGain n (P .order) → NoGain k (Q .order) →
+same-lists : (n k : ℕ) → n ≡ k → (P Q : Cue) → n ≤ size-limit → Readable n P → Readable k Q → NoGain n (P .order) → NoGain k (Q .order) →
     Fitting n (lines n P) → Fitting k (lines k Q) →
     ((length (lines n P) ≡ length (lines k Q)) × (list-words n (lines n P) ≡ list-words k (lines k Q))) ↔
     ((X : Timing) → cue.Tightest n P X ↔ cue.Tightest k Q X)

@@ -16,6 +16,7 @@ use Rattle.sheet.specs.Sheet.{panels-line, triggers-line, lag-lines, flo
 use Rattle.sheet.specs.Good.{Good}
 use Rattle.sheet.proofs.LineLaws.{true-not-false, none-or, none-at, at-any, not-got, bind-got, passed, there}
 use Rattle.sheet.proofs.SectionLaws.{RowsOf, row-long, row-passes, sections-of, size-read}
+use Rattle.cue.specs.Sizes.{size-limit}
 
 -- ---- entries
 in-range : (e : E) → out-of-range e ≡ false → Within limit limit e
@@ -45,7 +46,7 @@ module _ {r : Rule} {m n : ℕ} {t : List (List E)} (R : RowsOf r m n t) (i : �
       not-true true e = absurd (true-not-false (sym e))
 
 -- ---- the sheet
-module _ (m n : ℕ) (few-m : m ≤ 6) (some-n : 1 ≤ n) (few-n : n ≤ 6) (s : List ℕ) {ts : List (List (List E))} {x : List ℕ}
+module _ (m n : ℕ) (few-m : m ≤ size-limit) (some-n : 1 ≤ n) (few-n : n ≤ size-limit) (s : List ℕ) {ts : List (List (List E))} {x : List ℕ}
     (e : sections (tables m n) s ≡ got ts x) where
   parts-good : any (all absent?) (part ts lag-lines) ≡ false → any (all absent?) (part ts floor-line) ≡ false → Good (sheet-of m n ts)
   parts-good no-lag no-floor =
@@ -79,7 +80,7 @@ finished-got m n ts [] {t} e =
     let c : sheet-of m n ts ≡ t = cc in
     (f, h, c)
 
-size-good : {t : List (List E)} → RowsOf size 1 1 t → (1 ≤ count t) × (count t ≤ 6)
+size-good : {t : List (List E)} → RowsOf size 1 1 t → (1 ≤ count t) × (count t ≤ size-limit)
 unfolding val
 size-good R = let (k, q, l) = size-read R in rw q (omega arith, l)
 

@@ -11,6 +11,7 @@ use lib.IntN.{pos, negsuc}
 use lib.ListN.{length, getD}
 use Rattle.maxplus.specs.Entry.{E, absent, num, val}
 use Rattle.sheet.specs.Sheet.{Got, got, refused, _>>=_, Rule, size, entry, mark, out-of-range, no-size, absent?, any, checked}
+use Rattle.cue.specs.Sizes.{size-limit}
 
 -- ---- members that pass a test
 pub true-not-false : true ≡ false → ⊥
@@ -119,7 +120,7 @@ there absent h = absurd (true-not-false h)
 there (num z) h = refl
 
 -- a good size is a number 1 to 6
-pub size-there : (e : E) → absent? e ≡ false → no-size e ≡ false → (m : ℕ) × (e ≡ num (pos (suc m))) × (suc m ≤ 6)
+pub size-there : (e : E) → absent? e ≡ false → no-size e ≡ false → (m : ℕ) × (e ≡ num (pos (suc m))) × (suc m ≤ size-limit)
 size-there absent h g = absurd (true-not-false h)
 size-there (num (negsuc n)) h g = absurd (true-not-false g)
 size-there (num (pos zero)) h g = absurd (true-not-false g)

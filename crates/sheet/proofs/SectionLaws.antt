@@ -16,6 +16,7 @@ use Rattle.sheet.specs.Sheet.{got, refused, literal, ended, items, Rule,
 use Rattle.sheet.specs.Sheet.{Section, section, sections, part, sizes, tables, count, panels-line, triggers-line, lag-lines, floor-line}
 use Rattle.sheet.specs.Sheet.{sheet-of, finished, sized, lines, read}
 use Rattle.sheet.proofs.LineLaws.{bind-got, onto, front, none-at, Passes, checked-passes, size-there}
+use Rattle.cue.specs.Sizes.{size-limit}
 
 -- ---- the fold: the next kind is k
 module _ (ks rest : List Section) (k : Section) (x : List ℕ) (e : ks ≡ k ∷ rest) where
@@ -117,7 +118,7 @@ module _ {r : Rule} {lines items : ℕ} {t : List (List E)} (R : RowsOf r lines 
   row-passes = R .good (getD t i []) in-rows
 
 -- a size line that was read has one number, 1 to 6
-pub size-read : {t : List (List E)} → RowsOf size 1 1 t → (m : ℕ) × (table t 0 0 ≡ num (pos (suc m))) × (suc m ≤ 6)
+pub size-read : {t : List (List E)} → RowsOf size 1 1 t → (m : ℕ) × (table t 0 0 ≡ num (pos (suc m))) × (suc m ≤ size-limit)
 size-read {t} R =
     let l = row-long R 0 (omega arith) in
     let p = row-passes R 0 (omega arith) in

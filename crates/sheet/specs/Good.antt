@@ -6,10 +6,11 @@ use Rattle.cue.proofs.Bounds.{Limited}
 use Rattle.sheet.specs.Sheet.{Sheet, limit}
 use Rattle.sheet.specs.Sizes.{order-limit}
 use Rattle.sheet.specs.Cue.{cue-size, cue-of}
+use Rattle.cue.specs.Sizes.{size-limit}
 
 pub record Good (t : Sheet) : Type 0 where
-  pub panels-few : t .panels ≤ 6
+  pub panels-few : t .panels ≤ size-limit
   pub triggers-some : 1 ≤ t .triggers
-  pub triggers-few : t .triggers ≤ 6
+  pub triggers-few : t .triggers ≤ size-limit
   pub readable : Readable (cue-size t) (cue-of t)
   pub limited : Limited (cue-size t) limit order-limit (cue-of t)

@@ -30,12 +30,9 @@ need-down = sizes.need-down limit order-limit
 abbrev pub line-down : ℕ
 line-down = sizes.line-down limit order-limit
 
--- words on the way: p(i) − Δ; the largest d(i,j) + r(j); M* w; a candidate drawn from it, before and after the shift; its lateness
+-- words on the way: p(i) − Δ; M* w; a candidate drawn from it, before and after the shift; its lateness
 abbrev pub ask-size : ℕ
 ask-size = sizes.ask-size limit order-limit
-
-abbrev pub landing-size : ℕ
-landing-size = sizes.landing-size limit order-limit
 
 abbrev pub starred-size : ℕ
 starred-size = sizes.starred-size limit order-limit

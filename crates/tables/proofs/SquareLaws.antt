@@ -85,6 +85,10 @@ pub meant-within : {m n c : ℕ} {t : List (List ℕ)} → Closely m n c t → (
 unfolding meant
 meant-within {c} h i j hi hj = within-close c _ (h .at i j hi hj)
 
+pub meantV-within : {n c : ℕ} {w : List ℕ} → CloselyV n c w → (j : ℕ) → j < n → Within c c (meantV w j)
+unfolding meantV
+meantV-within {c = c} h j hj = within-close c _ (h .at j hj)
+
 pub closely-withinV : {n c k l : ℕ} {x : Vec} {w : List ℕ} → k ≤ c → l ≤ c → HoldsV n x w →
     ((j : ℕ) → j < n → Within k l (x j)) → CloselyV n c w
 unfolding meantV
@@ -92,3 +96,10 @@ closely-withinV {c} p q h w = record { at = λ j hj. close-within c _ (h .at j h
 
 pub closely-more : {m n c d : ℕ} {t : List (List ℕ)} → c ≤ d → Closely m n c t → Closely m n d t
 closely-more h k = record { at = λ i j hi hj. close-more h (k .at i j hi hj) }
+
+pub closely-moreV : {n c d : ℕ} {w : List ℕ} → c ≤ d → CloselyV n c w → CloselyV n d w
+closely-moreV h k = record { at = λ j hj. close-more h (k .at j hj) }
+
+-- the rows down to row i
+pub closely-part : {m n c d : ℕ} {t : List (List ℕ)} (i : ℕ) → i < m → c ≤ d → Closely m n c t → Closely (i + 1) n d t
+closely-part i h l k = record { at = λ a b p q. close-more l (k .at a b (omega arith) q) }

@@ -1,4 +1,4 @@
-// Tables of six by six words: out of a sheet's rows, the unit table, the larger of two, the product.
+// Tables of six by six words: out of a sheet's rows, the unit table, the larger of two, the product, a column.
 ghost use mathlib.Core.Path.{_≡_};
 ghost use mathlib.Core.List.{[]};
 ghost use Prim.Native.Nat.{ℕ, _≤_, _<_};
@@ -6,8 +6,12 @@ ghost use lib.ListN.{length, getD};
 ghost use Rattle.maxplus.specs.Entry.{_⊗_, _⊕_};
 ghost use Rattle.maxplus.specs.Tables.{sup, mm, idm};
 ghost use Rattle.words.specs.Words.{entry, far, Near};
-ghost use Rattle.tables.specs.Held.{meant, meantV, Holds, HoldsV, Closely, CloselyV, Raised};
+ghost use Rattle.tables.specs.Held.{cell, meant, meantV, Holds, HoldsV, Closely, CloselyV, Raised};
+ghost use Rattle.cue.specs.Sizes.{size-limit};
 use rows::Row;
+
+pub mod differences;
+pub mod largest;
 
 // The table of a sheet's rows.
 pub fn table(rows: [Row; 6]) -> [[u64; 6]; 6]
@@ -51,7 +55,7 @@ fn unit_at(i: usize, j: usize) -> u64
 
 // The larger of two tables, entry by entry.
 pub fn joined(a: &[[u64; 6]; 6], b: &[[u64; 6]; 6], n: usize) -> [[u64; 6]; 6]
-    requires { ⌜ n ≤ 6 ⌝ }
+    requires { ⌜ n ≤ size-limit ⌝ }
     ensures { λ r. ⌜ Holds n n (λ i j. meant (now (a .entry)) i j ⊕ meant (now (b .entry)) i j) r ⌝ }
 {
     let blank = [0u64; 6];
@@ -70,7 +74,7 @@ pub fn joined(a: &[[u64; 6]; 6], b: &[[u64; 6]; 6], n: usize) -> [[u64; 6]; 6]
 
 // The first m rows and n columns of the product.
 pub fn product(a: &[[u64; 6]; 6], b: &[[u64; 6]; 6], m: usize, n: usize) -> [[u64; 6]; 6]
-    requires { ⌜ (m ≤ 6) × (n ≤ 6) × Closely m n far (now a) × Closely n n far (now b) ⌝ }
+    requires { ⌜ (m ≤ size-limit) × (n ≤ size-limit) × Closely m n far (now a) × Closely n n far (now b) ⌝ }
     ensures { λ r. ⌜ Holds m n (mm n (meant (now (a .entry))) (meant (now (b .entry)))) r ⌝ }
 {
     let blank = [0u64; 6];
@@ -85,7 +89,7 @@ pub fn product(a: &[[u64; 6]; 6], b: &[[u64; 6]; 6], m: usize, n: usize) -> [[u6
 
 // One row of the product: the largest, over the way between, of the rows of b, each shifted.
 fn row_product(row: [u64; 6], b: &[[u64; 6]; 6], n: usize) -> [u64; 6]
-    requires { ⌜ (n ≤ 6) × CloselyV n far row × Closely n n far (now b) ⌝ }
+    requires { ⌜ (n ≤ size-limit) × CloselyV n far row × Closely n n far (now b) ⌝ }
     ensures { λ r. ⌜ HoldsV n (λ j. sup n (λ k. meantV row k ⊗ meant (now (b .entry)) k j)) r ⌝ }
 {
     let mut r = [0u64; 6];
@@ -99,7 +103,7 @@ fn row_product(row: [u64; 6], b: &[[u64; 6]; 6], n: usize) -> [u64; 6]
 
 // Raises each place of r to y shifted. Most entries of an after table are absent, and shifting by them adds nothing.
 fn raise(r: &mut [u64; 6], shift: u64, y: [u64; 6], n: usize)
-    requires { ⌜ (n ≤ 6) × Near shift × CloselyV n far y × (length (now r) ≡ 6) ⌝ }
+    requires { ⌜ (n ≤ size-limit) × Near shift × CloselyV n far y × (length (now r) ≡ 6) ⌝ }
     ensures { λ _. ⌜ Raised n (entry shift) (meantV y) (now (r .entry)) (now (r .exit)) ⌝ }
 {
     if shift == 0 {
@@ -111,4 +115,18 @@ fn raise(r: &mut [u64; 6], shift: u64, y: [u64; 6], n: usize)
         r[j] = words::larger(sum, r[j]);
         j += 1;
     }
+}
+
+// Column j.
+pub fn column(table: &[[u64; 6]; 6], j: usize) -> [u64; 6]
+    requires { ⌜ j < 6 ⌝ }
+    ensures { λ r. ⌜ ((i : ℕ) → i < 6 → getD r i 0 ≡ cell (now (table .entry)) i j) ⌝ }
+{
+    let mut r = [0u64; 6];
+    let mut i: usize = 0;
+    while i < 6 {
+        r[i] = table[i][j];
+        i += 1;
+    }
+    r
 }

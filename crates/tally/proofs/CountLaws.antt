@@ -18,6 +18,7 @@ use Rattle.walk.proofs.NarrowLaws.{cut-small}
 use Rattle.walk.proofs.TraceLaws.{fixings-append, selections-append, selections-few}
 use Rattle.walk.proofs.Whole.{forEach-few, levels-few, most, most-few}
 use Rattle.tally.specs.Counting.{row, SameFrom, CutBelow, ahead, tried, Remembered, CountReady, Counted}
+use Rattle.cue.specs.Sizes.{size-limit}
 
 -- ---- as many fixings and as many selections
 pub record Alike (a b : List Event) : Type 0 where
@@ -63,7 +64,7 @@ fixings-few (fixing ∷ es) = let r = fixings-few es in omega arith
 fixings-few (whole q ∷ es) = let r = fixings-few es in omega arith
 
 module _ (gains : List (List ℕ)) (f : ℕ) where
-  module _ (few : f ≤ 6) {l : ℕ} (hl : l < f) (masks : List ℕ) where
+  module _ (few : f ≤ size-limit) {l : ℕ} (hl : l < f) (masks : List ℕ) where
     -- ---- a level's triggers, one after the other
     pub ahead-tried : ahead gains f l masks ≡ tried gains f l masks (getD masks l 0)
     unfolding ahead tried walkFrom
@@ -151,7 +152,7 @@ counts-eq : {r s : Counts} → r .steps ≡ s .steps → r .selections ≡ s .se
 counts-eq {r} {s} e h = ap₂ (λ (a b : ℕ). record { steps = a; selections = b }) e h
 
 module _ {gains : List (List ℕ)} {f : ℕ} where
-  pub remembered-start : f ≤ 6 → Remembered gains f (replicate 6 (replicate 6 0)) (replicate 6 0) (replicate 6 0)
+  pub remembered-start : f ≤ size-limit → Remembered gains f (replicate 6 (replicate 6 0)) (replicate 6 0) (replicate 6 0)
   remembered-start few = record {
     size = (refl, refl, refl);
     at = λ l h. let z : row (replicate 6 (replicate 6 0)) l ≡ replicate 6 0 = getD-replicate 6 l (replicate 6 0) [] (omega arith) in
@@ -186,7 +187,7 @@ module _ {gains : List (List ℕ)} {f : ℕ} where
         same = walk-alike gains (f - l) l _ _ [] [] (λ k a b. e .at k a (omega (arith, y .few)))
 
   -- a level has been worked out, and is remembered
-  pub counted-level : {l : ℕ} (masks : List ℕ) {c : Counts} {seen : List (List ℕ)} {steps sels : List ℕ} → f ≤ 6 → l < f →
+  pub counted-level : {l : ℕ} (masks : List ℕ) {c : Counts} {seen : List (List ℕ)} {steps sels : List ℕ} → f ≤ size-limit → l < f →
       Counted gains f (tried gains f l masks (getD masks l 0)) c seen steps sels →
       Counted gains f (ahead gains f l masks) c (set seen l masks) (set steps l (c .steps)) (set sels l (c .selections))
   counted-level {l} masks {c} {seen} {steps} {sels} few h t = record {
@@ -215,7 +216,7 @@ module _ {gains : List (List ℕ)} {f : ℕ} where
       z = t .remembered .size
 
   -- ---- a level's triggers: none, and one before the others
-  pub counted-none : {l : ℕ} (masks : List ℕ) {seen : List (List ℕ)} {steps sels : List ℕ} → f ≤ 6 → l < f →
+  pub counted-none : {l : ℕ} (masks : List ℕ) {seen : List (List ℕ)} {steps sels : List ℕ} → f ≤ size-limit → l < f →
       Remembered gains f seen steps sels → Counted gains f (tried gains f l masks 0) (record { steps = 0; selections = 0 }) seen steps sels
   counted-none {l} masks few h r = record {
     steps-are = sym (ap fixings (tried-none gains f few h masks) ∙ (unfold fixings in refl));
@@ -223,7 +224,7 @@ module _ {gains : List (List ℕ)} {f : ℕ} where
     remembered = r;
   }
 
-  module _ {l : ℕ} {masks cuts : List ℕ} {m : ℕ} (few : f ≤ 6) (h : l < f) (some : 0 < m) (small : m < 64)
+  module _ {l : ℕ} {masks cuts : List ℕ} {m : ℕ} (few : f ≤ size-limit) (h : l < f) (some : 0 < m) (small : m < 64)
       (b : CutBelow gains masks l (trailingZeros 8 m) cuts)
       {a c : Counts} {seen seen′ : List (List ℕ)} {steps sels steps′ sels′ : List ℕ}
       (t : Counted gains f (ahead gains f (l + 1) cuts) a seen steps sels)

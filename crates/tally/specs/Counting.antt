@@ -6,6 +6,7 @@ use lib.ListN.{length, getD}
 use Rattle.trigger_sets.specs.Sets.{members}
 use Rattle.walk.specs.Trace.{Event, fixing, forEach, cut, serves, walkFrom, fixings, selections, Masks}
 use Rattle.walk.specs.declared.Counts.{Counts}
+use Rattle.cue.specs.Sizes.{size-limit}
 
 abbrev pub row : List (List ℕ) → ℕ → List ℕ
 row seen l = getD seen l []
@@ -38,7 +39,7 @@ module _ (gains : List (List ℕ)) where
           (getD steps l 0 ≡ fixings (ahead l (row seen l))) × (getD sels l 0 ≡ length (selections (ahead l (row seen l))))
 
     pub record CountReady (seen : List (List ℕ)) (steps sels masks : List ℕ) : Type 0 where
-      pub few : f ≤ 6
+      pub few : f ≤ size-limit
       pub small : Masks masks
       pub size : length masks ≡ 6
       pub remembered : Remembered seen steps sels

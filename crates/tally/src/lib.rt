@@ -8,6 +8,7 @@ ghost use Rattle.tables.specs.Held.{Says};
 ghost use Rattle.walk.specs.Trace.{Masks};
 ghost use Rattle.walk.specs.State.{countsOf};
 ghost use Rattle.tally.specs.Counting.{CutBelow, SameFrom, CountReady, Counted, ahead, tried};
+ghost use Rattle.cue.specs.Sizes.{size-limit};
 use trigger_sets::low;
 use trigger_sets::others;
 use trigger_sets::wide;
@@ -118,7 +119,7 @@ fn each(
 
 // The fixings and the selections of the whole walk. At first each level remembers that no triggers give nothing.
 pub fn tally(panels: usize, kept: &[u8; 6], gains: &[[u64; 6]; 6]) -> Counts
-    requires { ⌜ (panels ≤ 6) × Masks (now kept) × (length (now kept) ≡ 6) ⌝ }
+    requires { ⌜ (panels ≤ size-limit) × Masks (now kept) × (length (now kept) ≡ 6) ⌝ }
     ensures { λ r. ⌜ r ≡ countsOf (now (kept .entry)) (now (gains .entry)) panels ⌝ }
 {
     let mut seen = [[0u8; 6]; 6];

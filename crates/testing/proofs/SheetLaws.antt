@@ -9,19 +9,19 @@ use Rattle.cue.specs.Cue as theory
 use Rattle.cue.specs.Method.{least}
 use Rattle.words.specs.Words.{entry}
 use Rattle.timing.specs.Deviation.{SheetClose}
-use Rattle.timing.specs.Test.{SheetWords, Tested}
+use Rattle.timing.specs.Test.{MeasuredWords, TestSays}
 use Rattle.sheet.specs.Sheet.{Sheet}
 use Rattle.sheet.specs.Sizes.{order-limit}
 use Rattle.sheet.specs.Meaning.{Timing, Tightest}
 use Rattle.sheet.specs.Cue.{cue-size, cue-of}
 use Rattle.sheet.proofs.Seam.{tightest-cue}
 use Rattle.tables.specs.Held.{Closely, Says}
-use Rattle.preparing.specs.declared.Cue.{Cue}
+use Rattle.preparing.specs.declared.CueWords.{CueWords}
 use Rattle.preparing.specs.declared.Prepared.{Prepared}
-use Rattle.preparing.specs.Prepared.{CueWords, Made}
+use Rattle.preparing.specs.Prepared.{HoldsCue, Made}
 use Rattle.preparing.proofs.Results.{lags-close, floors-close, dues-close, orders-close}
 
-module _ {P : theory.Cue} {orders lags : List (List ℕ)} {c : Cue} (H : CueWords P orders lags c) where
+module _ {P : theory.Cue} {orders lags : List (List ℕ)} {c : CueWords} (H : HoldsCue P orders lags c) where
   sheet-close : SheetClose (c .panels) (c .triggers) lags (c .floor) (c .due)
   sheet-close =
       record {
@@ -32,7 +32,7 @@ module _ {P : theory.Cue} {orders lags : List (List ℕ)} {c : Cue} (H : CueWord
         dues = dues-close H;
       }
 
-  sheet-words : (e : ℕ) → entry e ≡ num (least (c .triggers) P) → SheetWords (c .panels) (c .triggers) orders lags (c .floor) (c .due) e P
+  sheet-words : (e : ℕ) → entry e ≡ num (least (c .triggers) P) → MeasuredWords (c .panels) (c .triggers) orders lags (c .floor) (c .due) e P
   sheet-words e d =
       record {
         panels-are = sym (H .panels-are);
@@ -54,7 +54,7 @@ module _ {s : Sheet} {orders lags stars gains needs : List (List ℕ)} {r : Prep
   tested-asks = (sheet-close (M .held), orders-close (M .held))
 
   pub tested-says : (X : Timing) (v : Bool) →
-      Tested (r .cue .panels) (r .cue .triggers) orders lags (r .cue .floor) (r .cue .due) (r .marked .least) X v → Says (Tightest s X) v
+      TestSays (r .cue .panels) (r .cue .triggers) orders lags (r .cue .floor) (r .cue .due) (r .marked .least) X v → Says (Tightest s X) v
   tested-says X v T = over-seam s X v (subst (λ n. Says (theory.Tightest n (cue-of s) X) v) (M .sized)
       (T .tightest (cue-of s)
       (sheet-words (M .held) (r .marked .least) (M .marked .deviation ∙ ap (λ n. num (least n (cue-of s))) (sym (M .sized))))

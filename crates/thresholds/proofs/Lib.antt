@@ -1,2 +1,2 @@
--- Laws of bytes of kept triggers.
-pub mod StepLaws
+-- Laws of pulls, of marks and of the bytes of kept triggers.
+pub mod ThresholdLaws

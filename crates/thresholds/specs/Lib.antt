@@ -1,2 +1,2 @@
--- Document 01's steps 2 to 5 over entries.
-pub mod Steps
+-- Document 01's steps 4 and 5 over entries.
+pub mod Thresholds

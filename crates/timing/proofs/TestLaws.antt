@@ -17,7 +17,7 @@ use Rattle.cue.proofs.Demands.{tightest-test}
 use Rattle.tables.specs.Held.{meant, meantV, Says}
 use Rattle.timing.specs.Times.{TimingWords}
 use Rattle.timing.specs.Deviation.{deviation-of}
-use Rattle.timing.specs.Test.{Reaches, SheetWords, Tested}
+use Rattle.timing.specs.Test.{Reaches, MeasuredWords, TestSays}
 
 -- the order looks at the first places only
 keeps-same : {n : ℕ} {A B : Mat} {x y : Vec} → ((i j : ℕ) → i < n → j < n → A i j ≡ B i j) → ((j : ℕ) → j < n → x j ≡ y j) →
@@ -32,7 +32,7 @@ reaches-tightest {n} {P} X R np true h = tightest-test n P R np X .1 h
 reaches-tightest {n} {P} X R np false h = λ t. h (tightest-test n P R np X .0 t)
 
 module _ {panels n : ℕ} {after lag : List (List ℕ)} {floor due : List ℕ} {least : ℕ} {X : ℕ → ℤ} {x : List ℕ} (w : TimingWords n X x) where
-  module _ {P : Cue} (s : SheetWords panels n after lag floor due least P) where
+  module _ {P : Cue} (s : MeasuredWords panels n after lag floor due least P) where
     -- ---- words and what they mean
     order-of-words : Keeps n (meant after) (meantV x) → Keeps n (P .order) (timing X)
     order-of-words = keeps-same (s .afters .at) (w .are .at)
@@ -66,11 +66,11 @@ module _ {panels n : ℕ} {after lag : List (List ℕ)} {floor due : List ℕ} {
         go false q = λ r. eqb-false d least q (entry-inj (e ∙ deviation-words ∙ r .1 ∙ sym (s .least-is)))
 
   pub tested-kept : (d : ℕ) → Keeps n (meant after) (meantV x) →
-      entry d ≡ deviation-of panels n (meant lag) (meantV floor) (meantV due) (meantV x) → Tested panels n after lag floor due least X (eqb d least)
+      entry d ≡ deviation-of panels n (meant lag) (meantV floor) (meantV due) (meantV x) → TestSays panels n after lag floor due least X (eqb d least)
   tested-kept d k e = record {
     reaches = λ P s. reaches-word s d k e;
     tightest = λ P s R np. reaches-tightest X R np (eqb d least) (reaches-word s d k e);
   }
 
-  pub tested-broken : ¬ (Keeps n (meant after) (meantV x)) → Tested panels n after lag floor due least X false
+  pub tested-broken : ¬ (Keeps n (meant after) (meantV x)) → TestSays panels n after lag floor due least X false
   tested-broken h = record { reaches = λ P s r. h (order-in-words s (r .0)); tightest = λ P s R np t. h (order-in-words s (t .keeps)) }

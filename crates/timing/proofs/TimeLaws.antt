@@ -4,11 +4,10 @@ use mathlib.Core.List.{List}
 use mathlib.Core.Bool.{true, false}
 use Prim.Native.Nat.{ℕ, suc, _+_, _≤_, _<_}
 use native.Mathlib.Omega.{arith}
-use native.Mathlib.Decide.{decLt}
 use borrow.Author.Tests.{ltb-false}
 use lib.Dec.{ltb, leb·suc-zero}
 use lib.IntN.{ℤ, pos, negsuc, natAbs, _-ℤ_}
-use lib.ListN.{getD, set, replicate, getD-replicate, List·getD-eq-default}
+use lib.ListN.{getD, set, replicate}
 use lib.Seq.{getD-set-other}
 use lib.Signed.{ltZ}
 use mir.Syntax.{w64}
@@ -20,7 +19,7 @@ use Rattle.maxplus.proofs.EntryLaws.{num-inj}
 use Rattle.words.specs.Words.{word, entry, Close}
 use Rattle.words.proofs.Laws.{entry-word, close-of}
 use Rattle.tables.specs.Held.{meantV}
-use Rattle.tables.proofs.Loops.{Filled, filled-none, filled-more}
+use Rattle.tables.proofs.Loops.{blank-word, Filled, filled-none, filled-more}
 use Rattle.sheet.proofs.LineLaws.{none-or}
 use Rattle.timing.specs.Times.{far-limit, beyond, some-beyond, TimingWords}
 use Rattle.timing.proofs.LimitLaws.{clash, none-at, read}
@@ -82,24 +81,21 @@ word-close : (x : ℤ) → beyond x ≡ false → Close far-limit (word (num x))
 word-close x b = close-of far-limit (word (num x)) (λ z e. rw (← num-inj (sym (word-is x b) ∙ e)) (let h = near x b in (omega arith, omega arith)))
 
 -- ---- the words of the components below j are written, and nothing past them
-blank-word : (k : ℕ) → _≡_ {A = ℕ} (getD (replicate 6 0) k 0) 0
-blank-word k = elim (decLt k 6) [ yes h ↦ getD-replicate 6 k 0 0 h | no h ↦ List·getD-eq-default (replicate 6 0) 0 {n = k} (omega arith) ]
-
 module _ (X : ℕ → ℤ) where
-  pub record Written (r : List ℕ) (j : ℕ) : Type 0 where
+  pub record WordsUpTo (r : List ℕ) (j : ℕ) : Type 0 where
     pub filled : Filled (λ k v. v ≡ word (num (X k))) 0 r j
     pub past : (k : ℕ) → j ≤ k → getD r k 0 ≡ 0
 
-  pub written-none : Written (replicate 6 0) 0
+  pub written-none : WordsUpTo (replicate 6 0) 0
   written-none = record { filled = filled-none _ 0 0; past = λ k h. blank-word k }
 
-  pub written-more : {r : List ℕ} {j v : ℕ} → j < 6 → Written r j → v ≡ word (num (X j)) → Written (set r j v) (j + 1)
+  pub written-more : {r : List ℕ} {j v : ℕ} → j < 6 → WordsUpTo r j → v ≡ word (num (X j)) → WordsUpTo (set r j v) (j + 1)
   written-more {r} {j} {v} h w e = record {
     filled = filled-more _ 0 r j v h (w .filled) e;
     past = λ k l. rw (getD-set-other r j k v 0 (λ q. omega arith)) (w .past k (omega arith));
   }
 
-  pub written-all : {r : List ℕ} (n : ℕ) → some-beyond n X ≡ false → Written r n → TimingWords n X r
+  pub written-all : {r : List ℕ} (n : ℕ) → some-beyond n X ≡ false → WordsUpTo r n → TimingWords n X r
   unfolding meantV
   written-all n b w = record {
     are = record { at = λ j h. ap entry (w .filled .done j h) ∙ word-is _ (none-at beyond X n j b h) };

@@ -17,7 +17,7 @@ Reaches n P X = Keeps n (P .order) (timing X) × (deviation n P (timing X) ≡ n
 
 module _ (panels n : ℕ) (after lag : List (List ℕ)) (floor due : List ℕ) (least : ℕ) where
   -- the words are those of the tables P and of their least deviation
-  pub record SheetWords (P : Cue) : Type 0 where
+  pub record MeasuredWords (P : Cue) : Type 0 where
     pub panels-are : P .panels ≡ panels
     pub afters : Holds n n (P .order) after
     pub lags : Holds panels n (P .lag) lag
@@ -27,6 +27,6 @@ module _ (panels n : ℕ) (after lag : List (List ℕ)) (floor due : List ℕ) (
 
   -- whatever tables they are, the answer says whether X reaches the least deviation and, on a sheet that timings can keep the order of,
   -- whether it is tightest
-  pub record Tested (X : ℕ → ℤ) (r : Bool) : Type 0 where
-    pub reaches : (P : Cue) → SheetWords P → Says (Reaches n P X) r
-    pub tightest : (P : Cue) → SheetWords P → Readable n P → NoGain n (P .order) → Says (Tightest n P X) r
+  pub record TestSays (X : ℕ → ℤ) (r : Bool) : Type 0 where
+    pub reaches : (P : Cue) → MeasuredWords P → Says (Reaches n P X) r
+    pub tightest : (P : Cue) → MeasuredWords P → Readable n P → NoGain n (P .order) → Says (Tightest n P X) r

@@ -2,13 +2,14 @@
 ghost use mathlib.Core.Path.{_≡_};
 ghost use Prim.Native.Nat.{_≤_};
 ghost use Rattle.timing.specs.Times.{component, beyond, some-beyond};
+ghost use Rattle.cue.specs.Sizes.{size-limit};
 use crate::Timing;
 
 const FAR_LIMIT: i64 = 1_000_000_000;
 
 // One of the first n components is beyond the limit.
 pub fn beyond(timing: Timing, n: usize) -> bool
-    requires { ⌜ n ≤ 6 ⌝ }
+    requires { ⌜ n ≤ size-limit ⌝ }
     ensures { λ r. ⌜ r ≡ some-beyond n (component (timing .at)) ⌝ }
 {
     let at = timing.at;

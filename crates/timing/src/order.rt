@@ -4,10 +4,11 @@ ghost use Rattle.cue.specs.Cue.{Keeps};
 ghost use Rattle.sheet.specs.Sizes.{order-limit};
 ghost use Rattle.tables.specs.Held.{meant, meantV, Closely, CloselyV, Says};
 ghost use Rattle.timing.specs.Times.{far-limit};
+ghost use Rattle.cue.specs.Sizes.{size-limit};
 
 // "x(i) ≥ b(i,j) + x(j)" for each two triggers.
 pub fn keeps(after: &[[u64; 6]; 6], x: [u64; 6], n: usize) -> bool
-    requires { ⌜ (n ≤ 6) × Closely n n order-limit (now after) × CloselyV n far-limit x ⌝ }
+    requires { ⌜ (n ≤ size-limit) × Closely n n order-limit (now after) × CloselyV n far-limit x ⌝ }
     ensures { λ r. ⌜ Says (Keeps n (meant (now (after .entry))) (meantV x)) r ⌝ }
 {
     let mut i: usize = 0;

@@ -5,7 +5,7 @@ ghost use Rattle.sheet.specs.Sizes.{order-limit};
 ghost use Rattle.tables.specs.Held.{Closely};
 ghost use Rattle.timing.specs.Times.{component, some-beyond};
 ghost use Rattle.timing.specs.Deviation.{SheetClose};
-ghost use Rattle.timing.specs.Test.{Tested};
+ghost use Rattle.timing.specs.Test.{TestSays};
 use crate::Timing;
 use crate::deviation::deviation;
 use crate::order::keeps;
@@ -23,7 +23,7 @@ pub fn tested(
     n: usize,
 ) -> bool
     requires { ⌜ SheetClose panels n (now lag) floor due × Closely n n order-limit (now after) × (some-beyond n (component (timing .at)) ≡ false) ⌝ }
-    ensures { λ r. ⌜ Tested panels n (now (after .entry)) (now (lag .entry)) floor due least (component (timing .at)) r ⌝ }
+    ensures { λ r. ⌜ TestSays panels n (now (after .entry)) (now (lag .entry)) floor due least (component (timing .at)) r ⌝ }
 {
     let x = words_of(timing, n);
     if keeps(after, x, n) {

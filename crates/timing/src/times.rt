@@ -5,11 +5,12 @@ ghost use Prim.Native.Nat.{_≤_};
 ghost use Rattle.maxplus.specs.Entry.{num};
 ghost use Rattle.words.specs.Words.{word};
 ghost use Rattle.timing.specs.Times.{component, beyond, some-beyond, TimingWords};
+ghost use Rattle.cue.specs.Sizes.{size-limit};
 use crate::Timing;
 
 // The words of the first n components, absent past them.
 pub fn words_of(timing: Timing, n: usize) -> [u64; 6]
-    requires { ⌜ (n ≤ 6) × (some-beyond n (component (timing .at)) ≡ false) ⌝ }
+    requires { ⌜ (n ≤ size-limit) × (some-beyond n (component (timing .at)) ≡ false) ⌝ }
     ensures { λ r. ⌜ TimingWords n (component (timing .at)) r ⌝ }
 {
     let at = timing.at;

@@ -11,6 +11,7 @@ use Rattle.maxplus.proofs.EachLaws.{each-same}
 use Rattle.trigger_sets.specs.Sets.{bit, bitsFrom, members}
 use Rattle.walk.specs.Trace.{Event, forEach, selections, fixings}
 use Rattle.walk.proofs.TraceLaws.{fixings-append, selections-append}
+use Rattle.cue.specs.Sizes.{size-limit}
 
 module _ {A : Type 0} where
   -- parts that are empty may be left out at the end
@@ -56,7 +57,7 @@ unfolding each members
 members-parts m g = bits-each 6 0 m g
 
 -- where the mask's bits are the triggers t below n
-pub members-each : (n m : ℕ) (t : ℕ → Bool) (g h : ℕ → List Event) → n ≤ 6 → ((j : ℕ) → j < 6 → bit m j ≡ (ltb j n && t j)) →
+pub members-each : (n m : ℕ) (t : ℕ → Bool) (g h : ℕ → List Event) → n ≤ size-limit → ((j : ℕ) → j < 6 → bit m j ≡ (ltb j n && t j)) →
     ((j : ℕ) → j < n → T (t j) → g j ≡ h j) → forEach (members m) g ≡ each n (λ j. onlyIf (t j) (h j))
 members-each n m t g h few e same =
     let s : (6 - n) + n ≡ 6 = omega arith in

@@ -12,6 +12,7 @@ use Rattle.walk.specs.declared.Outcome.{Outcome}
 use Rattle.walk.specs.declared.Outcome.the-variants.{Selection, End}
 use Rattle.walk.proofs.TraceLaws.{fixings-marks, selections-marks, marked-fixings, marked-selections, marked-length, selections-few}
 use Rattle.walk.proofs.Whole.{walk-few, start-pending, start-ready}
+use Rattle.cue.specs.Sizes.{size-limit}
 
 -- the selections that a state still has to give
 abbrev pub remaining : List ℕ → List (List ℕ) → ℕ → Walk → List (List ℕ)
@@ -65,7 +66,7 @@ pub record Walked (kept : List ℕ) (gains : List (List ℕ)) (f : ℕ) (w : Wal
   pub steps : fixings (walkOf kept gains f) ≡ w .fixings + fixings (pending kept gains f w)
   pub rest : selections (walkOf kept gains f) ≡ seen ++ remaining kept gains f w
 
-pub walked-start : (kept : List ℕ) (gains : List (List ℕ)) (f : ℕ) → 0 < f → f ≤ 6 → Masks kept → Walked kept gains f (startOf kept) []
+pub walked-start : (kept : List ℕ) (gains : List (List ℕ)) (f : ℕ) → 0 < f → f ≤ size-limit → Masks kept → Walked kept gains f (startOf kept) []
 walked-start kept gains f h k m = record {
   ready = start-ready kept gains f h k m;
   steps = rw (start-pending kept gains f h m) (omega arith);
@@ -87,7 +88,7 @@ module _ {kept : List ℕ} {gains : List (List ℕ)} {f : ℕ} {w : Walk} {seen 
     pub walked-less : length (remaining kept gains f (r .next)) < length (remaining kept gains f w)
     walked-less = omega (arith, ap length (found-selection s e))
 
-    pub walked-few : f ≤ 6 → length seen < 102642
+    pub walked-few : f ≤ size-limit → length seen < 102642
     walked-few h = omega (
       arith,
       length-append seen (remaining kept gains f w),

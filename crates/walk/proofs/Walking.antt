@@ -15,13 +15,14 @@ use Rattle.walk.specs.declared.Outcome.the-variants.{Selection, End}
 use Rattle.walk.proofs.PickLaws.{triggers-fit}
 use Rattle.walk.proofs.Stack.{untried, fixAt, Splits, down, up, mark-more, pending-fix, pending-up, fixed-down, fixed-whole, pending-none}
 use Rattle.walk.proofs.Stack.{sound-fix, sound-down, sound-up}
+use Rattle.cue.specs.Sizes.{size-limit}
 
 pub under : {a b t : ℕ} → b ≡ t → a < b → a < t
 under e h = omega arith
 
 -- the bits of all levels, and of one more, fit a word
 module _ {f : ℕ} {w : Walk} (s : Sound f w) where
-  six : suc (w .depth) ≤ 6
+  six : suc (w .depth) ≤ size-limit
   six = omega (arith, s .few, s .deep)
 
   pub left-fits : w .left < 64 ^ 6

@@ -11,6 +11,7 @@ use Rattle.walk.specs.Trace.{Event, fixing, forEach, cut, serves, narrow
 use Rattle.walk.specs.State.{StepReady, picked, level, stack, pending, startOf}
 use Rattle.trigger_sets.proofs.Tests.{all-at}
 use Rattle.trigger_sets.proofs.MemberLaws.{members-few}
+use Rattle.cue.specs.Sizes.{size-limit}
 
 pub forEach-same : (js : List ℕ) (g h : ℕ → List Event) → ((j : ℕ) → g j ≡ h j) → forEach js g ≡ forEach js h
 unfolding forEach
@@ -72,7 +73,7 @@ pub most-few : (f : ℕ) → f < 7 → most f ≤ 102642
 unfolding most
 most-few f h = leb→le (most f) 102642 (all-at (λ f. leb (most f) 102642) 7 tt f h)
 
-pub walk-few : (kept : List ℕ) (gains : List (List ℕ)) (f : ℕ) → f ≤ 6 → length (walkOf kept gains f) ≤ 102642
+pub walk-few : (kept : List ℕ) (gains : List (List ℕ)) (f : ℕ) → f ≤ size-limit → length (walkOf kept gains f) ≤ 102642
 unfolding walkOf
 walk-few kept gains f h = omega (arith, levels-few gains f 0 (λ k. getD kept k 0) [], most-few f (omega arith))
 
@@ -93,7 +94,7 @@ module _ (kept : List ℕ) (gains : List (List ℕ)) (f : ℕ) (h : 0 < f) where
   pub start-pending : Masks kept → pending kept gains f (startOf kept) ≡ walkOf kept gains f
   start-pending s = start-run s ∙ sym (walk-run kept gains f)
 
-  pub start-ready : f ≤ 6 → Masks kept → StepReady kept gains f (startOf kept)
+  pub start-ready : f ≤ size-limit → Masks kept → StepReady kept gains f (startOf kept)
   start-ready k s = record {
     sound = record { few = k; deep = h; small = s 0; inside = (omega arith, omega arith) };
     masks = s;

@@ -10,6 +10,7 @@ use Rattle.cue.specs.Cue.{Cue}
 use Rattle.cue.specs.Method as M
 use Rattle.trigger_sets.specs.Sets.{bit}
 use Rattle.walk.specs.Trace.{serves}
+use Rattle.cue.specs.Sizes.{size-limit}
 
 module _ (n : ℕ) (P : Cue) (D : ℤ) (f : ℕ) (masks : List ℕ) (gains : List (List ℕ)) (panels : List ℕ) where
   -- panels are those with a floor, f of them; the masks are their kept triggers, and wherever the walk compares two words they stand in
@@ -17,7 +18,7 @@ module _ (n : ℕ) (P : Cue) (D : ℤ) (f : ℕ) (masks : List ℕ) (gains : Lis
   pub record Follows : Type 0 where
     pub floors : panels ≡ M.floor-panels n P
     pub many : length panels ≡ f
-    pub few : n ≤ 6
+    pub few : n ≤ size-limit
     pub small : (l : ℕ) → getD masks l 0 < 64
     pub bits : (l j : ℕ) → l < f → j < 6 → bit (getD masks l 0) j ≡ (ltb j n && M.kept n P D (getD panels l 0) j)
     pub order : (l k j : ℕ) → l < k → k < f → j < n →

@@ -12,6 +12,7 @@ use Rattle.walk.specs.declared.Counts.{Counts}
 use Rattle.walk.specs.declared.Stepped.{Stepped}
 use Rattle.walk.specs.declared.Outcome.{Outcome}
 use Rattle.walk.specs.declared.Outcome.the-variants.{Selection, End}
+use Rattle.cue.specs.Sizes.{size-limit}
 
 -- n fixings
 abbrev pub marks : ℕ → List Event
@@ -47,7 +48,7 @@ module _ (kept : List ℕ) (gains : List (List ℕ)) where
     fixed w = run kept gains (f - (w .depth + 1)) (picked (suc (w .depth)) (w .picks)) ++ pending w
 
 pub record Sound (f : ℕ) (w : Walk) : Type 0 where
-  pub few : f ≤ 6
+  pub few : f ≤ size-limit
   pub deep : w .depth < f
   pub small : w .left < 64 ^ suc (w .depth)
   pub inside : Triggers (suc (w .depth)) (w .picks)

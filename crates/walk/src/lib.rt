@@ -5,6 +5,7 @@ ghost use mathlib.Core.Path.{_≡_};
 ghost use Prim.Native.Nat.{_<_, _≤_};
 ghost use Rattle.walk.specs.State.{StepReady, StepTaken, FixedReady, Descends, at, stepped, startOf, countsOf};
 ghost use Rattle.walk.specs.Trace.{Masks};
+ghost use Rattle.cue.specs.Sizes.{size-limit};
 use crate::narrowing::narrowed;
 use trigger_sets::low;
 use trigger_sets::others;
@@ -151,7 +152,7 @@ impl Walk {
 
 // The fixings and the selections of the whole walk.
 pub fn count(panels: usize, kept: &[u8; 6], gains: &[[u64; 6]; 6]) -> Counts
-    requires { ⌜ (0 < panels) × (panels ≤ 6) × Masks (now kept) ⌝ }
+    requires { ⌜ (0 < panels) × (panels ≤ size-limit) × Masks (now kept) ⌝ }
     ensures { λ r. ⌜ r ≡ countsOf (now (kept .entry)) (now (gains .entry)) panels ⌝ }
 {
     let mut w = Walk::start(kept);

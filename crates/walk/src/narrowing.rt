@@ -4,6 +4,7 @@ ghost use Prim.Native.Nat.{_<_, _≤_};
 ghost use lib.ListN.{getD};
 ghost use Rattle.walk.specs.Trace.{Masks, cut, maskAt};
 ghost use Rattle.walk.specs.State.{picked, Triggers};
+ghost use Rattle.cue.specs.Sizes.{size-limit};
 use trigger_sets::has;
 
 // What fixing trigger j leaves of a later panel's mask m; `serves`: j is there as good as where it was fixed.
@@ -21,7 +22,7 @@ pub fn cut_by(j: usize, serves: bool, m: u8) -> u8
 
 // The pick of level i, one of k.
 fn pick(picks: u64, k: usize, i: usize) -> usize
-    requires { ⌜ (i < k) × (k ≤ 6) × Triggers k picks ⌝ }
+    requires { ⌜ (i < k) × (k ≤ size-limit) × Triggers k picks ⌝ }
     ensures is { λ r. ⌜ r ≡ getD (picked k picks) i 0 ⌝ }
     ensures trigger { λ r. ⌜ r < 6 ⌝ }
 {

@@ -11,6 +11,10 @@ bias = 0x100_0000_0000
 abbrev pub far : ℕ
 far = 0x40_0000_0000
 
+-- three numbers no further from 0 than this add up to one within far
+abbrev pub third : ℕ
+third = 0x15_5555_5555
+
 unfoldable pub word : E → ℕ
 word absent = 0
 word (num z) = bias + up z - dn z

@@ -49,7 +49,8 @@ module _ {n count : ℕ} {ws : List ℤ} {L : List (Line n)} (six : n ≤ 6) (s 
   unfolding line-at
   line-back d k h = line-ext n _ _ (λ i hi.
       at-line n _ i hi ∙
-      ap entry (sym (getD-take (line-size * count) ws (line-size * k + 1 + i) (pos 0) (omega arith)) ∙ ap (λ l. getD l (line-size * k + 1 + i) (pos 0)) (s .words)) ∙
+      ap entry (sym (getD-take (line-size * count) ws (line-size * k + 1 + i) (pos 0) (omega arith)) ∙
+      ap (λ l. getD l (line-size * k + 1 + i) (pos 0)) (s .words)) ∙
       component-at n d L (s .fitting) k i (omega (arith, s .many)) hi six)
 
   pub lines-back : lines-of n count ws ≡ L

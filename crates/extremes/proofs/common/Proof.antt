@@ -8,7 +8,7 @@ use lib.ListN.{getD}
 use Rattle.maxplus.specs.Entry.{Present}
 use Rattle.tables.specs.Held.{meantV}
 use Rattle.trigger_sets.specs.Sets.{SetOf}
-use Rattle.candidates.specs.Steps.{Closed}
+use Rattle.candidates.specs.Rays.{Closed}
 use Rattle.trigger_sets.proofs.SetLaws.{every-none, every-more, every-less, every-stop}
 use Rattle.extremes.proofs.ClosureLaws.{flag-present, flag-absent}
 use Rattle.extremes.proofs.common.Statement.{statement}

@@ -2,7 +2,7 @@
 use mathlib.Core.Bool.{not}
 use native.Mathlib.Omega.{arith}
 use lib.Dec.{eqb}
-use Rattle.candidates.proofs.WordLaws.{close-largest}
+use Rattle.tables.proofs.LargestLaws.{close-largest}
 use Rattle.extremes.proofs.ExtremeLaws.{extreme-says, extreme-own}
 use Rattle.extremes.proofs.extreme.Statement.{statement}
 use Rattle.extremes.proofs.extreme.Tie as tie

@@ -3,7 +3,7 @@ use native.Mathlib.Omega.{arith}
 use borrow.Author.Tests.{not-true, not-false}
 use Rattle.tables.specs.Held.{meantV}
 use Rattle.trigger_sets.proofs.SetLaws.{set-with, set-none}
-use Rattle.candidates.proofs.WordLaws.{closely-moreV, closely-part}
+use Rattle.tables.proofs.SquareLaws.{closely-moreV, closely-part}
 use Rattle.extremes.proofs.ClosureLaws.{flag-present, flag-absent}
 use Rattle.extremes.proofs.held_by.Statement.{statement}
 use Rattle.extremes.proofs.held_by.Tie as tie

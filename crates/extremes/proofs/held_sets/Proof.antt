@@ -5,7 +5,7 @@ use borrow.Author.Tests.{ltb-false}
 use Rattle.tables.specs.Held.{meant, meantV}
 use Rattle.tables.proofs.Loops.{Filled, filled-none, filled-more}
 use Rattle.trigger_sets.specs.Sets.{SetOf}
-use Rattle.candidates.specs.Steps.{Held}
+use Rattle.candidates.specs.Rays.{Held}
 use Rattle.extremes.proofs.held_sets.Statement.{statement}
 use Rattle.extremes.proofs.held_sets.Tie as tie
 

@@ -2,7 +2,7 @@
 use native.Mathlib.Omega.{arith}
 use borrow.Author.Tests.{not-true, not-false}
 use Rattle.words.proofs.Laws.{close-more}
-use Rattle.candidates.proofs.WordLaws.{closely-moreV, closely-part}
+use Rattle.tables.proofs.SquareLaws.{closely-moreV, closely-part}
 use Rattle.extremes.proofs.ClosureLaws.{flag-present, flag-absent, reaching-not, reaching-some, reaching-none}
 use Rattle.extremes.proofs.reaching.Statement.{statement}
 use Rattle.extremes.proofs.reaching.Tie as tie

@@ -5,7 +5,7 @@ use Rattle.maxplus.specs.Entry.{_⊗_}
 use Rattle.words.specs.Words.{entry}
 use Rattle.tables.specs.Held.{meant, meantV}
 use Rattle.tables.proofs.Loops.{Filled, filled-none, filled-more}
-use Rattle.candidates.specs.Steps.{Reaching}
+use Rattle.candidates.specs.Rays.{Reaching}
 use Rattle.extremes.proofs.tight_sets.Statement.{statement}
 use Rattle.extremes.proofs.tight_sets.Tie as tie
 

@@ -4,7 +4,7 @@ use Prim.Native.Nat.{ℕ, _+_, _*_, _-_, _≤_, _<_}
 use native.Mathlib.Omega.{arith}
 use borrow.Fn.Kinds.{In}
 use borrow.Fn.PlainCycle.{Measures, is, falls, and}
-use Rattle.candidates.proofs.PreparedLaws.{levels-few}
+use Rattle.candidates.proofs.DrawableLaws.{levels-few}
 use Rattle.gather.proofs.SpreadLaws.{spread-end, spread-none, spread-more, spread-bounds}
 use Rattle.gather.proofs.spread.Reads as spread
 use Rattle.gather.proofs.spread.Kinds as spread-kinds

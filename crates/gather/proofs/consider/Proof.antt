@@ -1,6 +1,6 @@
 -- `gather::consider` meets its contract, by the test at which the line is left, if it is.
 use Rattle.tables.proofs.Loops.{says-yes, says-no}
-use Rattle.candidates.proofs.PreparedLaws.{ready}
+use Rattle.candidates.proofs.DrawableLaws.{ready}
 use Rattle.buffer.specs.Buffer.{Before, Fresh}
 use Rattle.gather.proofs.GatherLaws.{gathered-ordered, not-above, not-fresh, not-extreme, put-in}
 use Rattle.gather.proofs.consider.Statement.{statement}

@@ -1,7 +1,7 @@
 -- `gather::consider_bound` meets its contract: the candidates of the first `t` triggers have been considered.
 use Prim.Native.Nat.{_-_}
 use native.Mathlib.Omega.{arith}
-use Rattle.candidates.proofs.PreparedLaws.{stars-close, pulls-close}
+use Rattle.candidates.proofs.DrawableLaws.{stars-close, pulls-close}
 use Rattle.gather.proofs.GatherLaws.{Drawing, drawing-start, drawing-more, drawing-end}
 use Rattle.gather.proofs.consider_bound.Statement.{statement}
 use Rattle.gather.proofs.consider_bound.Tie as tie

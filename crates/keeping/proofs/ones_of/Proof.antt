@@ -9,9 +9,10 @@ use Rattle.tables.proofs.Loops.{Filled, filled-none, filled-more}
 use Rattle.keeping.proofs.KeptLaws.{six-filled}
 use Rattle.keeping.proofs.ones_of.Statement.{statement}
 use Rattle.keeping.proofs.ones_of.Tie as tie
+use Rattle.cue.specs.Sizes.{size-limit}
 
 abbrev Inv-loop : tie.InvT-loop
-Inv-loop kept r₀ i₀ r i = (i ≤ 6) × Filled (λ i v. v ≡ ones (getD kept i 0)) 0 r i
+Inv-loop kept r₀ i₀ r i = (i ≤ size-limit) × Filled (λ i v. v ≡ ones (getD kept i 0)) 0 r i
 
 abbrev μ-loop : tie.MeasureT-loop
 μ-loop kept r₀ i₀ r i = 6 - i

@@ -7,12 +7,13 @@ use Rattle.planner_c.proofs.Few.{panels-few}
 use borrow.Author.Needs.{needs}
 use Rattle.planner_c.proofs.tuzhelar_kept.Statement.{statement}
 use Rattle.planner_c.proofs.tuzhelar_kept.Tie as tie
+use Rattle.cue.specs.Sizes.{size-limit}
 
 kept-table-requires : tie.Need-kept-table-requires
 kept-table-requires c κs = search needs
 
 write-kept-requires : tie.Need-write-kept-requires
-write-kept-requires c κs = subst (λ (r : KeptTable). r .panels ≤ 6) (sym (c .before .kept-table .ensures)) (panels-few _)
+write-kept-requires c κs = subst (λ (r : KeptTable). r .panels ≤ size-limit) (sym (c .before .kept-table .ensures)) (panels-few _)
 
 cast-result : tie.Need-cast-result
 cast-result c = search needs

@@ -7,9 +7,10 @@ use borrow.Author.Needs.{needs}
 use lib.ListN.{getD}
 use Rattle.reading.proofs.empty.Statement.{statement}
 use Rattle.reading.proofs.empty.Tie as tie
+use Rattle.cue.specs.Sizes.{size-limit}
 
 abbrev Inv-loop : tie.InvT-loop
-Inv-loop at j₀ j = (j ≤ 6) × ((k : ℕ) → k < j → getD at k 0 ≡ 0)
+Inv-loop at j₀ j = (j ≤ size-limit) × ((k : ℕ) → k < j → getD at k 0 ≡ 0)
 
 abbrev μ-loop : tie.MeasureT-loop
 μ-loop at j₀ j = 6 - j

@@ -8,15 +8,16 @@ use Rattle.tables.specs.Held.{meant}
 use Rattle.tables.proofs.Loops.{Rows, Cells, rows-none, cells-none, rows-more, cells-more}
 use Rattle.tables.proofs.identity.Statement.{statement}
 use Rattle.tables.proofs.identity.Tie as tie
+use Rattle.cue.specs.Sizes.{size-limit}
 
 abbrev Inv-loop2 : tie.InvT-loop2
-Inv-loop2 r₀ i j₀ r j = (j ≤ 6) × Cells (λ i j v. entry v ≡ idm i j) 6 r i j
+Inv-loop2 r₀ i j₀ r j = (j ≤ size-limit) × Cells (λ i j v. entry v ≡ idm i j) 6 r i j
 
 abbrev μ-loop2 : tie.MeasureT-loop2
 μ-loop2 r₀ i j₀ r j = 6 - j
 
 abbrev Inv-loop : tie.InvT-loop
-Inv-loop r₀ i₀ r i = (i ≤ 6) × Rows (λ i j v. entry v ≡ idm i j) 6 r i
+Inv-loop r₀ i₀ r i = (i ≤ size-limit) × Rows (λ i j v. entry v ≡ idm i j) 6 r i
 
 abbrev μ-loop : tie.MeasureT-loop
 μ-loop r₀ i₀ r i = 6 - i

@@ -7,9 +7,10 @@ use native.Mathlib.Omega.{arith}
 use Rattle.tables.proofs.Loops.{Filled, filled-none, filled-more}
 use Rattle.tables.proofs.table.Statement.{statement}
 use Rattle.tables.proofs.table.Tie as tie
+use Rattle.cue.specs.Sizes.{size-limit}
 
 abbrev Inv-loop : tie.InvT-loop
-Inv-loop rows r₀ i₀ r i = (i ≤ 6) × Filled (λ k w. w ≡ getD rows k (record { at = [] }) .at) [] r i
+Inv-loop rows r₀ i₀ r i = (i ≤ size-limit) × Filled (λ k w. w ≡ getD rows k (record { at = [] }) .at) [] r i
 
 abbrev μ-loop : tie.MeasureT-loop
 μ-loop rows r₀ i₀ r i = 6 - i

@@ -5,8 +5,8 @@ use lib.ListN.{length, length-set}
 use native.Mathlib.Omega.{arith}
 use Rattle.words.specs.Words.{entry}
 use Rattle.tables.specs.Held.{meant, meantV}
-use Rattle.thresholds.specs.Steps.{kept-of, KeptBytes}
-use Rattle.thresholds.proofs.StepLaws.{bytes-none, bytes-more}
+use Rattle.thresholds.specs.Thresholds.{kept-of, KeptBytes}
+use Rattle.thresholds.proofs.ThresholdLaws.{bytes-none, bytes-more}
 use Rattle.thresholds.proofs.kept.Statement.{statement}
 use Rattle.thresholds.proofs.kept.Tie as tie
 

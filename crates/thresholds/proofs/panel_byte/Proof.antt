@@ -2,7 +2,7 @@
 use mathlib.Core.Path.{sym, _∙_}
 use native.Mathlib.Omega.{arith}
 use Rattle.words.proofs.Laws.{close-more, close-minus}
-use Rattle.thresholds.proofs.StepLaws.{floor-there, floor-absent}
+use Rattle.thresholds.proofs.ThresholdLaws.{floor-there, floor-absent}
 use Rattle.thresholds.proofs.panel_byte.Statement.{statement}
 use Rattle.thresholds.proofs.panel_byte.Tie as tie
 

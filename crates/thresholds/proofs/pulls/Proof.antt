@@ -3,14 +3,16 @@ use mathlib.Core.Path.{_≡_}
 use Prim.Native.Nat.{_≤_, _-_}
 use native.Mathlib.Omega.{arith}
 use Rattle.words.specs.Words.{entry}
+use Rattle.cue.specs.Cue.{overdue}
 use Rattle.tables.specs.Held.{meant, meantV}
-use Rattle.thresholds.specs.Steps.{pull-of}
 use Rattle.tables.proofs.Loops.{Filled, filled-none, filled-more}
+use Rattle.tables.proofs.SquareLaws.{closely-moreV}
+use Rattle.thresholds.proofs.ThresholdLaws.{column-close, column-overdue}
 use Rattle.thresholds.proofs.pulls.Statement.{statement}
 use Rattle.thresholds.proofs.pulls.Tie as tie
 
 abbrev Inv-loop : tie.InvT-loop
-Inv-loop star due n r₀ j₀ r j = (j ≤ n) × Filled (λ j v. entry v ≡ pull-of n (meant star) (meantV due) j) 0 r j
+Inv-loop star due n r₀ j₀ r j = (j ≤ n) × Filled (λ j v. entry v ≡ overdue n (meantV due) (λ i. meant star i j)) 0 r j
 
 abbrev μ-loop : tie.MeasureT-loop
 μ-loop star due n r₀ j₀ r j = n - j
@@ -18,8 +20,13 @@ abbrev μ-loop : tie.MeasureT-loop
 loop-holds : tie.Need-loop-holds Inv-loop μ-loop
 loop-holds c = (omega arith, filled-none _ 0 0)
 
-pull-requires : tie.Need-pull-requires Inv-loop μ-loop
-pull-requires c κs = let s = c .before .before in (s .pre .0, omega arith, s .pre .1, s .pre .2)
+column-requires : tie.Need-column-requires Inv-loop μ-loop
+column-requires c κs = omega arith
+
+overdue-requires : tie.Need-overdue-requires Inv-loop μ-loop
+overdue-requires c κs =
+    let s : tie.Start Inv-loop μ-loop = search in
+    (s .pre .0, closely-moreV (omega arith) (s .pre .2), column-close _ _ _ (s .pre .0) (c .column .ensures) (omega arith) (omega arith) (s .pre .1))
 
 mul-r : tie.Need-mul-r Inv-loop μ-loop
 mul-r c = omega arith
@@ -34,7 +41,12 @@ loop-less : tie.Need-loop-less Inv-loop μ-loop
 loop-less c = omega arith
 
 loop-again : tie.Need-loop-again Inv-loop μ-loop
-loop-again c = (omega arith, filled-more _ 0 _ _ _ (omega arith) (c .before .before .loop .inv .1) (c .pull .ensures))
+loop-again c =
+    let k : tie.At-loop Inv-loop μ-loop = search in (
+      omega arith,
+      filled-more _ 0 _ _ _ (omega arith) (k .loop .inv .1)
+          (column-overdue _ _ _ (k .before .pre .0) (c .before .column .ensures) _ _ (c .overdue .ensures)),
+    )
 
 returns : tie.Need-returns Inv-loop μ-loop
 unfolding meantV
@@ -47,7 +59,8 @@ pulls-spec =
     Inv-loop
     μ-loop
     loop-holds
-    pull-requires
+    column-requires
+    overdue-requires
     mul-r
     array-write-r
     add-j

@@ -6,8 +6,8 @@ use native.Mathlib.Omega.{arith}
 use Rattle.words.specs.Words.{entry}
 use Rattle.words.proofs.Laws.{close-more}
 use Rattle.tables.specs.Held.{meant, meantV}
-use Rattle.thresholds.specs.Steps.{reaches}
-use Rattle.thresholds.proofs.StepLaws.{reaches-yes, reaches-no}
+use Rattle.thresholds.specs.Thresholds.{reaches}
+use Rattle.thresholds.proofs.ThresholdLaws.{reaches-yes, reaches-no}
 use Rattle.trigger_sets.specs.Sets.{byte-of}
 use Rattle.trigger_sets.proofs.ByteLaws.{byte-none, byte-set, byte-clear, bit-more, bit-low}
 use Rattle.thresholds.proofs.reaching.Statement.{statement}

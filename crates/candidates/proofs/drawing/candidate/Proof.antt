@@ -1,8 +1,8 @@
 -- `candidates::drawing::candidate` meets its contract. Assumes nothing.
 use native.Mathlib.Omega.{arith}
 use Rattle.tables.specs.Held.{meantV}
-use Rattle.candidates.specs.Steps.{ray-of}
-use Rattle.candidates.proofs.WordLaws.{close-largest}
+use Rattle.tables.proofs.LargestLaws.{close-largest}
+use Rattle.candidates.specs.Rays.{ray-of}
 use Rattle.candidates.proofs.DrawLaws.{candidate-drawn}
 use Rattle.candidates.proofs.drawing.candidate.Statement.{statement}
 use Rattle.candidates.proofs.drawing.candidate.Tie as tie

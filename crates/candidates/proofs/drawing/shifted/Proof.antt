@@ -6,13 +6,13 @@ use Rattle.maxplus.specs.Entry.{_⊗_, inv}
 use Rattle.words.specs.Words.{entry}
 use Rattle.words.proofs.Laws.{close-more}
 use Rattle.tables.specs.Held.{meantV}
-use Rattle.candidates.specs.Lines.{Written}
+use Rattle.candidates.specs.Lines.{WordsOf}
 use Rattle.candidates.proofs.WordLaws.{written-none, written-more, written-all}
 use Rattle.candidates.proofs.drawing.shifted.Statement.{statement}
 use Rattle.candidates.proofs.drawing.shifted.Tie as tie
 
 abbrev Inv-loop : tie.InvT-loop
-Inv-loop top n x r₀ j₀ r j = (j ≤ n) × Written j (λ j. meantV x j ⊗ inv (entry top)) r
+Inv-loop top n x r₀ j₀ r j = (j ≤ n) × WordsOf j (λ j. meantV x j ⊗ inv (entry top)) r
 
 abbrev μ-loop : tie.MeasureT-loop
 μ-loop top n x r₀ j₀ r j = n - j

@@ -8,7 +8,8 @@ use Rattle.words.specs.Words.{entry, Close}
 use Rattle.sheet.specs.Sizes.{starred-size}
 use Rattle.tables.specs.Held.{meant, meantV}
 use Rattle.tables.proofs.Loops.{Filled, filled-none, filled-more}
-use Rattle.candidates.proofs.WordLaws.{closely-moreV, closely-part, close-dot}
+use Rattle.tables.proofs.SquareLaws.{closely-moreV, closely-part}
+use Rattle.tables.proofs.LargestLaws.{close-dot}
 use Rattle.candidates.proofs.drawing.starred.Statement.{statement}
 use Rattle.candidates.proofs.drawing.starred.Tie as tie
 

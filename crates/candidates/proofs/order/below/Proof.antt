@@ -7,9 +7,10 @@ use borrow.Author.Count as count
 use Rattle.candidates.proofs.OrderLaws.{below-less, below-more, below-same}
 use Rattle.candidates.proofs.order.below.Statement.{statement}
 use Rattle.candidates.proofs.order.below.Tie as tie
+use Rattle.cue.specs.Sizes.{size-limit}
 
 abbrev Inv-loop : tie.InvT-loop
-Inv-loop a b j₀ j = (j ≤ 6) × ((k : ℕ) → k < j → getD a k 0 ≡ getD b k 0)
+Inv-loop a b j₀ j = (j ≤ size-limit) × ((k : ℕ) → k < j → getD a k 0 ≡ getD b k 0)
 
 abbrev μ-loop : tie.MeasureT-loop
 μ-loop a b j₀ j = 6 - j

@@ -11,9 +11,10 @@ use Rattle.candidates.specs.Lines.{line-of}
 use Rattle.buffer.proofs.SpaceLaws.{component-words, component-more, close-all, laid-line}
 use Rattle.lines.proofs.write.write_line.Statement.{statement}
 use Rattle.lines.proofs.write.write_line.Tie as tie
+use Rattle.cue.specs.Sizes.{size-limit}
 
 abbrev Inv-loop : tie.InvT-loop
-Inv-loop out₀ at n c j₀ out j = (j ≤ 6) × (length out ≡ length out₀) × (out ≡ paste out₀ (at + 1) (component-words n (line-of n c)) j)
+Inv-loop out₀ at n c j₀ out j = (j ≤ size-limit) × (length out ≡ length out₀) × (out ≡ paste out₀ (at + 1) (component-words n (line-of n c)) j)
 
 abbrev μ-loop : tie.MeasureT-loop
 μ-loop out₀ at n c j₀ out j = 6 - j

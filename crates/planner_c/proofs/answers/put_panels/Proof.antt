@@ -11,9 +11,10 @@ use Rattle.planner_c.specs.Words.{pairs}
 use Rattle.planner_c.proofs.Storing.{back, panel-more}
 use Rattle.planner_c.proofs.answers.put_panels.Statement.{statement}
 use Rattle.planner_c.proofs.answers.put_panels.Tie as tie
+use Rattle.cue.specs.Sizes.{size-limit}
 
 abbrev Inv-loop : tie.InvT-loop
-Inv-loop lent₀ kept counts i₀ lent i = (i ≤ 6) × (lent ≡ sets lent₀ 4 (pairs i kept counts))
+Inv-loop lent₀ kept counts i₀ lent i = (i ≤ size-limit) × (lent ≡ sets lent₀ 4 (pairs i kept counts))
 
 abbrev μ-loop : tie.MeasureT-loop
 μ-loop lent₀ kept counts i₀ lent i = 6 - i

@@ -6,12 +6,12 @@ use Rattle.maxplus.specs.Entry.{num}
 use Rattle.words.specs.Words.{word}
 use Rattle.timing.specs.Times.{component, beyond}
 use Rattle.timing.proofs.LimitLaws.{none-at, read-again}
-use Rattle.timing.proofs.TimeLaws.{Written, written-none, written-more, written-all}
+use Rattle.timing.proofs.TimeLaws.{WordsUpTo, written-none, written-more, written-all}
 use Rattle.timing.proofs.times.words_of.Statement.{statement}
 use Rattle.timing.proofs.times.words_of.Tie as tie
 
 abbrev Inv-loop : tie.InvT-loop
-Inv-loop n at r₀ j₀ r j = (j ≤ n) × Written (component at) r j
+Inv-loop n at r₀ j₀ r j = (j ≤ n) × WordsUpTo (component at) r j
 
 abbrev μ-loop : tie.MeasureT-loop
 μ-loop n at r₀ j₀ r j = n - j

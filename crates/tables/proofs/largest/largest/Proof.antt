@@ -1,14 +1,14 @@
--- `candidates::entries::largest` meets its contract. Best is the largest of the places passed. Assumes nothing.
+-- `tables::largest::largest` meets its contract. Best is the largest of the places passed. Assumes nothing.
 use mathlib.Core.Path.{_≡_, refl}
 use Prim.Native.Nat.{_≤_, _-_}
 use native.Mathlib.Omega.{arith}
 use borrow.Author.Tests.{ltb-false}
 use Rattle.maxplus.specs.Tables.{sup}
 use Rattle.words.specs.Words.{entry}
 use Rattle.tables.specs.Held.{meantV}
 use Rattle.tables.proofs.Loops.{largest-none, largest-more}
-use Rattle.candidates.proofs.entries.largest.Statement.{statement}
-use Rattle.candidates.proofs.entries.largest.Tie as tie
+use Rattle.tables.proofs.largest.largest.Statement.{statement}
+use Rattle.tables.proofs.largest.largest.Tie as tie
 
 abbrev Inv-loop : tie.InvT-loop
 Inv-loop n x best₀ j₀ best j = (j ≤ n) × (entry best ≡ sup j (meantV x))

@@ -1,5 +1,5 @@
--- Steps 2 to 5 over the tables that a step is given: S is M*, D is d, u the pulls (the marks with the sign turned), p the floors, q the due
--- marks, e the least deviation.
+-- Steps 4 and 5 over the tables that a step is given: D is d, u the pulls (the marks with the sign turned), p the floors, e the least
+-- deviation.
 use mathlib.Core.Path.{_≡_}
 use mathlib.Core.List.{List, [], _∷_}
 use mathlib.Core.Bool.{Bool, _&&_}
@@ -7,20 +7,8 @@ use Prim.Native.Nat.{ℕ, _≤_, _<_}
 use lib.ListN.{length, getD}
 use Rattle.maxplus.specs.Entry.{E, _⊗_, inv, leqE, present?}
 use Rattle.maxplus.specs.Finite.{each, onlyIf}
-use Rattle.maxplus.specs.Tables.{sup, Vec, Mat}
+use Rattle.maxplus.specs.Tables.{Vec, Mat}
 use Rattle.trigger_sets.specs.Sets.{byte-of}
-
--- "the largest of M*(i,j) − q(i)"
-unfoldable pub pull-of : ℕ → Mat → Vec → Vec
-pull-of n S q j = sup n (λ i. S i j ⊗ inv (q i))
-
--- "the largest d(i,j) + r(j)"
-unfoldable pub landing-of : ℕ → Mat → Vec → Vec
-landing-of n D u i = sup n (λ j. D i j ⊗ inv (u j))
-
--- "the largest, over panels with a floor, of p(i) minus the largest d(i,j) + r(j)"
-unfoldable pub least-of : ℕ → ℕ → Mat → Vec → Vec → E
-least-of m n D u p = sup m (λ i. p i ⊗ inv (landing-of n D u i))
 
 -- "Entry d(i,j) is kept if it is present and at least p(i) − Δ − r(j)."; a is p(i) − Δ
 unfoldable pub reaches : E → Mat → Vec → ℕ → ℕ → Bool

@@ -21,8 +21,8 @@ pub record HeldSets (n : ℕ) (S : Mat) (x : Vec) (r : List ℕ) : Type 0 where
   pub at : (k : ℕ) → k < n → SetOf (λ j. Held n S x k j) (getD r k 0)
 
 -- j reaches a, and no place is beyond
-abbrev pub Reached : ℕ → Vec → E → ℕ → Type 0
-Reached n t a j = (j < n) × (t j ≡ a) × ((k : ℕ) → k < n → t k ≼ a)
+abbrev pub ReachesTop : ℕ → Vec → E → ℕ → Type 0
+ReachesTop n t a j = (j < n) × (t j ≡ a) × ((k : ℕ) → k < n → t k ≼ a)
 
 -- times t by trigger, what is asked for a, the largest lateness o: the panel has a floor and lands just where Δ asks
 abbrev pub Tight : ℕ → Vec → E → E → Type 0

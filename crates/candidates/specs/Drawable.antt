@@ -15,12 +15,13 @@ use Rattle.cue.proofs.Bounds.{Limited}
 use Rattle.tables.specs.Held.{meant, Holds, HoldsV, Closely, CloselyV}
 use Rattle.trigger_sets.specs.Sets.{bit}
 use Rattle.candidates.specs.declared.Marks.{Marks}
+use Rattle.cue.specs.Sizes.{size-limit}
 
 -- the tables of P, and the marks, as words: row l of needs has p(i) − Δ − d(i,j) for the l-th panel i with a floor
-pub record Prepared (n : ℕ) (P : Cue) (M : Marks) (stars lags needs : List (List ℕ)) : Type 0 where
+pub record Drawable (n : ℕ) (P : Cue) (M : Marks) (stars lags needs : List (List ℕ)) : Type 0 where
   pub some : 0 < n
-  pub few : n ≤ 6
-  pub few-panels : P .panels ≤ 6
+  pub few : n ≤ size-limit
+  pub few-panels : P .panels ≤ size-limit
   pub triggers : M .triggers ≡ n
   pub panels : M .panels ≡ P .panels
   pub levels : M .levels ≡ length (floor-panels n P)
@@ -38,9 +39,9 @@ pub record Prepared (n : ℕ) (P : Cue) (M : Marks) (stars lags needs : List (Li
   pub masks : (l j : ℕ) → l < M .levels → j < 6 → bit (getD (M .kept) l 0) j ≡ (ltb j n && kept n P (least n P) (getD (floor-panels n P) l 0) j)
 
 -- few enough of each, and words close enough to add up
-pub record Ready (M : Marks) (stars lags : List (List ℕ)) : Type 0 where
-  pub few : M .triggers ≤ 6
-  pub few-panels : M .panels ≤ 6
+pub record MarksNear (M : Marks) (stars lags : List (List ℕ)) : Type 0 where
+  pub few : M .triggers ≤ size-limit
+  pub few-panels : M .panels ≤ size-limit
   pub starred : Closely (M .triggers) (M .triggers) star-size stars
   pub lagged : Closely (M .panels) (M .triggers) limit lags
   pub due : CloselyV (M .triggers) limit (M .due)

@@ -1,13 +1,13 @@
--- `marks::levels::less` meets its contract. The places passed are written. Assumes nothing.
+-- `tables::differences::less` meets its contract. The places passed are written. Assumes nothing.
 use mathlib.Core.Path.{_≡_}
 use Prim.Native.Nat.{_≤_, _-_}
 use native.Mathlib.Omega.{arith}
 use Rattle.maxplus.specs.Entry.{_⊗_, inv}
 use Rattle.words.specs.Words.{entry}
 use Rattle.tables.specs.Held.{meantV}
 use Rattle.tables.proofs.Loops.{Filled, filled-none, filled-more}
-use Rattle.preparing.proofs.levels.less.Statement.{statement}
-use Rattle.preparing.proofs.levels.less.Tie as tie
+use Rattle.tables.proofs.differences.less.Statement.{statement}
+use Rattle.tables.proofs.differences.less.Tie as tie
 
 abbrev Inv-loop : tie.InvT-loop
 Inv-loop x n row r₀ j₀ r j = (j ≤ n) × Filled (λ j v. entry v ≡ meantV row j ⊗ inv (entry x)) 0 r j

@@ -22,11 +22,12 @@ use Rattle.cue.proofs.Bounds.{Within, star-within, through-within, pull-within,
 use Rattle.tables.specs.Held.{meant, meantV, HoldsV, Closely, CloselyV}
 use Rattle.tables.proofs.SquareLaws.{close-within, closely-within, closely-withinV}
 use Rattle.candidates.specs.declared.Marks.{Marks}
-use Rattle.candidates.specs.declared.Line.{Line}
+use Rattle.candidates.specs.declared.LineWords.{LineWords}
 use Rattle.candidates.specs.Lines.{line-of, Drawn}
-use Rattle.candidates.specs.Steps.{ray-of}
-use Rattle.candidates.specs.Prepared.{Prepared, Ready}
+use Rattle.candidates.specs.Rays.{ray-of}
+use Rattle.candidates.specs.Drawable.{Drawable, MarksNear}
 use Rattle.candidates.proofs.WordLaws.{line-same, written-line}
+use Rattle.cue.specs.Sizes.{size-limit}
 
 -- an entry from −c to c has a word
 word-of : {k l c : ℕ} (e : E) → k ≤ c → l ≤ c → c ≤ far → Within k l e → (v : ℕ) × (entry v ≡ e) × Close c v
@@ -38,16 +39,16 @@ unfolding normal
 normal-same {n} h = line-same (λ i k. ap₂ (λ a b. inv a ⊗ b) (sup-ext n h) (h i k))
 
 -- the words of a line that is drawn, where y is M* w
-pub drawn-line : {n d : ℕ} (S : Mat) (u : Vec) (w y : List ℕ) (t : ℕ) (r : Line) → HoldsV n (mv n S (meantV w)) y →
+pub drawn-line : {n d : ℕ} (S : Mat) (u : Vec) (w y : List ℕ) (t : ℕ) (r : LineWords) → HoldsV n (mv n S (meantV w)) y →
     Drawn n d (normal n (ray-of S u (meantV y) t)) r → line-of n (r .at) ≡ line n (normal n (ray-of S u (mv n S (meantV w)) t))
 unfolding ray-of
 drawn-line S u w y t r h e = written-line (e .written) ∙ normal-same (λ i hi. ap (λ a. S i t ⊕ u t ⊗ a) (h .at i hi))
 
-module _ {n : ℕ} {P : Cue} {M : Marks} {stars lags needs : List (List ℕ)} (p : Prepared n P M stars lags needs) where
+module _ {n : ℕ} {P : Cue} {M : Marks} {stars lags needs : List (List ℕ)} (p : Drawable n P M stars lags needs) where
   open Cue P using (panels, lag, floor, due, order)
 
   -- ---- close words
-  pub levels-few : M .levels ≤ 6
+  pub levels-few : M .levels ≤ size-limit
   levels-few = let a = p .levels in let b = p .few-panels in omega (arith, floor-panels-few n P)
 
   pub stars-close : Closely n n star-size stars
@@ -66,7 +67,7 @@ module _ {n : ℕ} {P : Cue} {M : Marks} {stars lags needs : List (List ℕ)} (p
         close-minus a b _ (p .asked .at i h ∙ ap₂ _⊗_ (sym ea) (sym (ap inv eb ∙ inv-num _))) ca cb;
   }
 
-  pub ready : Ready M stars lags
+  pub ready : MarksNear M stars lags
   ready = record {
     few = rw (p .triggers) (p .few);
     few-panels = rw (p .panels) (p .few-panels);

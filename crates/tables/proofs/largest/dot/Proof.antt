@@ -1,4 +1,4 @@
--- `candidates::entries::dot` meets its contract. Best is the largest sum of the places passed. Assumes nothing.
+-- `tables::largest::dot` meets its contract. Best is the largest sum of the places passed. Assumes nothing.
 use mathlib.Core.Path.{_≡_}
 use Prim.Native.Nat.{_≤_, _-_}
 use native.Mathlib.Omega.{arith}
@@ -6,10 +6,10 @@ use borrow.Author.Tests.{ltb-false}
 use Rattle.maxplus.specs.Entry.{_⊗_}
 use Rattle.maxplus.specs.Tables.{sup, mv}
 use Rattle.words.specs.Words.{entry}
 use Rattle.tables.specs.Held.{meant, meantV}
 use Rattle.tables.proofs.Loops.{largest-none, largest-more}
-use Rattle.candidates.proofs.entries.dot.Statement.{statement}
-use Rattle.candidates.proofs.entries.dot.Tie as tie
+use Rattle.tables.proofs.largest.dot.Statement.{statement}
+use Rattle.tables.proofs.largest.dot.Tie as tie
 
 abbrev Inv-loop : tie.InvT-loop
 Inv-loop table i n x best₀ j₀ best j = (j ≤ n) × (entry best ≡ sup j (λ j. meant table i j ⊗ meantV x j))
