@@ -1,7 +1,7 @@
 -- What follows for a caller that has prepared a sheet's tables: its words are close, and the lines drawn are step 6's candidates.
 use mathlib.Core.Path.{_≡_, ap, ap₂, sym, _∙_}
 use mathlib.Core.List.{List}
-use Prim.Native.Nat.{ℕ, _*_, _≤_, _<_}
+use Prim.Native.Nat.{ℕ, _≤_, _<_}
 use native.Mathlib.Omega.{arith}
 use lib.ListN.{getD}
 use Rattle.maxplus.specs.Entry.{E, num, _⊗_, _⊕_, inv}

@@ -4,7 +4,7 @@ use mathlib.Core.List.{List}
 use Prim.Native.Nat.{ℕ, _+_, _≤_, _<_}
 use native.Mathlib.Omega.{arith}
 use native.Mathlib.Decide.{ℕ-discrete}
-use lib.ListN.{getD, set, replicate, length-set}
+use lib.ListN.{set, replicate, length-set}
 use lib.Seq.{getD-set-same, getD-set-other}
 use Rattle.maxplus.specs.Entry.{E, _≼_}
 use Rattle.maxplus.specs.Tables.{Vec}

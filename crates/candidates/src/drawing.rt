@@ -1,5 +1,5 @@
 // Step 6: from w to its candidates.
-ghost use Prim.Native.Nat.{_*_, _≤_, _<_};
+ghost use Prim.Native.Nat.{_≤_, _<_};
 ghost use Rattle.maxplus.specs.Entry.{_⊗_, _⊕_, inv};
 ghost use Rattle.maxplus.specs.Tables.{mv, normal};
 ghost use Rattle.words.specs.Words.{entry, Close};

@@ -18,7 +18,7 @@ use denote.Ref.{RefT}
 use Rattle.maxplus.specs.Whole.{_+z_, neg, maxz}
 use Rattle.maxplus.specs.Entry.{absent, num, _⊗_, _⊕_, inv, val, Present}
 use Rattle.maxplus.specs.Finite.{each, mapL, sum}
-use Rattle.maxplus.specs.Tables.{sup, supL, mv, mm, idm, power, star, NoGain, normal}
+use Rattle.maxplus.specs.Tables.{sup, supL, mv, mm, idm, power, star, normal}
 use Rattle.maxplus.specs.Line.{at, line}
 use Rattle.maxplus.specs.Sorted.{put, sift}
 use Rattle.maxplus.proofs.WholeLaws.{z-dec}

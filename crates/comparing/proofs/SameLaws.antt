@@ -15,8 +15,6 @@ use lib.IntN.{ℤ, pos}
 use lib.ListN.{length, take, getD}
 use lib.Seq.{take-suc, getD-take}
 use Rattle.maxplus.specs.Line.{Line}
-use Rattle.maxplus.specs.Tables.{NoGain}
-use Rattle.maxplus.proofs.StarLaws.{no-gain?}
 use Rattle.cue.specs.Method.{lines}
 use Rattle.sheet.specs.Sheet.{Got, got, Sheet, read}
 use Rattle.sheet.specs.Sheet as sheet

@@ -7,7 +7,7 @@ use native.Mathlib.Omega.{arith}
 use lib.IntN.{ℤ}
 use Rattle.maxplus.specs.Whole.{_+z_, neg}
 use Rattle.maxplus.specs.Entry.{E, absent, num, _≼_, _⊗_, _⊕_, inv, unit, Present, val}
-use Rattle.maxplus.specs.Tables.{sup, Vec, mv, star, NoGain}
+use Rattle.maxplus.specs.Tables.{Vec, mv, star, NoGain}
 use Rattle.maxplus.proofs.WholeLaws.{up-add, up-neg}
 use Rattle.maxplus.proofs.EntryLaws.{_▸_, ≼-anti, ≼-absent, ≼-of, ≼-back, ⊕-l, ⊕-r}
 use Rattle.maxplus.proofs.EntryLaws.{⊕-lub, ⊗-mono, ⊗-left, ⊗-right, ⊗-comm, ⊗-assoc, ⊗-unit}

@@ -7,7 +7,7 @@ use lib.IntN.{ℤ}
 use Rattle.maxplus.specs.Whole.{neg}
 use Rattle.maxplus.specs.Entry.{E, num, _⊗_, _⊕_, val, leqE, inv, present?}
 use Rattle.maxplus.specs.Finite.{each, onlyIf, mapL, sum, countIf}
-use Rattle.maxplus.specs.Tables.{sup, supL, Vec, Mat, mv, mm, idm, star, normal}
+use Rattle.maxplus.specs.Tables.{supL, Vec, Mat, mv, mm, idm, star, normal}
 use Rattle.maxplus.specs.Line.{Line, line}
 use Rattle.cue.specs.Minimal.{minimal}
 use Rattle.cue.specs.Cue.{Cue, timing, overdue, shortfall}

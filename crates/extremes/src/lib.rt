@@ -1,7 +1,7 @@
 // The test for extreme: a line is extreme exactly when the closures of its triggers have a trigger in common. A set is six bits in a byte.
 ghost use mathlib.Core.Path.{_≡_};
 ghost use mathlib.Core.List.{List};
-ghost use Prim.Native.Nat.{ℕ, _+_, _*_, _≤_, _<_};
+ghost use Prim.Native.Nat.{ℕ, _+_, _≤_, _<_};
 ghost use lib.ListN.{getD};
 ghost use Rattle.maxplus.specs.Entry.{_⊗_, inv, Present};
 ghost use Rattle.words.specs.Words.{entry, Close};

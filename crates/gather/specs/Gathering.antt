@@ -1,6 +1,6 @@
 -- What is gathered, and from which bounds.
 use mathlib.Core.List.{List, [], _∷_, _++_}
-use Prim.Native.Nat.{ℕ, _*_, _≤_, _<_}
+use Prim.Native.Nat.{ℕ, _≤_, _<_}
 use lib.ListN.{getD, take}
 use Rattle.maxplus.specs.Entry.{_≼_, _⊗_, unit}
 use Rattle.maxplus.specs.Finite.{In, each}

@@ -11,9 +11,7 @@ use mir.Facts.{toZ-ofZ}
 use mir.Syntax.{w64}
 use mir.Val.{SFits, toZ, ofZ}
 use Rattle.maxplus.specs.Finite.{each}
-use Rattle.maxplus.specs.Tables.{NoGain}
 use Rattle.maxplus.proofs.EachLaws.{length-each, each-at}
-use Rattle.maxplus.proofs.StarLaws.{no-gain?}
 use Rattle.sheet.specs.Sheet.{Got, got, Sheet, _>>=_, read}
 use Rattle.sheet.specs.Sheet as sheet
 use Rattle.reading.proofs.Refusals.{refusal-known}

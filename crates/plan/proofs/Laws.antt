@@ -14,8 +14,6 @@ use mir.Facts.{toZ-ofZ}
 use mir.Syntax.{w64}
 use mir.Val.{SFits, toZ, ofZ}
 use Rattle.maxplus.specs.Line.{Line}
-use Rattle.maxplus.specs.Tables.{NoGain}
-use Rattle.maxplus.proofs.StarLaws.{no-gain?}
 use Rattle.cue.specs.Cue.{Cue}
 use Rattle.cue.specs.Method.{least, steps, selections, lines}
 use Rattle.cue.proofs.Bounds.{results-32}

@@ -8,9 +8,7 @@ use lib.Dec.{leb}
 use lib.IntN.{ℤ}
 use lib.ListN.{length}
 use Rattle.maxplus.specs.Line.{Line}
-use Rattle.maxplus.specs.Tables.{NoGain}
 use Rattle.maxplus.proofs.EachLaws.{length-each}
-use Rattle.maxplus.proofs.StarLaws.{no-gain?}
 use Rattle.cue.specs.Method.{least, lines, kept-byte, kept-count}
 use Rattle.cue.proofs.Few.{most, lines-few}
 use Rattle.sheet.specs.Sheet.{Got, got, Sheet, read}

@@ -8,14 +8,12 @@ use lib.ListN.{getD}
 use Rattle.maxplus.specs.Tables.{mm, star, NoGain}
 use Rattle.cue.specs.Cue as theory
 use Rattle.words.specs.Words.{far}
-use Rattle.sheet.specs.Sheet.{Got, got, refused, limit, read}
+use Rattle.sheet.specs.Sheet.{Got, got, refused, read}
 use Rattle.sheet.specs.Sheet as spec
 use Rattle.sheet.specs.Sizes.{order-limit}
-use Rattle.sheet.specs.Cue.{cue-size, cue-of, Orderly}
-use Rattle.sheet.specs.Ordered.{ordered}
+use Rattle.sheet.specs.Cue.{cue-size, cue-of}
 use Rattle.sheet.specs.Good.{Good}
 use Rattle.sheet.proofs.Good.{read-good}
-use Rattle.sheet.proofs.OrderedLaws.{ordered-refused, ordered-8, ordered-got}
 use Rattle.reading.specs.Reading.{answer}
 use Rattle.reading.specs.declared.SheetWords.{SheetWords}
 use Rattle.reading.specs.declared.Reading.{Reading}
@@ -27,7 +25,7 @@ use Rattle.order.specs.Closed.{Closed}
 use Rattle.preparing.specs.declared.CueWords.{CueWords}
 use Rattle.preparing.specs.declared.Marked.{Marked}
 use Rattle.preparing.specs.declared.Prepared.{Prepared}
-use Rattle.preparing.specs.Prepared.{Worded, HoldsCue, Fit, Tabled, MarkedAs, Made, PreparedAs}
+use Rattle.preparing.specs.Prepared.{Worded, HoldsCue, Tabled, MarkedAs, PreparedAs}
 use Rattle.preparing.proofs.Results.{strip-held, grid-held, dues-held, lags-close, orders-close, star-held, star-close, through-held, order-says}
 use Rattle.cue.specs.Sizes.{size-limit}
 

@@ -3,7 +3,7 @@ use mathlib.Core.Path.{_≡_, refl, ap, ap₂, sym, subst, _∙_}
 use mathlib.Core.Logic.{inl}
 use mathlib.Core.List.{List, [], _∷_}
 use mathlib.Core.Bool.{Bool, true, false, cond, _&&_}
-use Prim.Native.Nat.{ℕ, zero, suc, _*_, _≤_, _<_}
+use Prim.Native.Nat.{ℕ, zero, suc, _≤_, _<_}
 use native.Mathlib.Omega.{arith}
 use native.Mathlib.Nat.{le-refl}
 use lib.Count.{ones}
@@ -13,7 +13,7 @@ use lib.ListN.{getD}
 use borrow.Author.Tests.{lt-ltb}
 use Rattle.maxplus.specs.Entry.{E, absent, num, _⊗_, inv, Present, present?}
 use Rattle.maxplus.specs.Finite.{In, onlyIf}
-use Rattle.maxplus.specs.Tables.{Vec, Mat, sup, mv, mm, power, star, NoGain}
+use Rattle.maxplus.specs.Tables.{Vec, Mat, mv, mm, power, star, NoGain}
 use Rattle.maxplus.proofs.EntryLaws.{_▸_, ≼-of, ≼-back, inv-num, present?-yes}
 use Rattle.maxplus.proofs.FiniteLaws.{each-in}
 use Rattle.maxplus.proofs.EachLaws.{each-same}
@@ -24,7 +24,7 @@ use Rattle.sheet.specs.Sheet.{limit, Sheet}
 use Rattle.sheet.specs.Sizes.{order-limit, star-size, through-size, mark-down, least-up}
 use Rattle.rows.specs.Grid.{strip, grid}
 use Rattle.rows.proofs.PlaceLaws.{strip-at, grid-at}
-use Rattle.cue.specs.Cue.{Cue, timing, overdue, shortfall, Readable}
+use Rattle.cue.specs.Cue.{Cue, timing, overdue, shortfall}
 use Rattle.cue.specs.Method.{through, pullE, pull, mark, leastE, least, floor-panels, kept, kept-byte, kept-count}
 use Rattle.cue.proofs.Deviation.{pull-is, mv-through, mark-keeps, mark-shortfall}
 use Rattle.cue.proofs.Bounds.{Within, star-within, through-within, pull-within, least-within}
@@ -32,7 +32,6 @@ use Rattle.tables.specs.Held.{meant, meantV, Holds, HoldsV, Closely, CloselyV, 
 use Rattle.trigger_sets.specs.Sets.{bit, byte-of}
 use Rattle.trigger_sets.proofs.ByteLaws.{byte-ext, byte-small, byte-ones, byte-bit}
 use Rattle.thresholds.specs.Thresholds.{reaches, kept-of, KeptBytes, floored}
-use Rattle.sheet.specs.Cue.{cue-of}
 use Rattle.tables.proofs.SquareLaws.{close-within, closely-within, closely-withinV}
 use Rattle.order.proofs.OrderLaws.{mm-held}
 use Rattle.sheet.specs.Good.{Good}

@@ -9,7 +9,6 @@ use borrow.Author.Tests.{lt-ltb, le-ltb}
 use lib.Dec.{ltb}
 use lib.ListN.{length, getD, List·getD-eq-default}
 use Rattle.maxplus.specs.Entry.{E, absent, num, val}
-use Rattle.maxplus.specs.Finite.{each}
 use Rattle.maxplus.specs.Tables.{Mat}
 use Rattle.maxplus.proofs.EachLaws.{each-same}
 use Rattle.words.specs.Words.{bias, word}

@@ -2,8 +2,6 @@
 -- changes what a sheet says changes these laws and `cue-of`, and no theorem about cues.
 use mathlib.Core.Path.{_≡_, refl}
 use mathlib.Core.Logic.{_↔_}
-use Prim.Native.Nat.{ℕ}
-use lib.IntN.{ℤ}
 use Rattle.maxplus.specs.Entry.{inv}
 use Rattle.cue.specs.Cue.{timing}
 use Rattle.cue.specs.Cue as cue

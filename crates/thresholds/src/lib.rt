@@ -1,6 +1,6 @@
 // Steps 2 to 4: the pulls, the least deviation, and the kept triggers of each panel.
 ghost use mathlib.Core.Path.{_≡_};
-ghost use Prim.Native.Nat.{_*_, _≤_, _<_};
+ghost use Prim.Native.Nat.{_≤_, _<_};
 ghost use Rattle.maxplus.specs.Entry.{inv};
 ghost use Rattle.words.specs.Words.{entry, Close, Near};
 ghost use Rattle.cue.specs.Cue.{overdue, shortfall};

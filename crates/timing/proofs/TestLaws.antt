@@ -8,7 +8,6 @@ use lib.Dec.{eqb}
 use lib.IntN.{ℤ}
 use Rattle.maxplus.specs.Entry.{_⊗_, inv}
 use Rattle.maxplus.specs.Tables.{Vec, Mat, mv, NoGain}
-use Rattle.maxplus.proofs.EntryLaws.{inv-num}
 use Rattle.maxplus.proofs.SupLaws.{sup-ext}
 use Rattle.words.specs.Words.{entry}
 use Rattle.words.proofs.Laws.{entry-inj}

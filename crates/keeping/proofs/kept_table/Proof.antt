@@ -8,7 +8,6 @@ use mir.Val.{toZ, ofZ}
 use mir.Facts.{toZ-ofZ}
 use Rattle.maxplus.proofs.EntryLaws.{num-inj}
 use Rattle.sheet.specs.Sheet as spec
-use Rattle.sheet.specs.Cue.{cue-of}
 use Rattle.preparing.specs.Prepared.{Made}
 use Rattle.sheet.specs.Ordered.{ordered}
 use Rattle.keeping.specs.Keeping.{kept-answer}

@@ -1,11 +1,9 @@
 -- `preparing::prepare` meets its contract. Assumes nothing.
 use mathlib.Core.Path.{_≡_, subst}
-use mathlib.Core.List.{List}
 use Prim.Native.Nat.{ℕ}
 use native.Mathlib.Omega.{arith}
 use borrow.Author.Needs.{needs}
 use Rattle.sheet.specs.Sheet as spec
-use Rattle.sheet.specs.Sheet.{got, read}
 use Rattle.maxplus.specs.Tables.{NoGain}
 use Rattle.sheet.specs.Cue.{cue-of, cue-size, Orderly}
 use Rattle.sheet.proofs.OrderedLaws.{ordered-refused, ordered-8, ordered-got}

@@ -1,5 +1,5 @@
 -- `testing::test_timing` meets its contract. Assumes nothing.
-use mathlib.Core.Path.{_≡_, refl, ap, sym, subst, _∙_}
+use mathlib.Core.Path.{_≡_, ap, sym, subst, _∙_}
 use mathlib.Core.Bool.{Bool, true, false}
 use mathlib.Core.List.{List}
 use Prim.Native.Nat.{ℕ}
@@ -14,7 +14,7 @@ use Rattle.sheet.proofs.OrderedLaws.{ordered-read, not-orderly}
 use Rattle.reading.specs.Reading.{answer}
 use Rattle.reading.specs.declared.Reading.{Reading}
 use Rattle.tables.specs.Held.{Says}
-use Rattle.timing.specs.Times.{component, some-beyond}
+use Rattle.timing.specs.Times.{some-beyond}
 use Rattle.preparing.specs.Prepared.{Worded}
 use Rattle.preparing.proofs.Preparing.{reading-refused, reading-good, triggers-of}
 use Rattle.testing.specs.Testing.{Testing}

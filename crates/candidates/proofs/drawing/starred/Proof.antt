@@ -1,6 +1,6 @@
 -- `candidates::drawing::starred` meets its contract. The rows passed are written. Assumes nothing.
 use mathlib.Core.Path.{_≡_}
-use Prim.Native.Nat.{_*_, _≤_, _-_}
+use Prim.Native.Nat.{_≤_, _-_}
 use native.Mathlib.Omega.{arith}
 use borrow.Author.Tests.{ltb-false}
 use Rattle.maxplus.specs.Tables.{mv}
