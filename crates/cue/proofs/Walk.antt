@@ -6,7 +6,7 @@ use mathlib.Core.List.{List, [], _∷_}
 use mathlib.Core.Bool.{Bool, true, false, cond, _&&_}
 use Prim.Native.Nat.{ℕ, zero, suc, _+_, _*_, _^_, _≤_, _<_}
 use native.Mathlib.Omega.{arith}
-use native.Mathlib.Nat.{pow-succ', pow-zero, le-trans, mul-le-mul-left, mul-le-mul-right}
+use native.Mathlib.Nat.{pow-succ', pow-zero, le-trans}
 use lib.Dec.{T, eqb, eqb-refl, eqb→eq}
 use lib.IntN.{ℤ}
 use lib.ListN.{length, length-append}
@@ -82,15 +82,6 @@ pub geometric-suc : (n f : ℕ) → geometric n (suc f) ≡ n * suc (geometric n
 unfolding geometric
 geometric-suc n zero = omega (arith, rw pow-zero at (pow-succ' n 0))
 geometric-suc n (suc f) = omega (arith, geometric-suc n f, pow-succ' n (suc f))
-
-pub geometric-mono : (n k f g : ℕ) → n ≤ k → f ≤ g → geometric n f ≤ geometric k g
-geometric-mono n k zero g h i = unfold geometric in omega arith
-geometric-mono n k (suc f) zero h i = let e : ⊥ = omega arith in absurd e
-geometric-mono n k (suc f) (suc g) h i = rw (geometric-suc n f, geometric-suc k g) (go (geometric-mono n k f g h (omega arith)))
-  where
-    go : geometric n f ≤ geometric k g → n * suc (geometric n f) ≤ k * suc (geometric k g)
-    go q = le-trans (mul-le-mul-right (suc (geometric n f)) h)
-        (mul-le-mul-left k (let r : suc (geometric n f) ≤ suc (geometric k g) = omega arith in r))
 
 each-at-most : {A : Type 0} (n c : ℕ) (f : ℕ → List A) → ((j : ℕ) → length (f j) ≤ c) → length (each n f) ≤ n * c
 unfolding each
