@@ -7,7 +7,7 @@ use lib.ListN.{length, getD, replicate}
 use Rattle.maxplus.specs.Finite.{each}
 use Rattle.cue.specs.Method.{least, kept-byte, kept-count, steps, selections}
 use Rattle.sheet.specs.Sheet.{Got, got, Sheet}
-use Rattle.sheet.specs.Cue.{cue-of}
+use Rattle.sheet.specs.Cue.{cue-size, cue-of}
 use Rattle.sheet.specs.Ordered.{ordered}
 use Rattle.keeping.specs.declared.KeptTable.{KeptTable}
 use Rattle.sheet.specs.Sheet as sheet
@@ -20,7 +20,7 @@ pub data KeptOutcome : Type 0 where
 abbrev pub kept-of : Got Sheet → KeptOutcome
 kept-of (sheet.refused k) = refused k
 kept-of (got t r) =
-    let n = t .triggers in
+    let n = cue-size t in
     let P = cue-of t in
     let D = least n P in
     kept D (each (t .panels) (λ i. (kept-byte n P D i, kept-count n P D i) ∷ [])) (steps n P D) (length (selections n P D))

@@ -7,10 +7,7 @@ use Rattle.sheet.specs.Sheet.{limit}
 abbrev pub order-limit : ℕ
 order-limit = limit
 
--- a power of the order table; M*; d
-abbrev pub power-size : ℕ → ℕ
-power-size = sizes.power-size limit order-limit
-
+-- M*; d
 abbrev pub star-size : ℕ
 star-size = sizes.star-size limit order-limit
 
