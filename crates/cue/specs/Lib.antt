@@ -1,4 +1,4 @@
--- One cue in one house: what is meant, and the method that finds it.
+-- A cue: what is said of its vectors, the method that finds the lines (document 01, steps 2 to 7), and how large results are.
 pub mod Minimal
 pub mod Cue
 pub mod Method

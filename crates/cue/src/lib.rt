@@ -1,1 +1,1 @@
-// Demands 2 and 3 as theorems about the definitions; no function runs here.
+// The method over a cue's tables as definitions (specs/) and theorems (proofs/); no function runs here.

@@ -1,4 +1,4 @@
-// Step 1: whether timings that keep the order exist, and the star of the after table.
+// Step 1: whether timings that keep the order exist, and the star of the order table.
 ghost use Prim.Native.Nat.{ℕ, _≤_, _<_};
 ghost use Rattle.maxplus.specs.Entry.{_≼_, unit};
 ghost use Rattle.tables.specs.Held.{meant, Closely, Says};

@@ -1,4 +1,4 @@
--- What a good sheet gives at each step.
+-- What a good sheet gives on the way to what the operations are made from, in the order in which one file builds on another.
 pub mod Results
 pub mod LevelLaws
 pub mod Laws

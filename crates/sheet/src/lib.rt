@@ -1,1 +1,1 @@
-// The sheet of document 01 as definitions (specs/); no function runs here.
+// A sheet as definitions (specs/) and laws (proofs/); no function runs here.

@@ -1,2 +1,2 @@
--- What arrays of words say of a sheet's tables, and steps 2 to 5 of document 01 over entries.
+-- What arrays of words say of tables and vectors of entries.
 pub mod Held

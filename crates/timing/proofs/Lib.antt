@@ -1,4 +1,4 @@
--- Laws of the limit on components, and of their words.
+-- Laws of the limit on components, of their words, of the order and of the test.
 pub mod LimitLaws
 pub mod TimeLaws
 pub mod OrderLaws

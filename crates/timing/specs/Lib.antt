@@ -1,4 +1,4 @@
--- The components of a timing and their limit.
+-- A timing's components and their limit, its deviation over entries, and what the test says.
 pub mod Times
 pub mod Deviation
 pub mod Test

@@ -1,4 +1,4 @@
-// A timing, its limit, and its components as words.
+// A timing: its limit, its components as words, its deviation, and whether it is tightest.
 mod deviation;
 pub mod limit;
 mod order;

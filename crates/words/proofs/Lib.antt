@@ -1,1 +1,2 @@
+-- Laws of words as entries.
 pub mod Laws
