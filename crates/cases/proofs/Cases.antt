@@ -1,8 +1,8 @@
 -- Document 01's cases marked P as one table about the operations themselves: for each the sheet, what is lent, what the operation returns and
 -- what it leaves. A case holds where the operation's contract allows nothing else. `Learnt` of an operation is its contract as a caller has
 -- it: the toolchain reads it from the `ensures` in the source, so that another contract there makes another claim here.
-use mathlib.Core.Path.{_≡_, refl, ap, subst, _∙_}
-use mathlib.Core.Bool.{decide}
+use mathlib.Core.Path.{_≡_, refl, ap, sym, _∙_}
+use mathlib.Core.Bool.{Bool, true, false, decide}
 use mathlib.Core.List.{List, [], _∷_, _++_}
 use Prim.Native.Nat.{ℕ, _-_, _<_}
 use Prim.Native.Nat as nat
@@ -39,21 +39,23 @@ use Rattle.sheet.specs.Cue.{cue-of, Orderly, orderly?}
 use Rattle.sheet.proofs.Seam.{tightest-cue}
 use Rattle.sheet.specs.Sheet as sheet
 use Rattle.cue.specs.Written.{line-words, list-words}
-use Rattle.timing.specs.Times.{component}
+use Rattle.timing.specs.Times.{component, some-beyond}
 use Rattle.timing.specs.declared.Timing.{Timing}
 use Rattle.writing.specs.Numerals.{digits}
 use Rattle.writing.specs.Texts.{joined, line-texts, plan-text, refusal-text, full-text}
 use Rattle.sheet.specs.Ordered.{ordered}
 use Rattle.planning.specs.Planning.{planning, space-after, plan-answer}
 use Rattle.keeping.specs.Keeping.{keeping, kept-answer}
-use Rattle.testing.specs.Testing.{Testing, test-answer}
+use Rattle.testing.specs.Testing.{answer, testing, test-answer}
+use Rattle.tables.specs.Held.{Says}
+use Rattle.sheet.specs.Meaning as sheets
 use Rattle.planning.specs.Planning as outcome
 use Rattle.planning.specs.Text.{text, program-text}
 use Rattle.keeping.specs.declared.KeptTable.{KeptTable}
 use Rattle.planning.specs.declared.CuePlan.{CuePlan}
 use Rattle.testing.specs.declared.Tested.{Tested}
 use Rattle.testing.specs.declared.Tested.the-variants.{Yes, No}
-use Rattle.testing.proofs.TestLaws.{tested-one}
+use Rattle.testing.proofs.TestLaws.{tested-one, testing-says}
 use Rattle.keeping.proofs.kept_table.Reads as kept_table
 use Rattle.planning.proofs.plan.Reads as plan
 use Rattle.testing.proofs.test_timing.Reads as test_timing
@@ -157,7 +159,7 @@ abbrev Computed : Case → Type 0
 Computed (plans s lent r left) =
     (plan-answer (planning (bytes s) lent) ≡ r) × (space-after (planning (bytes s) lent) lent ≡ left)
 Computed (keeps s r) = kept-answer (keeping (bytes s)) ≡ r
-Computed (tests s times r) = (rest : List ℤ) → Testing (bytes s) (length times) (component (times ++ rest)) (test-answer r)
+Computed (tests s times r) = (rest : List ℤ) → test-answer r ≡ testing (bytes s) (length times) (component (times ++ rest))
 
 holds : (c : Case) → Computed c → CaseHolds c
 holds (plans s lent r left) (e, w) = λ κs sheet before after q b l (f, v). (
@@ -166,9 +168,8 @@ holds (plans s lent r left) (e, w) = λ κs sheet before after q b l (f, v). (
 )
 holds (keeps s r) e = λ κs sheet q b f. f ∙ ap (λ s. kept-answer (keeping s)) b ∙ e
 holds (tests s times r) e = λ κs sheet timing rest q b t h.
-    tested-one (bytes s) (length times) (component (times ++ rest)) q r
-    (subst (λ (t : Timing). Testing (bytes s) (t .count) (component (t .at)) (test-answer q)) t
-    (subst (λ s. Testing s (timing .count) (component (timing .at)) (test-answer q)) b h)) (e rest)
+    tested-one q r (h ∙ ap (λ s. testing s (timing .count) (component (timing .at))) b ∙
+    ap (λ (t : Timing). testing (bytes s) (t .count) (component (t .at))) t ∙ sym (e rest))
 
 all-hold : {l : List Case} → Every Computed l → Every CaseHolds l
 all-hold done = done
@@ -205,7 +206,7 @@ whole-ordered = decide-yes (orderly? whole) tt
 
 -- ---- the whole table
 pub cases-hold : Every CaseHolds cases
-unfolding planning space-after keeping kept-byte kept-count Testing tightest? keeps? Keeps same-entry? deviation shortfall ordered orderly? line-words
+unfolding planning space-after keeping kept-byte kept-count testing tightest? keeps? Keeps same-entry? deviation shortfall ordered orderly? line-words
     list-words read sheet.lines sheet.line rows sections checked any ended items item signed value behind literal bytes least leastE steps
     selections lines minimal needed? others combination? asked? met? under-dec fixings walk kept cut serves-as-well floor-panels through pull pullE
     overdue need seed ray candidate candidates no-gain? gain-or mm mv star power idm normal sup supL at line put sift each mapL sum val inv _⊗_
@@ -216,13 +217,17 @@ cases-hold =
     (refl, refl) then (refl, refl) then (refl, refl) then
     (refl, refl) then (refl, refl) then (refl, refl) then
     refl then refl then refl then refl then refl then refl then refl then
-    (λ rest. tightest-cue whole _ .1 (decide-yes (asked 0 rest) tt)) then
-    (λ rest. tightest-cue whole _ .1 (decide-yes (asked 1 rest) tt)) then
-    (λ rest t. decide-of (asked 2 rest) (tightest-cue whole _ .0 t)) then
+    (λ rest. whole-says 0 rest refl true (tightest-cue whole _ .1 (decide-yes (asked 0 rest) tt))) then
+    (λ rest. whole-says 1 rest refl true (tightest-cue whole _ .1 (decide-yes (asked 1 rest) tt))) then
+    (λ rest. whole-says 2 rest refl false (λ t. decide-of (asked 2 rest) (tightest-cue whole _ .0 t))) then
     done)
   where
     asked : (b : ℕ) (rest : List ℤ) → Dec (Tightest 2 (cue-of whole) (component (pos 0 ∷ pos b ∷ rest)))
     asked b rest = tightest? 2 (cue-of whole) whole-readable whole-ordered (component (pos 0 ∷ pos b ∷ rest))
+
+    whole-says : (b : ℕ) (rest : List ℤ) → some-beyond 2 (component (pos 0 ∷ pos b ∷ rest)) ≡ false → (v : Bool) →
+        Says (sheets.Tightest whole (component (pos 0 ∷ pos b ∷ rest))) v → answer v ≡ testing (bytes whole-case) 2 (component (pos 0 ∷ pos b ∷ rest))
+    whole-says b rest near v h = testing-says (bytes whole-case) 2 (component (pos 0 ∷ pos b ∷ rest)) whole [] refl refl near whole-ordered v h
 
 -- ---- "writes", for the whole case, for a refusal and for 9
 pub texts-hold : mapL program-text (bytes whole-case ∷ bytes (one-by-one "1") ∷ bytes "" ∷ []) ++ text (outcome.full 2) ∷ [] ≡

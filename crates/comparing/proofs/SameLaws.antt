@@ -1,7 +1,8 @@
 -- Comparing two sheets: words one by one, what planning refuses with no room, and the answer by demand 3.
 use mathlib.Core.Path.{_≡_, refl, ap, sym, subst, _∙_}
+use mathlib.Core.Logic.{_↔_}
 use mathlib.Core.List.{List}
-use mathlib.Core.Bool.{Bool, true, false, cond, not}
+use mathlib.Core.Bool.{Bool, true, false, cond, not, decide}
 use Prim.Native.Nat.{ℕ, _+_, _*_, _/_, _≤_, _<_}
 use native.Mathlib.Numerals.{add-one}
 use native.Mathlib.Omega.{arith}
@@ -25,13 +26,15 @@ use Rattle.planning.specs.Planning.{PlanOutcome, planned, full, refused, plan-o
 use Rattle.sheet.specs.Ordered.{ordered}
 use Rattle.comparing.specs.Inner.{Refuses}
 use Rattle.planning.specs.Demands.{Planned, count-of}
-use Rattle.comparing.specs.Comparing.{Comparison, answer, unlike, first-refused, second-refused, Alike, Likens, Compares, Comparing, compared-space}
+use Rattle.comparing.specs.Comparing.{Comparison, answer, unlike, first-refused, second-refused, comparing, compared-space}
 use Rattle.planning.specs.declared.CuePlan.{CuePlan}
 use Rattle.comparing.specs.declared.Refusal.{Refusal}
 use Rattle.planning.proofs.Demands.{known, demand-3}
+use Rattle.sheet.specs.Asked.{Alike}
+use Rattle.sheet.proofs.Decided.{alike?}
 use Rattle.sheet.proofs.OrderedLaws.{ordered-by, ordered-refused}
 use Rattle.planning.proofs.PlanLaws.{planning-refused}
-use Rattle.maxplus.proofs.FiniteLaws.{equal, unequal}
+use Rattle.maxplus.proofs.FiniteLaws.{equal, unequal, decided-yes, decided-no}
 use Rattle.cue.specs.Written.{line-size}
 
 -- ---- the first words of two spaces
@@ -166,20 +169,20 @@ count-is (refused k) = refl
 -- P and Q are what the two plannings answered, `front` and `back` what they left
 module _ (s₁ s₂ : List ℕ) (left right : List ℤ) (h₁ : Planned (planning s₁ left)) (h₂ : Planned (planning s₂ right)) (P Q : CuePlan)
     (p : P ≡ plan-answer (planning s₁ left)) (q : Q ≡ plan-answer (planning s₂ right)) where
-  comparing : (r : Comparison) →
-      cond (not (eqb (P .triggers) (Q .triggers))) (r ≡ unlike (P .count) (Q .count)) (Likens (read s₁) (read s₂) (P .count) (Q .count) r) →
-      Comparing s₁ s₂ left right r
-  unfolding Comparing
-  comparing r h = subst (λ p. Compares p (plan-answer (planning s₂ right)) (read s₁) (read s₂) r) p
-      (subst (λ q. Compares P q (read s₁) (read s₂) r) q
+  abbrev asked : Bool
+  asked = decide (alike? s₁ s₂)
+
+  compared : (r : Comparison) → cond (not (eqb (P .triggers) (Q .triggers))) (unlike (P .count) (Q .count)) (answer asked (P .count) (Q .count)) ≡ r →
+      r ≡ comparing s₁ s₂ left right
+  unfolding comparing
+  compared r h = sym (rw (← p, ← q)
       (rw (
         ap (λ (p : CuePlan). p .refusal) p ∙ accepted (planning s₁ left) h₁,
-        ap (λ (p : CuePlan). p .refusal) q ∙
-            accepted (planning s₂ right) h₂,
+        ap (λ (p : CuePlan). p .refusal) q ∙ accepted (planning s₂ right) h₂,
       ) h))
 
-  pub unlike-answer : ¬ (P .triggers ≡ Q .triggers) → Comparing s₁ s₂ left right (unlike (P .count) (Q .count))
-  unlike-answer f = comparing _ (rw (unequal (P .triggers) (Q .triggers) f) refl)
+  pub unlike-answer : ¬ (P .triggers ≡ Q .triggers) → unlike (P .count) (Q .count) ≡ comparing s₁ s₂ left right
+  unlike-answer f = compared _ (rw (unequal (P .triggers) (Q .triggers) f) refl)
 
   module _ (front back : List ℤ) (w₁ : front ≡ space-after (planning s₁ left) left) (w₂ : back ≡ space-after (planning s₂ right) right)
       (k : P .triggers ≡ Q .triggers) where
@@ -193,32 +196,27 @@ module _ (s₁ s₂ : List ℕ) (left right : List ℤ) (h₁ : Planned (plannin
     c₂ = ap (λ (p : CuePlan). p .count) q ∙ count-is (planning s₂ right)
 
     -- the two lists are equal exactly when the same timings are tightest
-    judged : (b : Bool) → cond b Equal (¬ Equal) → Comparing s₁ s₂ left right (answer b (P .count) (Q .count))
-    judged b h = comparing _ (rw (equal (P .triggers) (Q .triggers) k) (go (planned-read s₁ left h₁) (planned-read s₂ right h₂)))
+    alike-by : Equal ↔ Alike (read s₁) (read s₂)
+    alike-by = go (planned-read s₁ left h₁) (planned-read s₂ right h₂)
       where
         go : (t : Sheet) × (r : List ℕ) × (read s₁ ≡ got t r) → (t : Sheet) × (r : List ℕ) × (read s₂ ≡ got t r) →
-            Likens (read s₁) (read s₂) (P .count) (Q .count) (answer b (P .count) (Q .count))
+            Equal ↔ Alike (read s₁) (read s₂)
         go (t, m, e) (u, w, f) =
             let x = ap (λ (p : CuePlan). p .triggers) p ∙ ap (λ o. plan-answer o .triggers) (known s₁ t m e left h₁ .plan-is) in
             let y = ap (λ (p : CuePlan). p .triggers) q ∙ ap (λ o. plan-answer o .triggers) (known s₂ u w f right h₂ .plan-is) in
-            let d = demand-3 s₁ s₂ t u m w left right e f (sym x ∙ k ∙ y) h₁ h₂ in
+            let same = sym x ∙ k ∙ y in
+            let d = demand-3 s₁ s₂ t u m w left right e f same h₁ h₂ in
             rw (e, f) (
-              b,
-              decided (Alike t u) (λ q. d .0 (sym c₁ ∙ q .0 ∙ c₂, cc (c₁, c₂)))
-                  (λ a. let l = d .1 a in (c₁ ∙ l .0 ∙ sym c₂, cc (c₁))) b h,
-              refl,
+              λ q. (same, d .0 (sym c₁ ∙ q .0 ∙ c₂, cc (c₁, c₂))),
+              λ a. let l = d .1 (a .1) in (c₁ ∙ l .0 ∙ sym c₂, cc (c₁)),
             )
-          where
-            decided : (A : Type 0) → (Equal → A) → (A → Equal) → (b : Bool) → cond b Equal (¬ Equal) → cond b A (¬ A)
-            decided A f g true h = f h
-            decided A f g false h = λ a. h (g a)
 
     pub same-answer : P .count ≡ Q .count → take (line-size * P .count) front ≡ take (line-size * P .count) back →
-        Comparing s₁ s₂ left right (answer true (P .count) (P .count))
-    same-answer c e = subst (λ d. Comparing s₁ s₂ left right (answer true (P .count) d)) (sym c) (judged true (c, e))
+        answer true (P .count) (P .count) ≡ comparing s₁ s₂ left right
+    same-answer c e = compared _ (rw (equal (P .triggers) (Q .triggers) k, decided-yes (alike? s₁ s₂) (alike-by .0 (c, e)), ← c) refl)
 
-    pub different-answer : ¬ Equal → Comparing s₁ s₂ left right (answer false (P .count) (Q .count))
-    different-answer = judged false
+    pub different-answer : ¬ Equal → answer false (P .count) (Q .count) ≡ comparing s₁ s₂ left right
+    different-answer f = compared _ (rw (equal (P .triggers) (Q .triggers) k, decided-no (alike? s₁ s₂) (λ a. f (alike-by .1 a))) refl)
 
 -- ---- a refusal, or none
 orderly-numbered : (s : List ℕ) (k : ℕ) → ordered s ≡ sheet.refused k → 1 ≤ k
@@ -282,54 +280,21 @@ module _ (o p : PlanOutcome) (space : List ℤ) where
 -- ---- a refusal's answer, and the two spaces as they were
 module _ (s₁ s₂ : List ℕ) (left right : List ℤ) where
   abbrev Refused : Comparison → Type 0
-  Refused r = Comparing s₁ s₂ left right r × ((left ≡ compared-space (planning s₁ left) (planning s₂ right) left) ×
+  Refused r = (r ≡ comparing s₁ s₂ left right) × ((left ≡ compared-space (planning s₁ left) (planning s₂ right) left) ×
       (right ≡ compared-space (planning s₂ right) (planning s₁ left) right))
 
   module _ (a : Refusal) (A : Refuses a (plan-answer (planning s₁ left))) where
     pub first-answer : ¬ (a .number ≡ 0) → Refused (first-refused (a .number) (a .count))
-    unfolding Comparing
+    unfolding comparing
     first-answer f =
         let g : ¬ (plan-answer (planning s₁ left) .refusal ≡ 0) = λ e. f (A .number ∙ e) in
         (rw (unequal (plan-answer (planning s₁ left) .refusal) 0 g) (cc), (own-kept _ _ left g, other-kept _ _ right g))
 
     module _ (b : Refusal) (B : Refuses b (plan-answer (planning s₂ right))) where
       pub second-answer : a .number ≡ 0 → ¬ (b .number ≡ 0) → Refused (second-refused (b .number) (b .count))
-      unfolding Comparing
+      unfolding comparing
       second-answer z f =
           let g : ¬ (plan-answer (planning s₂ right) .refusal ≡ 0) = λ e. f (B .number ∙ e) in (
             rw (equal (plan-answer (planning s₁ left) .refusal) 0 (sym (A .number) ∙ z), unequal (plan-answer (planning s₂ right) .refusal) 0 g) (cc),
             (other-kept _ _ left g, own-kept _ _ right g),
           )
-
--- ---- no two answers for two sheets and two spaces
-module _ (o p : Comparison) where
-  likens-one : (g h : Got Sheet) (c d : ℕ) → Likens g h c d o → Likens g h c d p → o ≡ p
-  likens-one (got t m) (got u w) c d (a, x, e) (b, y, f) = e ∙ ap (λ b. answer b c d) (agree a b x y) ∙ sym f
-    where
-      agree : (a b : Bool) → cond a (Alike t u) (¬ Alike t u) → cond b (Alike t u) (¬ Alike t u) → a ≡ b
-      agree true true x y = refl
-      agree true false x y = absurd (y x)
-      agree false true x y = absurd (x y)
-      agree false false x y = refl
-  likens-one (got t m) (sheet.refused k) c d x y = absurd x
-  likens-one (sheet.refused k) h c d x y = absurd x
-
-  pub comparing-one : (s₁ s₂ : List ℕ) (left right : List ℤ) → Comparing s₁ s₂ left right o → Comparing s₁ s₂ left right p → o ≡ p
-  unfolding Comparing
-  comparing-one s₁ s₂ left right = go (not (eqb (P .refusal) 0)) (not (eqb (Q .refusal) 0)) (not (eqb (P .triggers) (Q .triggers)))
-    where
-      P : CuePlan
-      P = plan-answer (planning s₁ left)
-
-      Q : CuePlan
-      Q = plan-answer (planning s₂ right)
-
-      Answered : Bool → Bool → Bool → Comparison → Type 0
-      Answered x y z r = cond x (r ≡ first-refused (P .refusal) (P .count)) (cond y (r ≡ second-refused (Q .refusal) (Q .count))
-          (cond z (r ≡ unlike (P .count) (Q .count)) (Likens (read s₁) (read s₂) (P .count) (Q .count) r)))
-
-      go : (x y z : Bool) → Answered x y z o → Answered x y z p → o ≡ p
-      go true y z a b = a ∙ sym b
-      go false true z a b = a ∙ sym b
-      go false false true a b = a ∙ sym b
-      go false false false a b = likens-one (read s₁) (read s₂) (P .count) (Q .count) a b

@@ -7,7 +7,7 @@ ghost use lib.ListN.{length, take};
 ghost use Rattle.tables.specs.Held.{Says};
 ghost use Rattle.planning.specs.Planning.{planning, space-after, plan-answer};
 ghost use Rattle.planning.specs.Demands.{Planned};
-ghost use Rattle.comparing.specs.Comparing.{Comparing, compared-space, compare-answer};
+ghost use Rattle.comparing.specs.Comparing.{comparing, compared-space, compare-answer};
 ghost use Rattle.comparing.specs.Inner.{Refuses};
 use planning::plan;
 use words::LINE_SIZE;
@@ -31,7 +31,7 @@ struct Refusal {
 // Whether the same timings are tightest on two sheets; their lists are written at the front of the two spaces. Each sheet is first planned
 // with no room, so that a refusal leaves both spaces as they were.
 pub fn same_timings(first: &[u8], second: &[u8], left: &mut [i32], right: &mut [i32]) -> Compared
-    ensures answer { λ r. ⌜ Comparing (now (first .entry)) (now (second .entry)) (now (left .entry)) (now (right .entry)) (compare-answer r) ⌝ }
+    ensures answer { λ r. ⌜ compare-answer r ≡ comparing (now (first .entry)) (now (second .entry)) (now (left .entry)) (now (right .entry)) ⌝ }
     ensures left { λ r. ⌜ now (left .exit) ≡ compared-space (planning (now (first .entry)) (now (left .entry)))
         (planning (now (second .entry)) (now (right .entry))) (now (left .entry)) ⌝ }
     ensures right { λ r. ⌜ now (right .exit) ≡ compared-space (planning (now (second .entry)) (now (right .entry)))
@@ -70,7 +70,7 @@ fn refused(bytes: &[u8], words: usize) -> Refusal
 // The answer for two sheets of which none is refused.
 fn likened(first: &[u8], second: &[u8], left: &mut [i32], right: &mut [i32]) -> Compared
     requires { ⌜ Planned (planning (now first) (now left)) × Planned (planning (now second) (now right)) ⌝ }
-    ensures answer { λ r. ⌜ Comparing (now (first .entry)) (now (second .entry)) (now (left .entry)) (now (right .entry)) (compare-answer r) ⌝ }
+    ensures answer { λ r. ⌜ compare-answer r ≡ comparing (now (first .entry)) (now (second .entry)) (now (left .entry)) (now (right .entry)) ⌝ }
     ensures left { λ r. ⌜ now (left .exit) ≡ space-after (planning (now (first .entry)) (now (left .entry))) (now (left .entry)) ⌝ }
     ensures right { λ r. ⌜ now (right .exit) ≡ space-after (planning (now (second .entry)) (now (right .entry))) (now (right .entry)) ⌝ }
 {

@@ -5,7 +5,7 @@ use mathlib.Core.List.{List, [], _∷_, _++_}
 use mathlib.Core.Bool.{Bool, true, false, decide}
 use Prim.Native.Nat.{ℕ, zero, suc, _<_}
 use native.Mathlib.Omega.{arith}
-use native.Mathlib.Decide.{ℕ-discrete}
+use native.Mathlib.Decide.{map-dec, ℕ-discrete}
 use lib.Dec.{T, eqb}
 use lib.ListN.{length, getD}
 use borrow.Author.Tests.{eqb-true, eqb-false}
@@ -89,6 +89,26 @@ pub decide-of : {P : Type 0} (d : Dec P) → P → T (decide d)
 unfolding decide
 decide-of (yes p) q = tt
 decide-of (no p) q = absurd (p q)
+
+pub decided-yes : {P : Type 0} (d : Dec P) → P → decide d ≡ true
+unfolding decide
+decided-yes (yes p) q = refl
+decided-yes (no p) q = absurd (p q)
+
+pub decided-no : {P : Type 0} (d : Dec P) → ¬ P → decide d ≡ false
+unfolding decide
+decided-no (yes p) q = absurd (q p)
+decided-no (no p) q = refl
+
+-- two lists are the same where their members are
+pub same-list? : {A : Type 0} → ((a b : A) → Dec (a ≡ b)) → (l m : List A) → Dec (l ≡ m)
+same-list? d [] [] = yes refl
+same-list? d [] (b ∷ m) = no (λ e. let z : _≡_ {A = ℕ} 0 1 = cc in let x : ⊥ = omega arith in x)
+same-list? d (a ∷ l) [] = no (λ e. let z : _≡_ {A = ℕ} 0 1 = cc in let x : ⊥ = omega arith in x)
+same-list? d (a ∷ l) (b ∷ m) = map-dec (λ p. ap2 p) (λ e. (cc, cc)) (dec-× (d a b) (same-list? d l m))
+  where
+    ap2 : (a ≡ b) × (l ≡ m) → a ∷ l ≡ b ∷ m
+    ap2 (p, q) = cc
 
 -- ---- who is in a list
 module _ {A : Type 0} where

@@ -61,6 +61,14 @@ z-dec a b = go (decLe (up a + dn b) (up b + dn a))
     go (yes h) = yes (omega arith)
     go (no h) = no (λ k. h (k .le))
 
+pub same-whole? : (a b : ℤ) → Dec (a ≡ b)
+same-whole? a b = go (z-dec a b) (z-dec b a)
+  where
+    go : Dec (a ≤z b) → Dec (b ≤z a) → Dec (a ≡ b)
+    go (yes h) (yes k) = yes (z-anti h k)
+    go (yes h) (no k) = no (λ e. k (rw e (z-refl b)))
+    go (no h) k = no (λ e. h (rw e (z-refl b)))
+
 pub z-not : {a b : ℤ} → ¬ (a ≤z b) → b <z a
 z-not {a} {b} h = z-not′ (decLe (up a + dn b) (up b + dn a))
   where

@@ -1,7 +1,7 @@
 // The three operations for C and Rust. Nothing is asked of a length: a word that does not fit an answer is dropped, a time that is not lent
 // is 0, and no time past the sixth is looked at.
 ghost use mathlib.Core.Path.{_≡_};
-ghost use Rattle.testing.specs.Testing.{TestOutcome, Testing};
+ghost use Rattle.testing.specs.Testing.{testing};
 ghost use Rattle.planning.specs.Planning.{planning, space-after, plan-answer};
 ghost use Rattle.keeping.specs.Keeping.{keeping, kept-answer};
 ghost use Rattle.timing.specs.Times.{component};
@@ -41,7 +41,7 @@ pub extern "C" fn tuzhelar_kept(sheet: &[u8], answer: &mut [i64]) -> u32
 // 100 if the first `count` times are tightest, 101 if they are not, or the refusal.
 #[no_mangle]
 pub extern "C" fn tuzhelar_test(sheet: &[u8], count: usize, times: &[i64]) -> u32
-    ensures { λ r. ⌜ ((o : TestOutcome) × Testing (now (sheet .entry)) count (component (six-times (now (times .entry)))) o × (r ≡ test-number o)) ⌝ }
+    ensures { λ r. ⌜ r ≡ test-number (testing (now (sheet .entry)) count (component (six-times (now (times .entry))))) ⌝ }
 {
     let at = six_times(times);
     let timing = Timing {

@@ -10,7 +10,7 @@ use lib.Dec.{leb}
 use lib.IntN.{ℤ}
 use lib.ListN.{length}
 use lib.Seq.{take-at}
-use Rattle.sheet.specs.Meaning.{Timing, Keeps, Tightest}
+use Rattle.sheet.specs.Meaning.{Timing, Keeps, SameTimings}
 use Rattle.cue.specs.Method.{least, steps, selections}
 use Rattle.cue.specs.Written.{line-size, list-words}
 use Rattle.cue.proofs.WrittenLaws.{list-words-length}
@@ -72,7 +72,6 @@ demand-2 s t r space e h = go (known s t r e space h)
     go k =
         let D = ap deviation-of (k .plan-is) in
         record {
-          list = sheet-lines t;
           counted = ap count-of (k .plan-is);
           front = written-is s t r e space k;
           at-least = λ X q. rw D (sheets.deviation-at-least t (k .good) (k .orderly) X q);
@@ -81,7 +80,6 @@ demand-2 s t r space e h = go (known s t r e space h)
             λ q. sheets.demand-2 t (k .good) (k .orderly) X .0 (sheets.tightest-test t (k .good) (k .orderly) X .1 q),
             λ w. sheets.tightest-test t (k .good) (k .orderly) X .0 (sheets.demand-2 t (k .good) (k .orderly) X .1 w),
           );
-          tightest = sheets.demand-2 t (k .good) (k .orderly);
         }
 
 -- ---- refusal 8
@@ -109,7 +107,7 @@ demand-3 s₁ s₂ t₁ t₂ r₁ r₂ space₁ space₂ e₁ e₂ same h₁ h�
     go : Known s₁ t₁ r₁ e₁ space₁ → Known s₂ t₂ r₂ e₂ space₂ →
         ((count-of (planning s₁ space₁) ≡ count-of (planning s₂ space₂)) ×
         (written (planning s₁ space₁) space₁ ≡ written (planning s₂ space₂) space₂)) ↔
-        ((X : Timing) → Tightest t₁ X ↔ Tightest t₂ X)
+        SameTimings t₁ t₂
     go k₁ k₂ =
         let c₁ = ap count-of (k₁ .plan-is) in
         let c₂ = ap count-of (k₂ .plan-is) in

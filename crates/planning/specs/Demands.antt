@@ -6,11 +6,11 @@ use Prim.Native.Nat.{ℕ, _*_}
 use lib.IntN.{ℤ, pos}
 use lib.ListN.{length, take}
 use Rattle.maxplus.specs.Entry.{num, _≼_}
-use Rattle.maxplus.specs.Line.{Line}
 use Rattle.maxplus.specs.Combination.{Weighed}
 use Rattle.cue.specs.Written.{line-size, list-words}
 use Rattle.sheet.specs.Sheet.{got, Sheet, read}
-use Rattle.sheet.specs.Meaning.{Timing, Keeps, deviation, Tightest}
+use Rattle.sheet.specs.Meaning.{Timing, Keeps, deviation, SameTimings}
+use Rattle.sheet.specs.Cue.{sheet-lines}
 use Rattle.planning.specs.Planning.{PlanOutcome, planned, full, refused, planning, space-after}
 
 -- planned without refusal; the deviation and the number of lines that are returned
@@ -34,17 +34,13 @@ abbrev pub written : PlanOutcome → List ℤ → List ℤ
 written o space = take (line-size * count-of o) (space-after o space)
 
 -- ---- demand 2: whatever the space held, a planning without refusal gives the least deviation of the times that keep the order, and
--- writes lines L from which, with whole-number weights, one for each line, exactly the times that keep the order and reach it are made
+-- writes step 7's lines, from which, with whole-number weights, one for each line, exactly the times that keep the order and reach it are made
 pub record Least (t : Sheet) (space : List ℤ) (o : PlanOutcome) : Type 0 where
-  pub list : List (Line (t .triggers))
-  pub counted : count-of o ≡ length list
-  pub front : written o space ≡ list-words (t .triggers) list
+  pub counted : count-of o ≡ length (sheet-lines t)
+  pub front : written o space ≡ list-words (t .triggers) (sheet-lines t)
   pub at-least : (X : Timing) → Keeps t X → num (deviation-of o) ≼ deviation t X
   pub reached : (X : Timing) × Keeps t X × (deviation t X ≡ num (deviation-of o))
-  pub combined : (X : Timing) →
-      (Keeps t X × (deviation t X ≡ num (deviation-of o))) ↔
-      Weighed (t .triggers) list X
-  pub tightest : (X : Timing) → Tightest t X ↔ Weighed (t .triggers) list X
+  pub combined : (X : Timing) → (Keeps t X × (deviation t X ≡ num (deviation-of o))) ↔ Weighed (t .triggers) (sheet-lines t) X
 
 abbrev pub Demand-2 : Type 0
 Demand-2 = (s : List ℕ) (t : Sheet) (r : List ℕ) (space : List ℤ) → read s ≡ got t r → Planned (planning s space) →
@@ -62,4 +58,4 @@ Demand-3 = (s₁ s₂ : List ℕ) (t₁ t₂ : Sheet) (r₁ r₂ : List ℕ) (sp
     read s₂ ≡ got t₂ r₂ → t₁ .triggers ≡ t₂ .triggers → Planned (planning s₁ space₁) → Planned (planning s₂ space₂) →
     ((count-of (planning s₁ space₁) ≡ count-of (planning s₂ space₂)) ×
     (written (planning s₁ space₁) space₁ ≡ written (planning s₂ space₂) space₂)) ↔
-    ((X : Timing) → Tightest t₁ X ↔ Tightest t₂ X)
+    SameTimings t₁ t₂

@@ -16,7 +16,7 @@ use Rattle.cue.proofs.WrittenLaws.{Fitting, list-words-one}
 use Rattle.cue.proofs.Demands as theory
 use Rattle.sheet.specs.Sheet.{Sheet, limit}
 use Rattle.sheet.specs.Sizes.{order-limit}
-use Rattle.sheet.specs.Meaning.{Timing, Keeps, deviation, Tightest}
+use Rattle.sheet.specs.Meaning.{Timing, Keeps, deviation, Tightest, SameTimings}
 use Rattle.sheet.specs.Cue.{cue-size, cue-of, Orderly, sheet-lines}
 use Rattle.sheet.specs.Good.{Good}
 use Rattle.sheet.proofs.Seam.{keeps-cue, deviation-cue, tightest-cue}
@@ -74,7 +74,7 @@ same-lists n k e P Q six R = subst
 
 pub demand-3 : (t u : Sheet) → Good t → Good u → Orderly t → Orderly u → t .triggers ≡ u .triggers →
     ((length (sheet-lines t) ≡ length (sheet-lines u)) × (list-words (t .triggers) (sheet-lines t) ≡ list-words (u .triggers) (sheet-lines u))) ↔
-    ((X : Timing) → Tightest t X ↔ Tightest u X)
+    SameTimings t u
 demand-3 t u G H o p e =
     let both = same-lists (cue-size t) (cue-size u) e (cue-of t) (cue-of u) (G .triggers-few) (G .readable) (H .readable) o p (fitting t G o)
     (fitting u H p) in (

@@ -5,3 +5,4 @@ pub mod Good
 pub mod OrderedLaws
 pub mod Seam
 pub mod Demands
+pub mod Decided

@@ -3,6 +3,7 @@ pub mod Text
 pub mod Sheet
 pub mod Sizes
 pub mod Meaning
+pub mod Asked
 pub mod Cue
 pub mod Good
 pub mod Ordered

@@ -1,4 +1,5 @@
 -- What a sheet means (document 01, "One cue in one house"). Nothing here knows of star, selections or lines.
+use mathlib.Core.Logic.{_↔_}
 use Prim.Native.Nat.{ℕ, _<_}
 use lib.IntN.{ℤ}
 use Rattle.maxplus.specs.Whole.{neg}
@@ -37,3 +38,7 @@ module _ (S : Sheet) where
   pub record Tightest (X : Timing) : Type 0 where
     pub keeps : Keeps X
     pub least : (Y : Timing) → Keeps Y → deviation X ≼ deviation Y
+
+-- "every timing is tightest on both sheets or on neither" (demand 3)
+abbrev pub SameTimings : Sheet → Sheet → Type 0
+SameTimings t u = (X : Timing) → Tightest t X ↔ Tightest u X

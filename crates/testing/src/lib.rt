@@ -1,6 +1,7 @@
 // Testing a timing: whether it is tightest.
+ghost use mathlib.Core.Path.{_≡_};
 ghost use Rattle.timing.specs.Times.{component};
-ghost use Rattle.testing.specs.Testing.{Testing, test-answer};
+ghost use Rattle.testing.specs.Testing.{testing, test-answer};
 use timing::Timing;
 
 // Yes or no, or document 01's refusal, and nothing else.
@@ -12,7 +13,7 @@ pub enum Tested {
 
 // Whether a timing is tightest on a sheet. Only the first n of its six components are looked at.
 pub fn test_timing(bytes: &[u8], timing: Timing) -> Tested
-    ensures { λ r. ⌜ Testing (now (bytes .entry)) (timing .count) (component (timing .at)) (test-answer r) ⌝ }
+    ensures { λ r. ⌜ test-answer r ≡ testing (now (bytes .entry)) (timing .count) (component (timing .at)) ⌝ }
 {
     let reading = reading::read_sheet(bytes);
     if reading.refusal != 0 {

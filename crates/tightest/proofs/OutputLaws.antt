@@ -1,20 +1,18 @@
--- What stands in the lent bytes after a text was put at their front; and that a sheet and a timing fix both texts.
-use mathlib.Core.Path.{_≡_, ap, sym, subst, _∙_}
+-- What stands in the lent bytes after a text was put at their front; and that every refusal gets a sentence.
+use mathlib.Core.Path.{_≡_, ap, sym, _∙_}
 use mathlib.Core.List.{List, _++_}
 use Prim.Native.Nat.{ℕ, _<_}
 use native.Mathlib.Omega.{arith}
-use lib.IntN.{ℤ}
 use lib.ListN.{length, take, drop, length-append}
 use lib.Seq.{take-at, take-length}
 use Rattle.io.specs.Counts.{Counts}
 use Rattle.writing.specs.Writing.{Writes}
 use Rattle.writing.proofs.TextLaws.{counted}
-use Rattle.testing.proofs.TestLaws.{tested-one, known-number}
-use Rattle.testing.specs.Testing.{Testing, test-answer}
-use Rattle.testing.specs.declared.Tested.{Tested}
-use Rattle.testing.specs.declared.Tested.the-variants.{Refused}
+use Rattle.sheet.specs.Meaning.{Timing}
+use Rattle.testing.specs.Testing.{refused, testing}
+use Rattle.testing.proofs.TestLaws.{known-number}
 use Rattle.advice.proofs.AdviceLaws.{advised}
-use Rattle.tightest.specs.Output.{tested-text, tested-complaint, Answered}
+use Rattle.tightest.specs.Output.{tested-complaint}
 
 -- the text t, and r counts its bytes
 abbrev pub Stands : List ℕ → ℕ → List ℕ → Type 0
@@ -30,15 +28,6 @@ copied t before out r e f =
     let same = ap length whole in
     written (record { within = omega arith; text = rw whole (take-at t (drop (length t) before) r (sym e)) })
 
-pub answered-one : {s : List ℕ} {count : ℕ} {X : ℕ → ℤ} {o e p f : List ℕ} → Answered s count X o e → Answered s count X p f →
-    (o ≡ p) × (e ≡ f)
-answered-one {s} {count} {X} a b =
-    let same = tested-one s count X (a .answer) (b .answer) (a .tests) (b .tests) in
-    (a .text ∙ ap tested-text same ∙ sym (b .text), a .complaint ∙ ap tested-complaint same ∙ sym (b .complaint))
-
 -- a refusal gets a sentence
-pub explained : {s : List ℕ} {count : ℕ} {X : ℕ → ℤ} {o e : List ℕ} (a : Answered s count X o e) (k : ℕ) → a .answer ≡ Refused k →
-    0 < length e
-explained {s} {count} {X} a k q =
-    let n = known-number s count X k (subst (λ (t : Tested). Testing s count X (test-answer t)) q (a .tests)) in
-    rw (a .complaint, q) (advised k (n .0) (n .1))
+pub explained : (s : List ℕ) (count : ℕ) (X : Timing) (k : ℕ) → refused k ≡ testing s count X → 0 < length (tested-complaint (testing s count X))
+explained s count X k e = let n = known-number s count X k e in rw (← e) (advised k (n .0) (n .1))

@@ -4,7 +4,8 @@ ghost use mathlib.Core.Path.{_≡_};
 ghost use lib.ListN.{take};
 ghost use Rattle.io.specs.Counts.{Counts};
 ghost use Rattle.timing.specs.Times.{component};
-ghost use Rattle.tightest.specs.Output.{tested-text, tested-complaint, Answered};
+ghost use Rattle.testing.specs.Testing.{testing, test-answer};
+ghost use Rattle.tightest.specs.Output.{tested-text, tested-complaint};
 use testing::Tested;
 use text::Ends;
 use timing::Timing;
@@ -21,7 +22,7 @@ pub struct Components {
 // What the program writes for a test's answer; the place behind it.
 fn answer(tested: Tested, out: &mut [u8; 64]) -> usize
     ensures { λ r. ⌜ Counts r (now (out .exit)) ⌝ }
-    ensures { λ r. ⌜ take r (now (out .exit)) ≡ tested-text tested ⌝ }
+    ensures { λ r. ⌜ take r (now (out .exit)) ≡ tested-text (test-answer tested) ⌝ }
 {
     match tested {
         Tested::Yes => bytes::copy(b"tightest=yes\n", out),
@@ -33,7 +34,7 @@ fn answer(tested: Tested, out: &mut [u8; 64]) -> usize
 // What it writes on standard error; the place behind it.
 fn complaint(tested: Tested, errors: &mut [u8; 300]) -> usize
     ensures { λ r. ⌜ Counts r (now (errors .exit)) ⌝ }
-    ensures { λ r. ⌜ take r (now (errors .exit)) ≡ tested-complaint tested ⌝ }
+    ensures { λ r. ⌜ take r (now (errors .exit)) ≡ tested-complaint (test-answer tested) ⌝ }
 {
     match tested {
         Tested::Yes => 0,
@@ -45,9 +46,10 @@ fn complaint(tested: Tested, errors: &mut [u8; 300]) -> usize
 // What the program writes for a sheet and a timing; the places behind the two texts.
 fn answers(bytes: &[u8], timing: Timing, out: &mut [u8; 64], errors: &mut [u8; 300]) -> Ends
     ensures { λ r. ⌜ Counts (r .text) (now (out .exit)) ⌝ }
+    ensures { λ r. ⌜ take (r .text) (now (out .exit)) ≡ tested-text (testing (now (bytes .entry)) (timing .count) (component (timing .at))) ⌝ }
     ensures { λ r. ⌜ Counts (r .complaint) (now (errors .exit)) ⌝ }
-    ensures { λ r. ⌜ Answered (now (bytes .entry)) (timing .count) (component (timing .at)) (take (r .text) (now (out .exit)))
-        (take (r .complaint) (now (errors .exit))) ⌝ }
+    ensures { λ r. ⌜ take (r .complaint) (now (errors .exit)) ≡
+        tested-complaint (testing (now (bytes .entry)) (timing .count) (component (timing .at))) ⌝ }
 {
     let tested = testing::test_timing(bytes, timing);
     let text = answer(tested, out);

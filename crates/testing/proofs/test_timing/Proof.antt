@@ -17,7 +17,7 @@ use Rattle.tables.specs.Held.{Says}
 use Rattle.timing.specs.Times.{some-beyond}
 use Rattle.preparing.specs.Prepared.{Worded}
 use Rattle.preparing.proofs.Preparing.{reading-refused, reading-good, triggers-of}
-use Rattle.testing.specs.Testing.{Testing}
+use Rattle.testing.specs.Testing.{testing}
 use Rattle.testing.specs.Testing as outcome
 use Rattle.testing.proofs.SheetLaws.{tested-asks, tested-says}
 use Rattle.testing.proofs.TestLaws.{testing-refused, testing-10, testing-11, testing-8, testing-says}
@@ -46,7 +46,7 @@ sized s R e t x q = ap (λ R. R .sheet .triggers) (e ∙ ap answer q)
 -- the test's answer, on a sheet whose order can be kept
 answered : (s : List ℕ) (count : ℕ) (X : Timing) (R : Reading) → R ≡ answer (read s) → (t : spec.Sheet) (x : List ℕ) → ordered s ≡ got t x →
     Orderly t → count ≡ R .sheet .triggers → {b : Bool} → b ≡ some-beyond (R .sheet .triggers) X → b ≡ false →
-    (r v : Bool) → r ≡ v → Says (Tightest t X) r → Testing s count X (outcome.answer v)
+    (r v : Bool) → r ≡ v → Says (Tightest t X) r → outcome.answer v ≡ testing s count X
 answered s count X R e t x q np c far clear r v h T =
     let f = ordered-read s t x q in
     let size = sized s R e t x f in

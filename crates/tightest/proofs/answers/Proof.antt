@@ -1,5 +1,7 @@
 -- `tightest::answers` meets its contract: the two texts are those of one answer of the test. Assumes nothing.
+use mathlib.Core.Path.{ap, _∙_}
 use borrow.Author.Needs.{needs}
+use Rattle.tightest.specs.Output.{tested-text, tested-complaint}
 use Rattle.tightest.proofs.answers.Statement.{statement}
 use Rattle.tightest.proofs.answers.Tie as tie
 
@@ -18,8 +20,8 @@ returns c =
     let tested : tie.After-test-timing = search in
     let a = said .answer .ensures in
     let e = c .complaint .ensures in
-    let t = tested .test-timing in
-    (a .0, (e .0, record { answer = t .result; tests = t .ensures; text = a .1; complaint = e .1 }))
+    let t = tested .test-timing .ensures in
+    (a .0, (a .1 ∙ ap tested-text t, (e .0, e .1 ∙ ap tested-complaint t)))
 
 pub answers-spec : {M : Type 1} → statement M
 answers-spec = tie.close (tie.spec test-timing-requires answer-requires complaint-requires returns)
