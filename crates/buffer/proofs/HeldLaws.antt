@@ -16,7 +16,7 @@ use Rattle.maxplus.specs.Sorted.{Cmp, less, same, more, put}
 use Rattle.maxplus.proofs.FiniteLaws.{in-app, in-at}
 use Rattle.maxplus.proofs.EachLaws.{map-append, map-length, map-at}
 use Rattle.maxplus.proofs.LineLaws.{strict}
-use Rattle.maxplus.proofs.SortedLaws.{gt?}
+use Rattle.maxplus.specs.Above.{gt?}
 use Rattle.cue.proofs.MinimalLaws.{Increasing}
 use Rattle.cue.specs.Written.{line-size, line-words, list-words}
 use Rattle.cue.proofs.WrittenLaws.{list-words-length, line-words-length}

@@ -18,7 +18,8 @@ use Rattle.cue.specs.Cue.{Cue}
 use Rattle.cue.specs.Method.{through, least, floor-panels}
 use Rattle.cue.proofs.Walk.{floor-panels-in, floor-panels-few}
 use Rattle.cue.proofs.Candidates.{line-from, ray-split}
-use Rattle.cue.proofs.Bounds.{Within, star-within, through-within, pull-within, least-within}
+use Rattle.cue.specs.Results.{Within}
+use Rattle.cue.proofs.Bounds.{star-within, through-within, pull-within, least-within}
 use Rattle.tables.specs.Held.{meant, meantV, HoldsV, Closely, CloselyV}
 use Rattle.tables.proofs.SquareLaws.{close-within, closely-within, closely-withinV}
 use Rattle.candidates.specs.declared.Marks.{Marks}

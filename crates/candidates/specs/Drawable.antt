@@ -11,7 +11,7 @@ use Rattle.sheet.specs.Sheet.{limit}
 use Rattle.sheet.specs.Sizes.{order-limit, star-size, ask-size}
 use Rattle.cue.specs.Cue.{Cue, Readable}
 use Rattle.cue.specs.Method.{through, pull, least, floor-panels, kept, ask}
-use Rattle.cue.proofs.Bounds.{Limited}
+use Rattle.cue.specs.Results.{Limited}
 use Rattle.tables.specs.Held.{meant, Holds, HoldsV, Closely, CloselyV}
 use Rattle.trigger_sets.specs.Sets.{bit}
 use Rattle.candidates.specs.declared.Marks.{Marks}

@@ -20,23 +20,12 @@ use Rattle.maxplus.proofs.LineLaws.{at-line}
 use Rattle.cue.specs.Cue.{Cue, timing, overdue, shortfall}
 use Rattle.cue.specs.Method.{Selection, through, pullE, pull, mark, leastE, least, ask, selections, need, seed, ray, candidate}
 use Rattle.cue.specs.Method.{candidates, lines}
-use Rattle.cue.specs.Sizes.{size-limit, power-size, star-size, through-size, mark-down, mark-up, least-down, least-up, need-down, need-up}
-use Rattle.cue.specs.Sizes.{ray-down, ray-up, line-down}
+use Rattle.cue.specs.Sizes.{size-limit, line-down}
+use Rattle.cue.specs.Results.{Above, Below, Within, Signed32, Limited, Results}
 use Rattle.cue.proofs.Deviation.{overdue-at, pull-is, due-pull, mv-through, mark-keeps}
 use Rattle.cue.proofs.Candidates.{candidate-of, candidates-normal, selection-trigger, selection-panel, selection-serving}
 use Rattle.cue.proofs.Candidates.{ray-is-from, ray-overdue}
 use Rattle.cue.proofs.Extreme.{in-lines}
-
--- −k ≤ a, and a ≤ k, where a is there
-pub record Above (k : ℕ) (a : E) : Type 0 where
-  pub above : (z : ℤ) → a ≡ num z → dn z ≤ k + up z
-
-pub record Below (k : ℕ) (a : E) : Type 0 where
-  pub below : (z : ℤ) → a ≡ num z → up z ≤ k + dn z
-
-pub record Within (k l : ℕ) (a : E) : Type 0 where
-  pub low : Above k a
-  pub high : Below l a
 
 above-num : {k : ℕ} (z : ℤ) → dn z ≤ k + up z → Above k (num z)
 above-num {k} z h = record { above = λ y e. subst (λ y. dn y ≤ k + up y) (num-inj e) h }
@@ -117,15 +106,8 @@ idm-above i j = elim (idm-or i j) [ inl e ↦ rw e (above-num (pos 0) (omega ari
 idm-below : (i j : ℕ) → Below 0 (idm i j)
 idm-below i j = elim (idm-or i j) [ inl e ↦ rw e (below-num (pos 0) (omega arith)) | inr e ↦ rw e (below-absent 0) ]
 
-times-le : (k m L : ℕ) → k ≤ m → k * L ≤ m * L
+pub times-le : (k m L : ℕ) → k ≤ m → k * L ≤ m * L
 times-le k m L h = mul-le-mul-right L h
-
--- lags, floors and due marks that are there lie from −L to L, entries of the order table from −B to B
-pub record Limited (n L B : ℕ) (P : Cue) : Type 0 where
-  pub lags : (i j : ℕ) → i < P .panels → j < n → Within L L (P .lag i j)
-  pub floors : (i : ℕ) → i < P .panels → Within L L (P .floor i)
-  pub dues : (j : ℕ) → j < n → Within L L (num (P .due j))
-  pub orders : (i j : ℕ) → i < n → j < n → Within B B (P .order i j)
 
 -- at most m + 1 triggers; M below is mB
 module _ (n m L B : ℕ) (P : Cue) (l : Limited n L B P) (few : n ≤ suc m) where
@@ -161,6 +143,14 @@ module _ (n m L B : ℕ) (P : Cue) (l : Limited n L B P) (few : n ≤ suc m) whe
             (below-⊗ (lag i k) (star n order k j) (l .lags i k hi hk .high) (star-within k j hk hj .high)));
       }
 
+  -- d(i,j) − p(i), from −M − 2L to M + 2L
+  pub gain-within : (i j : ℕ) → i < panels → j < n → Within (m * B + L + L) (m * B + L + L) (through n P i j ⊗ inv (floor i))
+  gain-within i j hi hj =
+      record {
+        low = above-⊗ (through n P i j) (inv (floor i)) (through-within i j hi hj .low) (above-inv _ (l .floors i hi .high));
+        high = below-⊗ (through n P i j) (inv (floor i)) (through-within i j hi hj .high) (below-inv _ (l .floors i hi .low));
+      }
+
   -- r = −pull, from −M − L to L
   pub pull-within : (j : ℕ) → j < n → Within L (m * B + L) (num (pull n P j))
   pull-within j hj =
@@ -194,6 +184,17 @@ module _ (n m L B : ℕ) (P : Cue) (l : Limited n L B P) (few : n ≤ suc m) whe
               (λ i hi. below-more (omega arith)
               (below-⊗ (floor i) (inv (mv n (through n P) (timing (mark n P)) i)) (l .floors i hi .high)
               (below-inv _ (mark-landing i hi .low)))));
+        }
+
+    -- p(i) − Δ − r(j), from −M − 5L to M + 5L
+    pub threshold-within : (i j : ℕ) → i < panels → j < n →
+        Within (m * B + 5 * L) (m * B + 5 * L) (ask n P (least n P) i ⊗ num (pull n P j))
+    threshold-within i j hi hj =
+        record {
+          low = above-more (omega arith) (above-⊗ (ask n P (least n P) i) (num (pull n P j))
+              (above-⊗ (floor i) (num (neg (least n P))) (l .floors i hi .low) (above-neg (least n P) (least-within .high))) (pull-within j hj .low));
+          high = below-more (omega arith) (below-⊗ (ask n P (least n P) i) (num (pull n P j))
+              (below-⊗ (floor i) (num (neg (least n P))) (l .floors i hi .high) (below-neg (least n P) (least-within .low))) (pull-within j hj .high));
         }
 
     abbrev D : ℤ
@@ -271,18 +272,6 @@ module _ (n m L B : ℕ) (P : Cue) (l : Limited n L B P) (few : n ≤ suc m) whe
     line-within c hc = candidate-within c (in-lines n P c .0 hc .0)
 
 -- ---- at most six triggers
--- each finite result of the method: K k l a says of a that −k to l holds it
-pub record Results (L B : ℕ) (K : ℕ → ℕ → E → Type 0) (n : ℕ) (P : Cue) : Type 0 where
-  pub powers : (k i j : ℕ) → k ≤ size-limit → i < n → j < n → K (power-size L B k) (power-size L B k) (power n (P .order) k i j)
-  pub stars : (i j : ℕ) → i < n → j < n → K (star-size L B) (star-size L B) (star n (P .order) i j)
-  pub throughs : (i j : ℕ) → i < P .panels → j < n → K (through-size L B) (through-size L B) (through n P i j)
-  pub marks : (j : ℕ) → j < n → K (mark-down L B) (mark-up L B) (num (mark n P j))
-  pub deviation : K (least-down L B) (least-up L B) (num (least n P))
-  pub needs : (s : Selection) → In s (selections n P (least n P)) → (t : ℕ) → t < n → K (need-down L B) (need-up L B) (need n P (least n P) s t)
-  pub rays : (s : Selection) → In s (selections n P (least n P)) → (t i : ℕ) → t < n → i < n →
-      K (ray-down L B) (ray-up L B) (ray n P (least n P) s t i)
-  pub components : (c : Line n) → In c (lines n P) → (i : ℕ) → i < n → K (line-down L B) 0 (at n c i)
-
 pub results-six : (n L B : ℕ) (P : Cue) → NoGain n (P .order) → Limited n L B P → n ≤ size-limit → Results L B Within n P
 results-six n L B P np l six =
     record {
@@ -292,16 +281,15 @@ results-six n L B P np l six =
       marks = λ j hj. let w = pull-within n 5 L B P l six j hj in
           record { low = above-neg (pull n P j) (w .high); high = below-neg (pull n P j) (w .low) };
       deviation = least-within n 5 L B P l six np;
+      thresholds = threshold-within n 5 L B P l six np;
+      gains = gain-within n 5 L B P l six;
       needs = need-within n 5 L B P l six np;
       rays = ray-within n 5 L B P l six np;
+      candidates = candidate-within n 5 L B P l six np;
       components = line-within n 5 L B P l six np;
     }
 
 -- ---- signed 32 bits, wherever the largest of the sizes fits
--- −2³¹ < z < 2³¹, so that the least such number is free to stand for absent
-pub record Signed32 (a : E) : Type 0 where
-  pub fits : (z : ℤ) → a ≡ num z → (up z < 2 ^ 31) × (dn z < 2 ^ 31)
-
 pub signed32 : {k l : ℕ} {a : E} → k < 2 ^ 31 → l < 2 ^ 31 → Within k l a → Signed32 a
 signed32 {k} {l} {a} hk hl w = record { fits = λ z e. go z (w .low .above z e) (w .high .below z e) }
   where
@@ -319,7 +307,10 @@ results-32 n L B P np l six fit =
       throughs = λ i j hi hj. signed32 (omega arith) (omega arith) (r .throughs i j hi hj);
       marks = λ j hj. signed32 (omega arith) (omega arith) (r .marks j hj);
       deviation = signed32 (omega arith) (omega arith) (r .deviation);
+      thresholds = λ i j hi hj. signed32 (omega arith) (omega arith) (r .thresholds i j hi hj);
+      gains = λ i j hi hj. signed32 (omega arith) (omega arith) (r .gains i j hi hj);
       needs = λ s hs t ht. signed32 (omega arith) (omega arith) (r .needs s hs t ht);
       rays = λ s hs t i ht hi. signed32 (omega arith) (omega arith) (r .rays s hs t i ht hi);
+      candidates = λ c hc i hi. signed32 (omega arith) (omega arith) (r .candidates c hc i hi);
       components = λ c hc i hi. signed32 (omega arith) (omega arith) (r .components c hc i hi);
     }

@@ -23,6 +23,8 @@ use Rattle.maxplus.proofs.StarLaws.{star-diag, star-step}
 use Rattle.cue.proofs.MinimalLaws.{Increasing, increasing-equal}
 use Rattle.cue.specs.Cue.{Cue, overdue, landing, timing}
 use Rattle.cue.specs.Method.{least, ask, candidates, lines}
+use Rattle.cue.specs.Closures as closures
+use Rattle.cue.specs.Closures.{Common}
 use Rattle.cue.proofs.Order.{keeps-rule, keeps-power, keeps-star}
 use Rattle.cue.proofs.Deviation.{overdue-there}
 use Rattle.cue.proofs.Cone.{Cone}
@@ -40,23 +42,17 @@ middle-E (num a) (num x) (num y) {z} h k = omega (arith, up-add a x, up-add a y)
 module _ (n : ℕ) (P : Cue) (D : ℤ) (c : Vec) where
   open Cue P using (panels, lag, floor, due, order)
 
-  -- A(k): M*(k,j) + c(j) = c(k)
-  abbrev pub HeldBy : ℕ → ℕ → Type 0
-  HeldBy k j = star n order k j ⊗ c j ≡ c k
+  abbrev HeldBy : ℕ → ℕ → Type 0
+  HeldBy = closures.HeldBy n P D c
 
-  -- R: the triggers that reach the largest c(j) − q(j)
-  abbrev pub Foremost : ℕ → Type 0
-  Foremost j = c j ⊗ num (neg (due j)) ≡ overdue n (timing due) c
+  abbrev Foremost : ℕ → Type 0
+  Foremost = closures.Foremost n P D c
 
-  -- the panel lands just where Δ asks, and all the triggers that reach its landing are in A(k)
-  abbrev pub Fires : ℕ → ℕ → Type 0
-  Fires k i = Present (floor i) ×
-      ((ask n P D i ⊗ overdue n (timing due) c ≡ landing n P c i) × ((j : ℕ) → j < n → lag i j ⊗ c j ≡ landing n P c i →
-      HeldBy k j))
+  abbrev Fires : ℕ → ℕ → Type 0
+  Fires = closures.Fires n P D c
 
-  -- A(k), with A(R) where some panel fires
-  abbrev pub Closure : ℕ → ℕ → Type 0
-  Closure k j = HeldBy k j ⊎ (((i : ℕ) × (i < panels) × Fires k i) × ((l : ℕ) × (l < n) × (Foremost l × HeldBy l j)))
+  abbrev Closure : ℕ → ℕ → Type 0
+  Closure = closures.Closure n P D c
 
   unfoldable pub fires? : (k : ℕ) → Dec ((i : ℕ) × (i < panels) × Fires k i)
   fires? k = some-dec (Fires k) (λ i. dec-× (present-dec (floor i))
@@ -137,11 +133,7 @@ module _ (n : ℕ) (P : Cue) (D : ℤ) (c : Vec) where
           along-star l j hl hj (foremost-present l r) h (a .landed i hi f e (λ j hj o. along-star k j hk hj p (q j hj o) t) l hl r)
 
 module _ (n : ℕ) (P : Cue) (D : ℤ) where
-  -- the closures of c's triggers have one in common
-  abbrev pub Common : Line n → Type 0
-  Common c = (j : ℕ) × (j < n) × ((k : ℕ) → k < n → Present (at n c k) → Closure n P D (at n c) k j)
-
-  unfoldable pub common? : (c : Line n) → Dec (Common c)
+  unfoldable pub common? : (c : Line n) → Dec (Common n P D c)
   common? c = some-dec (λ j. (k : ℕ) → k < n → Present (at n c k) → Closure n P D (at n c) k j)
       (λ j. all-dec (λ k. Present (at n c k) → Closure n P D (at n c) k j)
       (λ k. dec-→ (present-dec (at n c k)) (closure? n P D (at n c) k j)) n) n

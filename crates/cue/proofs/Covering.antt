@@ -20,7 +20,8 @@ use Rattle.cue.proofs.Cone.{Cone}
 use Rattle.cue.proofs.Walk.{cone-trigger}
 use Rattle.cue.proofs.Candidates.{need-E, line-from, Served, line-from-under}
 use Rattle.cue.proofs.Extreme.{Extreme, extreme-only, lines-extreme}
-use Rattle.cue.proofs.Closure.{Common, extreme-closure}
+use Rattle.cue.specs.Closures.{Common}
+use Rattle.cue.proofs.Closure.{extreme-closure}
 
 -- w ≤ x − g, told by w + g and x
 shift-E : (w x : E) (g : ℤ) → w ≼ x ⊗ num (neg g) → w ⊗ num g ≼ x

@@ -16,15 +16,17 @@ use Rattle.maxplus.specs.Combination.{Weighed, Combination}
 use Rattle.maxplus.proofs.LineLaws.{strict}
 use Rattle.cue.specs.Minimal.{others}
 use Rattle.cue.specs.Cue.{Cue, timing, Keeps, deviation, Tightest, Readable}
-use Rattle.cue.specs.Sizes.{size-limit, line-down}
+use Rattle.cue.specs.Sizes.{size-limit, geometric, line-down}
+use Rattle.cue.specs.Results.{Within, Limited, Signed32, Results}
 use Rattle.cue.specs.Method.{Entries, Selection, least, floor-panels, walk, steps, candidates, lines}
 use Rattle.cue.proofs.Order.{keeps-iff-unchanged}
 use Rattle.cue.proofs.Deviation.{at-least, least-reached, tightest-least, order-possible}
 use Rattle.cue.proofs.Cone.{Cone}
-use Rattle.cue.proofs.Walk.{geometric, steps-bound, Visited, reached-left, reached-selection}
+use Rattle.cue.proofs.Walk.{steps-bound, Visited, reached-left, reached-selection}
 use Rattle.cue.proofs.Extreme.{Extreme, in-lines, lines-increasing, lines-normal, some-line}
-use Rattle.cue.proofs.Closure.{Common, extreme-closure, lines-common, lines-by-closure}
-use Rattle.cue.proofs.Bounds.{Within, Limited, Results, results-six, Signed32, results-32}
+use Rattle.cue.specs.Closures.{Common}
+use Rattle.cue.proofs.Closure.{extreme-closure, lines-common, lines-by-closure}
+use Rattle.cue.proofs.Bounds.{results-six, results-32}
 use Rattle.cue.proofs.Weights.{tightest-weighed}
 use Rattle.cue.proofs.TwoSheets.{lists-equal, written, TightestOf, written-lists-equal}
 

@@ -1,6 +1,8 @@
--- How many lines there can be at six panels and six triggers: six times as many as selections, of which there are 46,656 at most.
+-- How many steps, selections and lines there can be at six panels and six triggers: 6 + 6² + … + 6⁶ steps, 6⁶ selections, and six times as
+-- many lines.
 use Prim.Native.Nat.{ℕ, zero, suc, _*_, _^_, _≤_}
 use native.Mathlib.Omega.{arith}
+use native.Mathlib.Decide.{le-ind}
 use native.Mathlib.Nat.{le-trans, pow-le-pow-left, pow-le-pow-right}
 use mathlib.Core.List.{List}
 use lib.Dec.{lit<}
@@ -12,24 +14,40 @@ use Rattle.maxplus.proofs.LineLaws.{strict}
 use Rattle.maxplus.proofs.SortedLaws.{sift-few}
 use Rattle.cue.specs.Minimal.{minimal, needed?}
 use Rattle.cue.specs.Cue.{Cue}
-use Rattle.cue.specs.Method.{least, selections, candidate, candidates, lines, floor-panels}
-use Rattle.cue.proofs.Walk.{selections-bound, floor-panels-few}
-use Rattle.cue.specs.Sizes.{size-limit}
+use Rattle.cue.specs.Method.{least, steps, selections, candidate, candidates, lines, floor-panels}
+use Rattle.cue.proofs.Walk.{selections-bound, steps-bound, floor-panels-few}
+use Rattle.cue.specs.Sizes.{size-limit, geometric}
 
 each-few : {A : Type 0} (n : ℕ) (f : ℕ → List A) → ((k : ℕ) → length (f k) ≤ 46656) → length (each n f) ≤ n * 46656
 unfolding each
 each-few zero f h = omega arith
 each-few (suc n) f h = omega (arith, length-append (each n f) (f n), each-few n f h, h n)
 
+-- more triggers or more panels allow no fewer steps
+geometric-mono : (n m f : ℕ) → n ≤ m → geometric n f ≤ geometric m f
+unfolding geometric
+geometric-mono n m zero h = omega arith
+geometric-mono n m (suc f) h = omega (arith, geometric-mono n m f h, pow-le-pow-left h (suc f))
+
+geometric-more : (n f g : ℕ) → f ≤ g → geometric n f ≤ geometric n g
+unfolding geometric
+geometric-more n f g = le-ind (λ g. geometric n f ≤ geometric n g) (omega arith) (λ g h p. omega arith) g
+
 abbrev pub most : ℕ
 most = 279936
 
 module _ (n : ℕ) (P : Cue) (hn : n ≤ size-limit) (hm : P .panels ≤ size-limit) where
-  selections-few : length (selections n P (least n P)) ≤ 46656
+  pub selections-few : length (selections n P (least n P)) ≤ 46656
   selections-few =
       le-trans (selections-bound n P (least n P))
       (le-trans (pow-le-pow-left hn (length (floor-panels n P)))
       (let p : 6 ^ length (floor-panels n P) ≤ size-limit ^ 6 = pow-le-pow-right (lit< tt) (le-trans (floor-panels-few n P) hm) in omega arith))
+
+  pub steps-few : steps n P (least n P) ≤ 55986
+  steps-few =
+      le-trans (steps-bound n P (least n P))
+      (le-trans (geometric-mono n 6 (length (floor-panels n P)) hn)
+      (le-trans (geometric-more 6 (length (floor-panels n P)) 6 (le-trans (floor-panels-few n P) hm)) (unfold geometric in omega arith)))
 
   pub lines-few : length (lines n P) ≤ most
   unfolding lines minimal candidates

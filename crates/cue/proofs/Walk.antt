@@ -22,6 +22,7 @@ use Rattle.maxplus.proofs.EachLaws.{map-length}
 use Rattle.cue.specs.Cue.{Cue, timing, overdue, Readable}
 use Rattle.cue.specs.Method.{Entries, Selection, through, pull, mark, least, floor-panels, serves-as-well, cut, walk, fixings, ask}
 use Rattle.cue.specs.Method.{kept, selections, steps}
+use Rattle.cue.specs.Sizes.{geometric}
 use Rattle.cue.proofs.Deviation.{pull-overdue, mv-through, timing-overdue}
 use Rattle.cue.proofs.Cone.{Cone, mark-cone}
 
@@ -72,11 +73,6 @@ and-l false b t = absurd t
 pub and-r : (a b : Bool) → T (a && b) → T b
 and-r true b t = t
 and-r false b t = absurd t
-
--- n + n² + … + n to the power f
-unfoldable pub geometric : ℕ → ℕ → ℕ
-geometric n zero = 0
-geometric n (suc f) = geometric n f + n ^ suc f
 
 pub geometric-suc : (n f : ℕ) → geometric n (suc f) ≡ n * suc (geometric n f)
 unfolding geometric

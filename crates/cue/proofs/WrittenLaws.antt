@@ -14,7 +14,7 @@ use Rattle.maxplus.specs.Line.{Line, at}
 use Rattle.maxplus.proofs.EachLaws.{length-each, each-at}
 use Rattle.maxplus.proofs.LineLaws.{line-ext}
 use Rattle.cue.specs.Written.{line-size, signed, line-words, list-words}
-use Rattle.cue.proofs.Bounds.{Signed32}
+use Rattle.cue.specs.Results.{Signed32, Fitting}
 use Rattle.cue.specs.Sizes.{size-limit}
 
 -- absent's word is no number that fits
@@ -36,10 +36,6 @@ unfolding list-words
 list-words-length n [] = refl
 list-words-length n (c ∷ L) = length-append (line-words n c) (list-words n L) ∙
     (let a = line-words-length n c in let b = list-words-length n L in omega arith)
-
--- every component of every line fits
-abbrev pub Fitting : (n : ℕ) → List (Line n) → Type 0
-Fitting n L = (c : Line n) → In c L → (i : ℕ) → i < n → Signed32 (at n c i)
 
 line-words-at : (n : ℕ) (c : Line n) (i : ℕ) → i < 6 → getD (line-words n c) (suc i) (pos 0) ≡ signed (at n c i)
 unfolding line-words

@@ -4,3 +4,5 @@ pub mod Cue
 pub mod Method
 pub mod Written
 pub mod Sizes
+pub mod Results
+pub mod Closures

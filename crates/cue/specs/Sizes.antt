@@ -1,9 +1,14 @@
 -- How large results are, each size by its name: L limits lags, floors and due marks, B the entries of the order table. At most six triggers.
-use Prim.Native.Nat.{ℕ, _+_, _*_}
+use Prim.Native.Nat.{ℕ, zero, suc, _+_, _*_, _^_}
 
 -- "There are m panels and n triggers, each 1 to 6."
 abbrev pub size-limit : ℕ
 size-limit = 6
+
+-- "n + n² + ... + n to the power f"
+unfoldable pub geometric : ℕ → ℕ → ℕ
+geometric n zero = 0
+geometric n (suc f) = geometric n f + n ^ suc f
 
 module _ (L B : ℕ) where
   -- a power of the order table; M*; d
@@ -16,7 +21,7 @@ module _ (L B : ℕ) where
   abbrev pub through-size : ℕ
   through-size = star-size + L
 
-  -- r, Δ, w, a candidate before the shift, a line: how far down and how far up
+  -- r and Δ: how far down and how far up
   abbrev pub mark-down : ℕ
   mark-down = star-size + L
 
@@ -29,6 +34,14 @@ module _ (L B : ℕ) where
   abbrev pub least-up : ℕ
   least-up = star-size + 3 * L
 
+  -- p(i) − Δ − r(j); d(i,j) − p(i)
+  abbrev pub threshold-size : ℕ
+  threshold-size = star-size + 5 * L
+
+  abbrev pub gain-size : ℕ
+  gain-size = through-size + L
+
+  -- w, a candidate before the shift, a line: how far down and how far up
   abbrev pub need-down : ℕ
   need-down = 2 * star-size + 5 * L
 

@@ -22,8 +22,8 @@ use Rattle.words.proofs.Laws.{entry-inj}
 use Rattle.cue.specs.Cue.{Cue, timing, overdue, landing}
 use Rattle.cue.specs.Method.{least, ask}
 use Rattle.cue.proofs.Deviation.{overdue-there}
-use Rattle.cue.proofs.Closure as cue
-use Rattle.cue.proofs.Closure.{Foremost, Fires, Closure, Common}
+use Rattle.cue.specs.Closures as cue
+use Rattle.cue.specs.Closures.{Foremost, Fires, Closure, Common}
 use Rattle.tables.specs.Held.{meant, meantV, HoldsV, Says}
 use Rattle.candidates.specs.declared.Marks.{Marks}
 use Rattle.trigger_sets.specs.Sets.{Has, SetOf}

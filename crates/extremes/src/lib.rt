@@ -7,7 +7,7 @@ ghost use Rattle.maxplus.specs.Entry.{_⊗_, inv, Present};
 ghost use Rattle.words.specs.Words.{entry, Close};
 ghost use Rattle.cue.specs.Cue.{Cue};
 ghost use Rattle.cue.specs.Method.{least};
-ghost use Rattle.cue.proofs.Closure.{Common};
+ghost use Rattle.cue.specs.Closures.{Common};
 ghost use Rattle.sheet.specs.Sheet.{limit};
 ghost use Rattle.sheet.specs.Sizes.{star-size, ask-size, shifted-size, late-size};
 ghost use Rattle.tables.specs.Held.{meant, meantV, HoldsV, Closely, CloselyV, Says};

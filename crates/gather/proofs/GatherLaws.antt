@@ -13,12 +13,13 @@ use Rattle.maxplus.specs.Line.{Line, line, ltL}
 use Rattle.maxplus.specs.Sorted.{put, sift}
 use Rattle.maxplus.proofs.FiniteLaws.{in-app, in-left, in-right, in-each, each-in}
 use Rattle.maxplus.proofs.LineLaws.{strict}
-use Rattle.maxplus.proofs.SortedLaws.{above, in-above, above-sorted, sorted-eq, sift-sorted, sift-in, in-sift}
+use Rattle.maxplus.specs.Above.{above}
+use Rattle.maxplus.proofs.SortedLaws.{in-above, above-sorted, sorted-eq, sift-sorted, sift-in, in-sift}
 use Rattle.maxplus.proofs.GatherLaws.{sift-last, sift-skip, put-take}
 use Rattle.cue.proofs.MinimalLaws.{Increasing}
 use Rattle.cue.specs.Cue.{Cue}
 use Rattle.cue.specs.Method.{least, lines}
-use Rattle.cue.proofs.Closure.{Common}
+use Rattle.cue.specs.Closures.{Common}
 use Rattle.cue.proofs.Covering.{Covering, lines-covered}
 use Rattle.sheet.specs.Sizes.{shifted-size}
 use Rattle.tables.specs.Held.{meant, meantV, HoldsV}

@@ -9,10 +9,11 @@ use Rattle.maxplus.specs.Line.{Line, line, ltL}
 use Rattle.maxplus.specs.Sorted.{sift}
 use Rattle.maxplus.proofs.FiniteLaws.{dec-×}
 use Rattle.maxplus.proofs.LineLaws.{strict}
-use Rattle.maxplus.proofs.SortedLaws.{gt?, above}
+use Rattle.maxplus.specs.Above.{gt?, above}
 use Rattle.cue.specs.Cue.{Cue}
 use Rattle.cue.specs.Method.{least, lines}
-use Rattle.cue.proofs.Closure.{Common, common?}
+use Rattle.cue.specs.Closures.{Common}
+use Rattle.cue.proofs.Closure.{common?}
 use Rattle.sheet.specs.Sizes.{need-down}
 use Rattle.tables.specs.Held.{meant, meantV, CloselyV}
 use Rattle.trigger_sets.specs.Sets.{Has}

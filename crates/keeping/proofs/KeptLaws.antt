@@ -14,7 +14,9 @@ use Rattle.cue.specs.Cue.{Cue}
 use Rattle.cue.specs.Method.{least, kept-byte, kept-count, steps, selections}
 use Rattle.sheet.specs.Sheet.{Got, got}
 use Rattle.sheet.specs.Sheet as spec
-use Rattle.sheet.specs.Cue.{cue-of}
+use Rattle.sheet.specs.Cue.{cue-of, Orderly, orderly?, most-steps}
+use Rattle.sheet.proofs.OrderedLaws.{ordered-by}
+use Rattle.sheet.proofs.Fits.{all-fit}
 use Rattle.preparing.proofs.Results.{kept-ones}
 use Rattle.tables.proofs.Loops.{Filled}
 use Rattle.walk.specs.State.{countsOf}
@@ -22,7 +24,7 @@ use Rattle.walk.specs.declared.Counts.{Counts}
 use Rattle.walk.proofs.Follows.{counts-follow}
 use Rattle.preparing.specs.Prepared.{MarkedAs}
 use Rattle.preparing.specs.declared.Marked.{Marked}
-use Rattle.keeping.specs.Keeping.{kept-of, keeping, six, six-counts, kept-answer}
+use Rattle.keeping.specs.Keeping.{kept-of, keeping, six, six-counts, kept-answer, Steps-at-most}
 use Rattle.sheet.specs.Ordered.{ordered}
 use Rattle.keeping.specs.declared.KeptTable.{KeptTable}
 use Rattle.cue.specs.Sizes.{size-limit}
@@ -110,3 +112,13 @@ walked-answer s x {r} M D d ns e k f =
 pub keeping-of : (s : List ℕ) {g : Got spec.Sheet} → ordered s ≡ g → kept-of g ≡ keeping s
 unfolding keeping
 keeping-of s e = sym (ap kept-of e)
+
+-- ---- "steps is at most n + n² + ... + n to the power f"
+pub steps-at-most : Steps-at-most
+unfolding keeping
+steps-at-most s t r e = go (orderly? t) (ordered-by s t r e)
+  where
+    go : (d : Dec (Orderly t)) → ordered s ≡ elim d [ yes h ↦ got t r | no h ↦ spec.refused 8 ] →
+        kept-answer (kept-of (ordered s)) .steps ≤ most-steps t
+    go (yes o) q = rw q (all-fit s t r e .steps-most)
+    go (no o) q = rw q (omega arith)

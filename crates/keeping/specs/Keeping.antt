@@ -1,13 +1,14 @@
 -- What kept table and walk return (document 01, "What each operation may refuse").
+use mathlib.Core.Path.{_≡_}
 use mathlib.Core.List.{List, [], _∷_}
-use Prim.Native.Nat.{ℕ}
+use Prim.Native.Nat.{ℕ, _≤_}
 use lib.Count.{ones}
 use lib.IntN.{ℤ, pos}
 use lib.ListN.{length, getD, replicate}
 use Rattle.maxplus.specs.Finite.{each}
-use Rattle.cue.specs.Method.{least, kept-byte, kept-count, steps, selections}
-use Rattle.sheet.specs.Sheet.{Got, got, Sheet}
-use Rattle.sheet.specs.Cue.{cue-size, cue-of}
+use Rattle.cue.specs.Method.{kept-byte, kept-count}
+use Rattle.sheet.specs.Sheet.{Got, got, Sheet, read}
+use Rattle.sheet.specs.Cue.{cue-size, cue-of, sheet-least, sheet-steps, sheet-selections, most-steps}
 use Rattle.sheet.specs.Ordered.{ordered}
 use Rattle.keeping.specs.declared.KeptTable.{KeptTable}
 use Rattle.sheet.specs.Sheet as sheet
@@ -22,8 +23,8 @@ kept-of (sheet.refused k) = refused k
 kept-of (got t r) =
     let n = cue-size t in
     let P = cue-of t in
-    let D = least n P in
-    kept D (each (t .panels) (λ i. (kept-byte n P D i, kept-count n P D i) ∷ [])) (steps n P D) (length (selections n P D))
+    let D = sheet-least t in
+    kept D (each (t .panels) (λ i. (kept-byte n P D i, kept-count n P D i) ∷ [])) (sheet-steps t) (sheet-selections t)
 
 unfoldable pub keeping : List ℕ → KeptOutcome
 keeping s = kept-of (ordered s)
@@ -49,3 +50,7 @@ kept-answer (kept D panels k l) =
     }
 kept-answer (refused k) =
     record { refusal = k; deviation = pos 0; panels = 0; kept = replicate 6 0; counts = replicate 6 0; steps = 0; selections = 0 }
+
+-- "With f panels that have a floor, steps is at most n + n² + ... + n to the power f": the number that is returned
+abbrev pub Steps-at-most : Type 0
+Steps-at-most = (s : List ℕ) (t : Sheet) (r : List ℕ) → read s ≡ got t r → kept-answer (keeping s) .steps ≤ most-steps t

@@ -14,7 +14,8 @@ use Rattle.maxplus.specs.Line.{Line, at, line, ltL, Normal}
 use Rattle.maxplus.specs.Sorted.{Strict, Sorted}
 use Rattle.maxplus.proofs.FiniteLaws.{in-app, in-right, in-map}
 use Rattle.maxplus.proofs.LineLaws.{strict}
-use Rattle.maxplus.proofs.SortedLaws.{above, in-above, above-sorted, sorted-eq}
+use Rattle.maxplus.specs.Above.{above}
+use Rattle.maxplus.proofs.SortedLaws.{in-above, above-sorted, sorted-eq}
 use Rattle.cue.specs.Cue.{Cue}
 use Rattle.cue.specs.Method.{lines}
 use Rattle.cue.proofs.Extreme.{lines-increasing, lines-normal}

@@ -7,6 +7,7 @@ use native.Mathlib.Omega.{arith}
 use lib.ListN.{length}
 use Rattle.maxplus.specs.Finite.{In}
 use Rattle.maxplus.specs.Sorted.{Cmp, less, same, more, Strict, Sorted, put, sift}
+use Rattle.maxplus.specs.Above.{gt?, above}
 
 module _ {A : Type 0} (lt : A → A → Type 0) (S : Strict lt) where
   pub sorted-eq : (l m : List A) → Sorted lt S l → Sorted lt S m → ((a : A) → In a l → In a m) → ((a : A) → In a m → In a l) → l ≡ m
@@ -101,24 +102,13 @@ module _ {A : Type 0} (lt : A → A → Type 0) (S : Strict lt) where
       go ih (no k) (inr q) = ih q
 
   -- ---- listing by "the least one above the last": what is left to list, and what finding the least does to it
-  unfoldable pub gt? : (a b : A) → Dec (lt a b)
-  gt? a b = elim (S .cmp a b) [
-    | less h ↦ yes h
-    | same e ↦ no (λ h. S .irrefl b (rw e at h))
-    | more h ↦ no
-        (λ k. S .irrefl a (S .trans a b a k h))
-  ]
-
-  unfoldable pub above : A → List A → List A
-  above a l = sift lt S (gt? a) l
-
-  pub in-above : (a : A) (l : List A) (b : A) → In b (above a l) ↔ (In b l × lt a b)
+  pub in-above : (a : A) (l : List A) (b : A) → In b (above lt S a l) ↔ (In b l × lt a b)
   unfolding above
-  in-above a l b = (λ h. sift-in (gt? a) l b h, λ h. in-sift (gt? a) l b (h .0) (h .1))
+  in-above a l b = (λ h. sift-in (gt? lt S a) l b h, λ h. in-sift (gt? lt S a) l b (h .0) (h .1))
 
-  pub above-sorted : (a : A) (l : List A) → Sorted lt S (above a l)
+  pub above-sorted : (a : A) (l : List A) → Sorted lt S (above lt S a l)
   unfolding above
-  above-sorted a l = sift-sorted (gt? a) l
+  above-sorted a l = sift-sorted (gt? lt S a) l
 
   -- ---- sorting out what is wanted makes no list longer
   put-few : (a : A) (l : List A) → length (put lt S a l) ≤ suc (length l)

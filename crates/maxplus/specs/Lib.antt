@@ -5,4 +5,5 @@ pub mod Finite
 pub mod Tables
 pub mod Line
 pub mod Sorted
+pub mod Above
 pub mod Combination

@@ -16,7 +16,8 @@ use Rattle.words.proofs.Laws.{entry-mono, entry-reflects}
 use Rattle.sheet.specs.Sheet.{limit}
 use Rattle.sheet.specs.Sizes.{order-limit}
 use Rattle.cue.specs.Cue.{Cue}
-use Rattle.cue.proofs.Bounds.{Limited, power-within}
+use Rattle.cue.specs.Results.{Limited}
+use Rattle.cue.proofs.Bounds.{power-within}
 use Rattle.tables.specs.Held.{meant, Holds, Closely}
 use Rattle.tables.proofs.Loops.{largest-none}
 use Rattle.tables.proofs.SquareLaws.{entry-unit, closely-within, meant-within}

@@ -17,7 +17,8 @@ use Rattle.maxplus.specs.Line.{Line}
 use Rattle.cue.specs.Cue.{Cue}
 use Rattle.cue.specs.Method.{least, steps, selections, lines}
 use Rattle.cue.proofs.Bounds.{results-32}
-use Rattle.cue.proofs.WrittenLaws.{Fitting, list-words-length}
+use Rattle.cue.specs.Results.{Fitting}
+use Rattle.cue.proofs.WrittenLaws.{list-words-length}
 use Rattle.sheet.specs.Sheet.{Got, got, Sheet, limit, read}
 use Rattle.sheet.specs.Sheet as sheet
 use Rattle.sheet.specs.Sizes.{order-limit}

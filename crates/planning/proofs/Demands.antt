@@ -4,33 +4,30 @@ use mathlib.Core.Path.{_≡_, refl, ap, sym, subst, _∙_}
 use mathlib.Core.Logic.{_↔_}
 use mathlib.Core.List.{List}
 use mathlib.Core.Bool.{Bool, true, false, cond}
-use Prim.Native.Nat.{ℕ, _/_}
+use Prim.Native.Nat.{ℕ, _/_, _≤_}
 use native.Mathlib.Omega.{arith}
 use lib.Dec.{leb}
 use lib.IntN.{ℤ}
 use lib.ListN.{length}
 use lib.Seq.{take-at}
 use Rattle.sheet.specs.Meaning.{Timing, Keeps, SameTimings}
-use Rattle.cue.specs.Method.{least, steps, selections}
 use Rattle.cue.specs.Written.{line-size, list-words}
 use Rattle.cue.proofs.WrittenLaws.{list-words-length}
 use Rattle.sheet.proofs.Demands as sheets
 use Rattle.sheet.specs.Sheet.{got, Sheet, read}
 use Rattle.sheet.specs.Sheet as sheet
-use Rattle.sheet.specs.Cue.{cue-size, cue-of, sheet-lines, Orderly, orderly?}
+use Rattle.sheet.specs.Cue.{Orderly, orderly?, sheet-least, sheet-steps, sheet-selections, sheet-lines, most-steps}
+use Rattle.sheet.proofs.Fits.{all-fit}
 use Rattle.sheet.specs.Good.{Good}
 use Rattle.sheet.proofs.Good.{read-good}
-use Rattle.planning.specs.Planning.{PlanOutcome, planned, full, refused, plan-of, planning, space-after}
+use Rattle.planning.specs.Planning.{PlanOutcome, planned, full, refused, plan-of, planning, space-after, plan-answer}
 use Rattle.sheet.specs.Ordered.{ordered}
 use Rattle.sheet.proofs.OrderedLaws.{ordered-by}
-use Rattle.planning.specs.Demands.{Planned, deviation-of, count-of, written, Least, Demand-2, Demand-8, Demand-3}
+use Rattle.planning.specs.Demands.{Planned, deviation-of, count-of, written, Least, Demand-2, Demand-8, Demand-3, Steps-at-most}
 
 -- ---- a planning without refusal is the plan of the sheet's tables
 abbrev pub plan : Sheet → PlanOutcome
-plan t =
-    let n = cue-size t in
-    let P = cue-of t in
-    planned (t .triggers) (least n P) (steps n P (least n P)) (length (selections n P (least n P))) (sheet-lines t)
+plan t = planned (t .triggers) (sheet-least t) (sheet-steps t) (sheet-selections t) (sheet-lines t)
 
 module _ (s : List ℕ) (t : Sheet) (r : List ℕ) (e : read s ≡ got t r) (space : List ℤ) where
   planned-as : Planned (planning s space) → Orderly t × (planning s space ≡ plan t)
@@ -117,3 +114,17 @@ demand-3 s₁ s₂ t₁ t₂ r₁ r₂ space₁ space₂ e₁ e₂ same h₁ h�
           λ q. both .0 (sym c₁ ∙ q .0 ∙ c₂, sym w₁ ∙ q .1 ∙ w₂),
           λ f. let b = both .1 f in (c₁ ∙ b .0 ∙ sym c₂, w₁ ∙ b .1 ∙ sym w₂),
         )
+
+-- ---- steps
+pub steps-at-most : Steps-at-most
+unfolding planning
+steps-at-most s t r space e = go (orderly? t) (ordered-by s t r e)
+  where
+    room : (b : Bool) → plan-answer (cond b (plan t) (full (length (sheet-lines t)))) .steps ≤ most-steps t
+    room true = all-fit s t r e .steps-most
+    room false = omega arith
+
+    go : (d : Dec (Orderly t)) → ordered s ≡ elim d [ yes h ↦ got t r | no h ↦ sheet.refused 8 ] →
+        plan-answer (plan-of (length space / line-size) (ordered s)) .steps ≤ most-steps t
+    go (yes o) q = rw q (room (leb (length (sheet-lines t)) (length space / line-size)))
+    go (no o) q = rw q (omega arith)

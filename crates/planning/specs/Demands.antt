@@ -2,7 +2,7 @@
 use mathlib.Core.Path.{_≡_}
 use mathlib.Core.Logic.{_↔_}
 use mathlib.Core.List.{List}
-use Prim.Native.Nat.{ℕ, _*_}
+use Prim.Native.Nat.{ℕ, _*_, _≤_}
 use lib.IntN.{ℤ, pos}
 use lib.ListN.{length, take}
 use Rattle.maxplus.specs.Entry.{num, _≼_}
@@ -10,8 +10,8 @@ use Rattle.maxplus.specs.Combination.{Weighed}
 use Rattle.cue.specs.Written.{line-size, list-words}
 use Rattle.sheet.specs.Sheet.{got, Sheet, read}
 use Rattle.sheet.specs.Meaning.{Timing, Keeps, deviation, SameTimings}
-use Rattle.sheet.specs.Cue.{sheet-lines}
-use Rattle.planning.specs.Planning.{PlanOutcome, planned, full, refused, planning, space-after}
+use Rattle.sheet.specs.Cue.{sheet-lines, most-steps}
+use Rattle.planning.specs.Planning.{PlanOutcome, planned, full, refused, planning, space-after, plan-answer}
 
 -- planned without refusal; the deviation and the number of lines that are returned
 abbrev pub Planned : PlanOutcome → Type 0
@@ -59,3 +59,7 @@ Demand-3 = (s₁ s₂ : List ℕ) (t₁ t₂ : Sheet) (r₁ r₂ : List ℕ) (sp
     ((count-of (planning s₁ space₁) ≡ count-of (planning s₂ space₂)) ×
     (written (planning s₁ space₁) space₁ ≡ written (planning s₂ space₂) space₂)) ↔
     SameTimings t₁ t₂
+
+-- ---- "With f panels that have a floor, steps is at most n + n² + ... + n to the power f": the number that is returned
+abbrev pub Steps-at-most : Type 0
+Steps-at-most = (s : List ℕ) (t : Sheet) (r : List ℕ) (space : List ℤ) → read s ≡ got t r → plan-answer (planning s space) .steps ≤ most-steps t

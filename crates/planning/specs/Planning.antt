@@ -6,10 +6,9 @@ use lib.Dec.{leb}
 use lib.IntN.{ℤ, pos}
 use lib.ListN.{length, drop}
 use Rattle.maxplus.specs.Line.{Line}
-use Rattle.cue.specs.Method.{least, steps, selections}
 use Rattle.cue.specs.Written.{line-size, list-words}
 use Rattle.sheet.specs.Sheet.{Got, got, Sheet}
-use Rattle.sheet.specs.Cue.{cue-size, cue-of, sheet-lines}
+use Rattle.sheet.specs.Cue.{sheet-least, sheet-steps, sheet-selections, sheet-lines}
 use Rattle.sheet.specs.Ordered.{ordered}
 use Rattle.planning.specs.declared.CuePlan.{CuePlan}
 use Rattle.sheet.specs.Sheet as sheet
@@ -24,11 +23,8 @@ pub data PlanOutcome : Type 0 where
 abbrev pub plan-of : ℕ → Got Sheet → PlanOutcome
 plan-of room (sheet.refused k) = refused k
 plan-of room (got t r) =
-    let n = cue-size t in
-    let P = cue-of t in
-    let D = least n P in
     let L = sheet-lines t in
-    cond (leb (length L) room) (planned (t .triggers) D (steps n P D) (length (selections n P D)) L) (full (length L))
+    cond (leb (length L) room) (planned (t .triggers) (sheet-least t) (sheet-steps t) (sheet-selections t) L) (full (length L))
 
 unfoldable pub planning : List ℕ → List ℤ → PlanOutcome
 planning s space = plan-of (length space / line-size) (ordered s)

@@ -27,7 +27,8 @@ use Rattle.rows.proofs.PlaceLaws.{strip-at, grid-at}
 use Rattle.cue.specs.Cue.{Cue, timing, overdue, shortfall}
 use Rattle.cue.specs.Method.{through, pullE, pull, mark, leastE, least, floor-panels, kept, kept-byte, kept-count}
 use Rattle.cue.proofs.Deviation.{pull-is, mv-through, mark-keeps, mark-shortfall}
-use Rattle.cue.proofs.Bounds.{Within, star-within, through-within, pull-within, least-within}
+use Rattle.cue.specs.Results.{Within}
+use Rattle.cue.proofs.Bounds.{star-within, through-within, pull-within, least-within}
 use Rattle.tables.specs.Held.{meant, meantV, Holds, HoldsV, Closely, CloselyV, Says}
 use Rattle.trigger_sets.specs.Sets.{bit, byte-of}
 use Rattle.trigger_sets.proofs.ByteLaws.{byte-ext, byte-small, byte-ones, byte-bit}

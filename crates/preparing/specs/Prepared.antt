@@ -9,7 +9,7 @@ use Rattle.maxplus.specs.Tables.{star, NoGain}
 use Rattle.cue.specs.Cue as theory
 use Rattle.cue.specs.Cue.{timing, Readable}
 use Rattle.cue.specs.Method.{through, least, kept-byte, floor-panels}
-use Rattle.cue.proofs.Bounds.{Limited}
+use Rattle.cue.specs.Results.{Limited}
 use Rattle.words.specs.Words.{entry, Near}
 use Rattle.sheet.specs.Sheet.{Got, got, refused, limit}
 use Rattle.sheet.specs.Sheet as spec

@@ -12,7 +12,8 @@ use Rattle.cue.specs.Method.{least, lines}
 use Rattle.cue.specs.Cue as cue
 use Rattle.cue.specs.Written.{list-words}
 use Rattle.cue.proofs.Bounds.{results-32}
-use Rattle.cue.proofs.WrittenLaws.{Fitting, list-words-one}
+use Rattle.cue.specs.Results.{Fitting}
+use Rattle.cue.proofs.WrittenLaws.{list-words-one}
 use Rattle.cue.proofs.Demands as theory
 use Rattle.sheet.specs.Sheet.{Sheet, limit}
 use Rattle.sheet.specs.Sizes.{order-limit}

@@ -10,7 +10,7 @@ use borrow.Author.Tests.{ltb-false}
 use Rattle.maxplus.specs.Whole.{up, dn}
 use Rattle.maxplus.specs.Entry.{E, absent, num, val, Present}
 use Rattle.maxplus.proofs.EntryLaws.{num-inj, absent-not}
-use Rattle.cue.proofs.Bounds.{Within}
+use Rattle.cue.specs.Results.{Within}
 use Rattle.sheet.specs.Sheet.{got, refused, Rule, size, limit, out-of-range, absent?, any, all, table, Sheet, sections, sizes, tables, part, count}
 use Rattle.sheet.specs.Sheet.{panels-line, triggers-line, lag-lines, floor-line, due-line, after-lines, sheet-of, finished, lines, read}
 use Rattle.sheet.specs.Good.{Good}

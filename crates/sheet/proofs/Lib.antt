@@ -6,3 +6,4 @@ pub mod OrderedLaws
 pub mod Seam
 pub mod Demands
 pub mod Decided
+pub mod Fits

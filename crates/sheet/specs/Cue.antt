@@ -1,11 +1,14 @@
 -- The one place where what a sheet says becomes the tables of the method (cue/specs/Method).
 use mathlib.Core.List.{List}
 use Prim.Native.Nat.{ℕ}
+use lib.IntN.{ℤ}
+use lib.ListN.{length}
 use Rattle.maxplus.specs.Line.{Line}
 use Rattle.maxplus.specs.Tables.{NoGain}
 use Rattle.maxplus.proofs.StarLaws.{no-gain?}
 use Rattle.cue.specs.Cue.{Cue}
-use Rattle.cue.specs.Method.{lines}
+use Rattle.cue.specs.Method.{least, floor-panels, steps, selections, lines}
+use Rattle.cue.specs.Sizes.{geometric}
 use Rattle.sheet.specs.Sheet.{Sheet}
 
 -- how many triggers the method works with, and its tables
@@ -22,6 +25,19 @@ Orderly t = NoGain (cue-size t) (cue-of t .order)
 unfoldable pub orderly? : (t : Sheet) → Dec (Orderly t)
 orderly? t = no-gain? (cue-size t) (cue-of t .order)
 
--- the sheet's list
+-- what steps 3, 5 and 7 give for a sheet: Δ, the walk's fixings and its selections, the list
+abbrev pub sheet-least : Sheet → ℤ
+sheet-least t = least (cue-size t) (cue-of t)
+
+abbrev pub sheet-steps : Sheet → ℕ
+sheet-steps t = steps (cue-size t) (cue-of t) (sheet-least t)
+
+abbrev pub sheet-selections : Sheet → ℕ
+sheet-selections t = length (selections (cue-size t) (cue-of t) (sheet-least t))
+
 abbrev pub sheet-lines : (t : Sheet) → List (Line (t .triggers))
 sheet-lines t = lines (cue-size t) (cue-of t)
+
+-- "n + n² + ... + n to the power f", for the f panels that have a floor
+abbrev pub most-steps : Sheet → ℕ
+most-steps t = geometric (cue-size t) (length (floor-panels (cue-size t) (cue-of t)))

@@ -2,7 +2,7 @@
 -- the limit.
 use Prim.Native.Nat.{_≤_}
 use Rattle.cue.specs.Cue.{Readable}
-use Rattle.cue.proofs.Bounds.{Limited}
+use Rattle.cue.specs.Results.{Limited}
 use Rattle.sheet.specs.Sheet.{Sheet, limit}
 use Rattle.sheet.specs.Sizes.{order-limit}
 use Rattle.sheet.specs.Cue.{cue-size, cue-of}

@@ -7,3 +7,5 @@ pub mod Asked
 pub mod Cue
 pub mod Good
 pub mod Ordered
+pub mod Times
+pub mod Fits

@@ -7,7 +7,8 @@ use Rattle.maxplus.specs.Entry.{E, _⊗_, inv}
 use Rattle.maxplus.specs.Tables.{sup, mv}
 use Rattle.words.specs.Words.{entry, Close}
 use Rattle.cue.specs.Cue.{overdue, shortfall}
-use Rattle.cue.proofs.Bounds.{Within, above-⊗, below-⊗, above-inv, below-inv, above-sup, below-sup}
+use Rattle.cue.specs.Results.{Within}
+use Rattle.cue.proofs.Bounds.{above-⊗, below-⊗, above-inv, below-inv, above-sup, below-sup}
 use Rattle.tables.specs.Held.{meant, meantV, Closely, CloselyV}
 use Rattle.tables.proofs.SquareLaws.{close-within, meant-within, meantV-within}
 

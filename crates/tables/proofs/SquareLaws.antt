@@ -14,7 +14,7 @@ use Rattle.maxplus.proofs.EntryLaws.{≼-refl, ≼-anti, ≼-absent, ≼-back, 
 use Rattle.maxplus.proofs.TableLaws.{idm-same, idm-eq, idm-or}
 use Rattle.words.specs.Words.{word, entry, Close}
 use Rattle.words.proofs.Laws.{entry-word, entry-zero, close-of, of-close, close-more}
-use Rattle.cue.proofs.Bounds.{Within}
+use Rattle.cue.specs.Results.{Within}
 use Rattle.tables.specs.Held.{meant, meantV, Holds, HoldsV, Closely, CloselyV, Raised}
 use Rattle.tables.proofs.Loops.{blank-word}
 

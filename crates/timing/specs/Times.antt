@@ -1,30 +1,16 @@
--- A timing's components, the limit on them (document 01, "Testing a timing"), and their words.
+-- A timing's components and their words.
 use mathlib.Core.Path.{_≡_}
-use mathlib.Core.List.{List, [], _∷_}
-use mathlib.Core.Bool.{Bool, _||_}
+use mathlib.Core.List.{List}
 use Prim.Native.Nat.{ℕ, _≤_}
-use lib.Dec.{ltb}
 use lib.IntN.{ℤ, pos}
 use lib.ListN.{getD}
-use Rattle.maxplus.specs.Whole.{up, dn}
-use Rattle.maxplus.specs.Finite.{each}
 use Rattle.cue.specs.Cue.{timing}
-use Rattle.sheet.specs.Sheet.{any}
+pub use Rattle.sheet.specs.Times.{far-limit, beyond, some-beyond}
 use Rattle.tables.specs.Held.{HoldsV, CloselyV}
 
 -- x(j + 1) of the six words
 abbrev pub component : List ℤ → ℕ → ℤ
 component at j = getD at j (pos 0)
-
--- "one beyond ±1,000,000,000"
-abbrev pub far-limit : ℕ
-far-limit = 1_000_000_000
-
-abbrev pub beyond : ℤ → Bool
-beyond z = ltb far-limit (up z) || ltb far-limit (dn z)
-
-abbrev pub some-beyond : ℕ → (ℕ → ℤ) → Bool
-some-beyond n X = any beyond (each n (λ j. X j ∷ []))
 
 -- the words of n components, none of them beyond the limit, and absent past them
 pub record TimingWords (n : ℕ) (X : ℕ → ℤ) (r : List ℕ) : Type 0 where

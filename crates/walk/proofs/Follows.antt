@@ -13,7 +13,7 @@ use Rattle.maxplus.specs.Finite.{each, onlyIf, mapL, countIf}
 use Rattle.maxplus.proofs.EachLaws.{each-same, map-each, map-length, map-twice}
 use Rattle.cue.specs.Cue.{Cue}
 use Rattle.cue.specs.Method as M
-use Rattle.cue.proofs.Walk.{geometric, steps-bound, cut-within}
+use Rattle.cue.proofs.Walk.{cut-within}
 use Rattle.trigger_sets.specs.Sets.{bit}
 use Rattle.walk.specs.Trace.{Event, fixing, whole, cut, serves, walkFrom, walkOf, selections, fixings}
 use Rattle.walk.specs.State.{StepTaken, picked, startOf, countsOf}
@@ -145,12 +145,6 @@ module _ {n : ℕ} {P : Cue} {D : ℤ} {f : ℕ} {masks : List ℕ} {gains : Lis
   pub counts-follow : countsOf masks gains f ≡ record { steps = M.steps n P D; selections = length (M.selections n P D) }
   counts-follow = ap₂ (λ (k l : ℕ). record { steps = k; selections = l }) steps-follow
       (sym (map-length (zip panels) (selections (walkOf masks gains f))) ∙ ap length selections-follow)
-
-  -- "With f panels that have a floor, steps is at most n + n² + ... + n to the power f."
-  pub steps-at-most : countsOf masks gains f .steps ≤ geometric n f
-  steps-at-most =
-      let e : length (M.floor-panels n P) ≡ f = ap length (sym (F .floors)) ∙ F .many in
-      rw (steps-follow, ← e) (steps-bound n P D)
 
 -- ---- a loop over document 01's selections
 -- those that a state has left, and the one that its picks show

@@ -15,8 +15,9 @@ use Rattle.maxplus.specs.Line.{Line, at, line}
 use Rattle.maxplus.proofs.EachLaws.{length-each, each-at}
 use Rattle.maxplus.proofs.LineLaws.{at-line, line-ext}
 use Rattle.cue.specs.Written.{line-size, signed, line-words, list-words}
-use Rattle.cue.proofs.Bounds.{Signed32}
-use Rattle.cue.proofs.WrittenLaws.{Fitting, line-words-length}
+use Rattle.cue.specs.Results.{Signed32}
+use Rattle.cue.specs.Results.{Fitting}
+use Rattle.cue.proofs.WrittenLaws.{line-words-length}
 use Rattle.sheet.specs.Text.{bytes}
 use Rattle.writing.specs.Numerals.{natural, numeral}
 use Rattle.writing.specs.Texts.{field, line-texts, plan-text}

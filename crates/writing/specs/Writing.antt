@@ -10,7 +10,7 @@ use Rattle.maxplus.specs.Entry.{E, absent, num}
 use Rattle.maxplus.specs.Finite.{each}
 use Rattle.maxplus.specs.Line.{Line, at, line}
 use Rattle.cue.specs.Written.{line-size, list-words}
-use Rattle.cue.proofs.WrittenLaws.{Fitting}
+use Rattle.cue.specs.Results.{Fitting}
 use Rattle.sheet.specs.Text.{bytes}
 use Rattle.writing.specs.Numerals.{item}
 use Rattle.writing.specs.Texts.{joined}

@@ -1,0 +1,88 @@
+-- All finite results of a sheet that is read fit signed 32 bits (specs/Fits): cue's sizes at the limits on a sheet's entries, and the sums
+-- that a tested timing makes with them.
+use mathlib.Core.Path.{_≡_, refl}
+use mathlib.Core.Bool.{false}
+use mathlib.Core.List.{List, [], _∷_}
+use Prim.Native.Nat.{ℕ, _+_, _*_, _^_, _≤_, _<_}
+use native.Mathlib.Omega.{arith}
+use native.Mathlib.Nat.{le-trans}
+use borrow.Author.Tests.{ltb-false}
+use lib.Dec.{ltb}
+use lib.IntN.{ℤ, pos}
+use lib.ListN.{length}
+use Rattle.maxplus.specs.Whole.{up, dn, neg}
+use Rattle.maxplus.specs.Entry.{E, num, _⊗_, inv}
+use Rattle.maxplus.specs.Finite.{each}
+use Rattle.maxplus.specs.Tables.{sup, mv}
+use Rattle.maxplus.proofs.EntryLaws.{num-inj}
+use Rattle.maxplus.proofs.EachLaws.{each-at, length-each}
+use Rattle.cue.specs.Results.{Within, Signed32}
+use Rattle.cue.proofs.Bounds.{above-⊗, below-⊗, above-inv, below-inv, above-sup, below-sup, power-within, times-le, signed32, results-32}
+use Rattle.cue.proofs.Walk.{steps-bound}
+use Rattle.cue.proofs.Few.{selections-few, steps-few, lines-few}
+use Rattle.sheet.specs.Sheet.{Sheet, limit, read}
+use Rattle.sheet.specs.Sizes.{order-limit}
+use Rattle.sheet.specs.Meaning.{Timing, landing, overdue, shortfall, deviation}
+use Rattle.sheet.specs.Times.{far-limit, beyond, some-beyond}
+use Rattle.sheet.specs.Cue.{cue-size, cue-of}
+use Rattle.sheet.specs.Good.{Good}
+use Rattle.sheet.specs.Fits.{Fits, All-fit}
+use Rattle.sheet.proofs.LineLaws.{none-or, none-at}
+use Rattle.sheet.proofs.Good.{read-good}
+
+-- ---- sums, differences and largest values of entries within limits
+within-⊗ : {k l : ℕ} {a b : E} → Within k k a → Within l l b → Within (k + l) (k + l) (a ⊗ b)
+within-⊗ h i = record { low = above-⊗ _ _ (h .low) (i .low); high = below-⊗ _ _ (h .high) (i .high) }
+
+within-inv : {k : ℕ} {a : E} → Within k k a → Within k k (inv a)
+within-inv h = record { low = above-inv _ (h .high); high = below-inv _ (h .low) }
+
+within-sup : (n : ℕ) {k : ℕ} (f : ℕ → E) → ((j : ℕ) → j < n → Within k k (f j)) → Within k k (sup n f)
+within-sup n f h = record { low = above-sup n f (λ j q. h j q .low); high = below-sup n f (λ j q. h j q .high) }
+
+-- ---- a timing that is tested
+near : (X : Timing) (n : ℕ) → some-beyond n X ≡ false → (j : ℕ) → j < n → Within far-limit far-limit (num (X j))
+near X n e j h =
+    let b : beyond (X j) ≡ false = rw (each-at n j X (pos 0) h) at (none-at beyond (pos 0) (each n (λ j. X j ∷ [])) j e (rw (length-each n X) h)) in
+    let (p, q) = none-or (ltb far-limit (up (X j))) (ltb far-limit (dn (X j))) b in
+    let u = ltb-false far-limit (up (X j)) p in
+    let d = ltb-false far-limit (dn (X j)) q in
+    record { low = record { above = λ y f. rw (← num-inj f) (omega arith) }; high = record { below = λ y f. rw (← num-inj f) (omega arith) } }
+
+module _ (t : Sheet) (G : Good t) (X : Timing) (e : some-beyond (t .triggers) X ≡ false) where
+  landing-within : (i : ℕ) → i < t .panels → Within (limit + far-limit) (limit + far-limit) (landing t X i)
+  unfolding landing mv
+  landing-within i h = within-sup (t .triggers) _ (λ j q. within-⊗ (G .limited .lags i j h q) (near X (t .triggers) e j q))
+
+  overdue-within : Within (far-limit + limit) (far-limit + limit) (overdue t X)
+  unfolding overdue inv
+  overdue-within = within-sup (t .triggers) _ (λ j q. within-⊗ (near X (t .triggers) e j q) (within-inv (G .limited .dues j q)))
+
+  shortfall-within : Within (limit + (limit + far-limit)) (limit + (limit + far-limit)) (shortfall t X)
+  unfolding shortfall
+  shortfall-within = within-sup (t .panels) _ (λ i h. within-⊗ (G .limited .floors i h) (within-inv (landing-within i h)))
+
+  deviation-fits : Signed32 (deviation t X)
+  unfolding deviation
+  deviation-fits = signed32 (omega arith) (omega arith) (within-⊗ overdue-within shortfall-within)
+
+-- ---- all of it
+fits : (t : Sheet) → Good t → Fits t
+fits t G =
+    let n = cue-size t in
+    let P = cue-of t in
+    record {
+      powers = λ k i j hk hi hj.
+          let p : k * order-limit ≤ 6 * order-limit = times-le k 6 order-limit (le-trans hk (G .triggers-few)) in
+          signed32 (omega arith) (omega arith) (power-within n 5 limit order-limit P (G .limited) (G .triggers-few) k i j hi hj);
+      results = λ o. results-32 n limit order-limit P o (G .limited) (G .triggers-few) (omega arith);
+      steps-most = steps-bound n P _;
+      steps = let h = steps-few n P (G .triggers-few) (G .panels-few) in omega arith;
+      selections = let h = selections-few n P (G .triggers-few) (G .panels-few) in omega arith;
+      count = let h = lines-few n P (G .triggers-few) (G .panels-few) in omega arith;
+      landings = λ X e i h. signed32 (omega arith) (omega arith) (landing-within t G X e i h);
+      deviation = λ X e. deviation-fits t G X e;
+    }
+
+pub all-fit : All-fit
+all-fit s t r e = fits t (read-good s t r e)
