@@ -41,16 +41,12 @@ use Rattle.sheet.specs.Sheet as sheet
 use Rattle.cue.specs.Written.{line-words, list-words}
 use Rattle.timing.specs.Times.{component, some-beyond}
 use Rattle.timing.specs.declared.Timing.{Timing}
-use Rattle.writing.specs.Numerals.{digits}
-use Rattle.writing.specs.Texts.{joined, line-texts, plan-text, refusal-text, full-text}
 use Rattle.sheet.specs.Ordered.{ordered}
 use Rattle.planning.specs.Planning.{planning, space-after, plan-answer}
 use Rattle.keeping.specs.Keeping.{keeping, kept-answer}
 use Rattle.testing.specs.Testing.{answer, testing, test-answer}
 use Rattle.tables.specs.Held.{Says}
 use Rattle.sheet.specs.Meaning as sheets
-use Rattle.planning.specs.Planning as outcome
-use Rattle.planning.specs.Text.{text, program-text}
 use Rattle.keeping.specs.declared.KeptTable.{KeptTable}
 use Rattle.planning.specs.declared.CuePlan.{CuePlan}
 use Rattle.testing.specs.declared.Tested.{Tested}
@@ -228,14 +224,3 @@ cases-hold =
     whole-says : (b : ℕ) (rest : List ℤ) → some-beyond 2 (component (pos 0 ∷ pos b ∷ rest)) ≡ false → (v : Bool) →
         Says (sheets.Tightest whole (component (pos 0 ∷ pos b ∷ rest))) v → answer v ≡ testing (bytes whole-case) 2 (component (pos 0 ∷ pos b ∷ rest))
     whole-says b rest near v h = testing-says (bytes whole-case) 2 (component (pos 0 ∷ pos b ∷ rest)) whole [] refl refl near whole-ordered v h
-
--- ---- "writes", for the whole case, for a refusal and for 9
-pub texts-hold : mapL program-text (bytes whole-case ∷ bytes (one-by-one "1") ∷ bytes "" ∷ []) ++ text (outcome.full 2) ∷ [] ≡
-    bytes "deviation=2\nsteps=2\nselections=1\ncount=2\nline=-1,0\nline=0,-\n" ∷ bytes "refused=8\n" ∷ bytes "refused=2\n" ∷
-    bytes "refused=9\ncount=2\n" ∷ []
-unfolding program-text text plan-text refusal-text full-text line-texts joined digits ordered orderly? line-words list-words read sheet.lines sheet.line rows
-    sections checked any ended items item signed value behind literal bytes least leastE shortfall steps selections lines minimal needed? others
-    combination? asked? met? under-dec fixings walk kept cut serves-as-well floor-panels through pull pullE overdue need seed ray candidate candidates
-    no-gain? gain-or mm mv star power idm normal sup supL at line put sift each mapL sum val inv _⊗_ _⊕_ maxz _+z_ neg decLe z-dec ≼-dec
-    present-dec all-or all-dec any-dec dec-× dec-¬ dec-→ ltE-cmp ltL-cmp strict same?
-texts-hold = refl

@@ -31,12 +31,11 @@ use Rattle.writing.specs.Texts.{plan-text, refusal-text, full-text}
 use Rattle.writing.specs.Writing.{Stands}
 use Rattle.planning.specs.Planning.{PlanOutcome, planned, full, refused, plan-of, planning, space-after, plan-answer}
 use Rattle.sheet.specs.Ordered.{ordered}
-use Rattle.planning.specs.Text.{text, program-text}
 use Rattle.planning.specs.Demands.{Planned}
 use Rattle.planning.specs.declared.CuePlan.{CuePlan}
 use Rattle.planning.proofs.PlanLaws.{planning-refused, planning-8, planning-listed}
 use Rattle.advice.proofs.AdviceLaws.{advised}
-use Rattle.plan.specs.Output.{complaint, program-complaint}
+use Rattle.plan.specs.Output.{text, complaint, program-text, program-complaint}
 use Rattle.cue.specs.Written.{line-size}
 use Rattle.cue.specs.Sizes.{size-limit}
 

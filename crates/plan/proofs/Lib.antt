@@ -1,2 +1,3 @@
--- Laws of a planning's outcome.
+-- Laws of a planning's outcome, and the texts of document 01's whole case.
 pub mod Laws
+pub mod WholeCase

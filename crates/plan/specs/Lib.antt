@@ -1,2 +1,2 @@
--- What the program writes on standard error.
+-- What the program writes.
 pub mod Output

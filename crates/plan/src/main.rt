@@ -2,8 +2,7 @@
 ghost use mathlib.Core.Path.{_≡_};
 ghost use lib.ListN.{take};
 ghost use Rattle.io.specs.Counts.{Counts};
-ghost use Rattle.planning.specs.Text.{program-text};
-ghost use Rattle.plan.specs.Output.{program-complaint};
+ghost use Rattle.plan.specs.Output.{program-text, program-complaint};
 use text::Ends;
 
 // What the program writes for a sheet; the places behind the two texts. "The program lends space for 2,000 lines", seven words each. Only 9 is

@@ -1,5 +1,4 @@
--- What planning returns and leaves in the lent space, the demands on it, and what the planning program writes.
+-- What planning returns and leaves in the lent space, and the demands on it.
 pub mod Planning
 pub mod Inner
 pub mod Demands
-pub mod Text
