@@ -8,49 +8,53 @@ use borrow.Author.Tests.{ltb-false}
 use lib.Dec.{ltb}
 use lib.ListN.{length, getD}
 use Rattle.maxplus.specs.Whole.{up, dn}
-use Rattle.maxplus.specs.Entry.{E, absent, num}
-use Rattle.words.specs.Words.{word}
-use Rattle.sheet.specs.Sheet.{entry, limit, out-of-range, absent?, any, all, row, table}
-use Rattle.sheet.proofs.LineLaws.{none-or, none-at, any-none, any-at}
+use Rattle.maxplus.specs.Entry.{E, absent, num, present?}
+use Rattle.maxplus.proofs.EntryLaws.{num-inj, absent-not}
+use Rattle.words.specs.Words.{word, entry}
+use Rattle.words.proofs.Laws.{entry-word}
+use Rattle.sheet.specs.Sheet as sheet
+use Rattle.sheet.specs.Sheet.{limit, out-of-range, absent?, any, all, row, table}
+use Rattle.sheet.proofs.LineLaws.{true-not-false, none-or, any-none, any-at}
 use Rattle.sheet.proofs.SectionLaws.{RowsOf, row-long, row-passes}
 use Rattle.rows.specs.Grid.{strips}
 use Rattle.rows.proofs.PlaceLaws.{strip-at, strips-at}
 use Rattle.reading.specs.Inner.{EmptyWords}
 use Rattle.cue.specs.Sizes.{size-limit}
 
--- an entry within the limit is absent exactly where its word is 0
-word-none : (e : E) → out-of-range e ≡ false → word e ≡ 0 → absent? e ≡ true
-unfolding word
-word-none absent h w = refl
-word-none (num z) h w = let b = ltb-false limit (dn z) (none-or (ltb limit (up z)) _ h .1) in let e : ⊥ = omega arith in absurd e
+-- the word of an entry within the limit stands for it, and so does that of an absent one past the last
+word-back : (e : E) → out-of-range e ≡ false → entry (word e) ≡ e
+word-back absent h = entry-word absent (λ z q. absurd (absent-not q))
+word-back (num x) h =
+    let b = ltb-false limit (dn x) (none-or (ltb limit (up x)) _ h .1) in
+    entry-word (num x) (λ z q. rw (← num-inj q) (omega arith))
 
-word-some : (e : E) → ¬ (word e ≡ 0) → not (absent? e) ≡ true
-unfolding word
-word-some absent h = absurd (h refl)
-word-some (num z) h = refl
+row-in-range : (es : List E) (j : ℕ) → any out-of-range es ≡ false → out-of-range (row es j) ≡ false
+unfolding any
+row-in-range [] j h = refl
+row-in-range (e ∷ es) zero h = none-or (out-of-range e) (any out-of-range es) h .0
+row-in-range (e ∷ es) (suc j) h = row-in-range es j (none-or (out-of-range e) (any out-of-range es) h .1)
 
-inside : (es : List E) (j : ℕ) → ¬ (word (row es j) ≡ 0) → j < length es
-unfolding word
-inside [] j h = absurd (h refl)
+inside : (es : List E) (j : ℕ) → present? (row es j) ≡ true → j < length es
+inside [] j h = absurd (true-not-false (sym h))
 inside (e ∷ es) zero h = omega arith
 inside (e ∷ es) (suc j) h = let q = inside es j h in omega arith
 
-module _ (ws : List (List ℕ)) (lines n : ℕ) (t : List (List E)) (six : lines ≤ size-limit) (few : n ≤ size-limit) (R : RowsOf entry lines n t)
+module _ (ws : List (List ℕ)) (lines n : ℕ) (t : List (List E)) (six : lines ≤ size-limit) (few : n ≤ size-limit) (R : RowsOf sheet.entry lines n t)
     (w : ws ≡ strips (table t)) where
-  word-there : (k j : ℕ) → k < lines → j < 6 → getD (getD ws k []) j 0 ≡ word (table t k j)
-  word-there k j h q =
-      ap (λ l. getD (getD l k []) j 0) w ∙ ap (λ r. getD r j 0) (strips-at (table t) k (omega arith)) ∙ strip-at (table t k) j q
+  entry-there : (k j : ℕ) → k < lines → j < 6 → present? (entry (getD (getD ws k []) j 0)) ≡ present? (table t k j)
+  entry-there k j h q =
+      let w = ap (λ l. getD (getD l k []) j 0) w ∙ ap (λ r. getD r j 0) (strips-at (table t) k (omega arith)) ∙ strip-at (table t k) j q in
+      ap (λ w. present? (entry w)) w ∙ ap present? (word-back (table t k j) (row-in-range (getD t k []) j (row-passes R k h)))
 
   pub empty-found : (k : ℕ) → k < lines → EmptyWords (getD ws k []) true → any (all absent?) t ≡ true
   empty-found k h e = any-at (all absent?) [] t k (let p = R .many in omega arith) (ap not
       (any-none (λ e. not (absent? e)) absent (getD t k []) (λ j q.
       let l = row-long R k h in
-      ap not (word-none (table t k j) (none-at out-of-range absent (getD t k []) j (row-passes R k h) q)
-      (sym (word-there k j h (omega arith)) ∙ e j (omega arith))))))
+      ap (λ b. not (not b)) (sym (entry-there k j h (omega arith)) ∙ e j (omega arith)))))
 
   pub empty-none : ((k : ℕ) → k < lines → EmptyWords (getD ws k []) false) → any (all absent?) t ≡ false
   empty-none e = any-none (all absent?) [] t (λ k q.
       let h : k < lines = (let p = R .many in omega arith) in
       let (j, l, f) = e k h in
-      let g : ¬ (word (table t k j) ≡ 0) = (λ x. f (word-there k j h l ∙ x)) in
-      ap not (any-at (λ e. not (absent? e)) absent (getD t k []) j (inside (getD t k []) j g) (word-some (table t k j) g)))
+      let there : present? (table t k j) ≡ true = sym (entry-there k j h l) ∙ f in
+      ap not (any-at (λ e. not (absent? e)) absent (getD t k []) j (inside (getD t k []) j there) (ap (λ b. not (not b)) there)))

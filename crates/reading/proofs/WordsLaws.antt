@@ -1,17 +1,20 @@
--- The words of a sheet are those of the rows that were read of each kind; a size's word is its number.
-use mathlib.Core.Path.{_≡_, refl, ap, _∙_}
+-- The words of a sheet are those of the rows that were read of each kind; a size's word stands for its number.
+use mathlib.Core.Path.{_≡_, refl, ap, sym, _∙_}
 use mathlib.Core.List.{List, [], _∷_}
 use mathlib.Core.Bool.{cond}
-use Prim.Native.Nat.{ℕ, _+_, _≤_, _<_}
+use Prim.Native.Nat.{ℕ, _≤_, _<_}
 use native.Mathlib.Decide.{decLt}
 use native.Mathlib.Omega.{arith}
 use borrow.Author.Tests.{lt-ltb, le-ltb}
 use lib.Dec.{ltb}
 use lib.ListN.{length, getD, List·getD-eq-default}
+use Rattle.maxplus.specs.Whole.{up}
 use Rattle.maxplus.specs.Entry.{E, absent, num, val}
 use Rattle.maxplus.specs.Tables.{Mat}
 use Rattle.maxplus.proofs.EachLaws.{each-same}
-use Rattle.words.specs.Words.{bias, word}
+use Rattle.maxplus.proofs.EntryLaws.{num-inj}
+use Rattle.words.specs.Words.{entry}
+use Rattle.words.proofs.Laws.{entry-word}
 use Rattle.sheet.specs.Sheet.{got, mark, size, absent?, table, sections, part, tables, count}
 use Rattle.sheet.specs.Sheet.{lag-lines, floor-line, due-line, after-lines, sheet-of}
 use Rattle.sheet.proofs.LineLaws.{none-at, there}
@@ -45,12 +48,13 @@ module _ {ts : List (List (List E))} {ws : List (List (List ℕ))} (S : Stacked 
 
   -- a size line's word
   pub size-word : (i : ℕ) → i < length ts → RowsOf size 1 1 (part ts i) →
-      (getD (getD (getD ws i []) 0 []) 0 0 ≡ bias + count (part ts i)) × (count (part ts i) ≤ size-limit)
-  unfolding word val
+      (up (val (entry (getD (getD (getD ws i []) 0 []) 0 0))) ≡ count (part ts i)) × (count (part ts i) ≤ size-limit)
+  unfolding val
   size-word i h R =
       let (m, q, l) = size-read R in
-      let e = ap (λ l. getD l 0 0) (first-words i h) ∙ strip-at (table (part ts i) 0) 0 (omega arith) ∙ ap word q in
-      rw q (e ∙ omega arith, l)
+      let w = ap (λ l. getD l 0 0) (first-words i h) ∙ strip-at (table (part ts i) 0) 0 (omega arith) in
+      let e = entry-word (table (part ts i) 0 0) (λ z f. rw (← num-inj (sym q ∙ f)) (omega arith)) in
+      (ap (λ w. up (val (entry w))) w ∙ ap (λ e. up (val e)) e, rw q l)
 
   pub sheet-words : (m n : ℕ) (s x : List ℕ) → sections (tables m n) s ≡ got ts x →
       _≡_ {A = Reading}

@@ -4,8 +4,9 @@ use mathlib.Core.List.{List, [], _∷_}
 use mathlib.Core.Bool.{Bool, true, false}
 use Prim.Native.Nat.{ℕ, _≤_, _<_}
 use lib.ListN.{length, drop, getD}
-use Rattle.maxplus.specs.Entry.{E}
+use Rattle.maxplus.specs.Entry.{E, present?}
 use Rattle.maxplus.specs.Finite.{each}
+use Rattle.words.specs.Words.{entry}
 use Rattle.sheet.specs.Sheet as sheet
 use Rattle.sheet.specs.Sheet.{Got, got, any, all, absent?, table, Section, section, sections, part, sizes, tables}
 use Rattle.sheet.proofs.SectionLaws.{RowsOf}
@@ -43,17 +44,17 @@ SectionsAre g s r held = Reads Stacked g s (r .refusal) (r .next) held
 abbrev pub each-row : List (List ℕ) → List Row
 each-row ws = each 6 (λ i. (record { at = getD ws i [] }) ∷ [])
 
--- the answer to the rows that were read of each kind
-abbrev pub FinishedIs : List (List (List ℕ)) → ℕ → ℕ → Reading → Type 0
-FinishedIs ps m n r = (s x : List ℕ) (ts : List (List (List E))) → sections (tables m n) s ≡ got ts x → Stacked ts ps →
-    r ≡ answer (sheet.finished m n ts [])
+-- the answer to the rows that were read of each kind, and to the bytes left behind them
+abbrev pub FinishedIs : List (List (List ℕ)) → ℕ → ℕ → ℕ → Reading → Type 0
+FinishedIs ps m n left r = (s x : List ℕ) (ts : List (List (List E))) → sections (tables m n) s ≡ got ts x → length x ≡ left → Stacked ts ps →
+    r ≡ answer (sheet.finished m n ts x)
 
 -- some of the rows that were read has no entry
 abbrev pub EmptyRow : List (List ℕ) → ℕ → Bool → Type 0
 EmptyRow rs lines b = (n : ℕ) (t : List (List E)) → n ≤ size-limit → RowsOf sheet.entry lines n t → rs ≡ strips (table t) →
     b ≡ any (all absent?) t
 
--- all six words are 0
+-- none of six words stands for a number
 abbrev pub EmptyWords : List ℕ → Bool → Type 0
-EmptyWords ws true = (j : ℕ) → j < 6 → getD ws j 0 ≡ 0
-EmptyWords ws false = (j : ℕ) × (j < 6) × (getD ws j 0 ≡ 0 → ⊥)
+EmptyWords ws true = (j : ℕ) → j < 6 → present? (entry (getD ws j 0)) ≡ false
+EmptyWords ws false = (j : ℕ) × (j < 6) × (present? (entry (getD ws j 0)) ≡ true)

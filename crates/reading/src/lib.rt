@@ -1,9 +1,11 @@
 // Reading a sheet: from any bytes to the sheet's tables, or to the refusal of the first fault met.
 ghost use mathlib.Core.Path.{_≡_};
 ghost use mathlib.Core.List.{[]};
-ghost use Prim.Native.Nat.{_+_, _≤_, _<_};
+ghost use Prim.Native.Nat.{_≤_, _<_};
 ghost use lib.ListN.{length, drop, getD};
-ghost use Rattle.words.specs.Words.{bias};
+ghost use Rattle.maxplus.specs.Whole.{up};
+ghost use Rattle.maxplus.specs.Entry.{val};
+ghost use Rattle.words.specs.Words.{entry};
 ghost use Rattle.sheet.specs.Sheet as sheet;
 ghost use Rattle.sheet.specs.Sheet.{read, sections};
 ghost use Rattle.reading.specs.Reading.{answer};
@@ -83,10 +85,7 @@ pub fn read_sheet(s: &[u8]) -> Reading
     if tables.refusal != 0 {
         return refused(tables.refusal);
     }
-    if tables.next < s.len() {
-        return refused(2);
-    }
-    finished(&parts, panels, triggers)
+    finished(&parts, panels, triggers, s.len() - tables.next)
 }
 
 // Reads the lines of the `k`-th kind of a group: this is the list of the kinds, each with its key, what its items may be, how many lines it
@@ -151,24 +150,28 @@ fn read_sections(
 
 // The number of a size line.
 fn size(line: [[u64; 6]; 6]) -> usize
-    requires { ⌜ bias ≤ getD (getD line 0 []) 0 0 ⌝ }
-    ensures { λ r. ⌜ bias + r ≡ getD (getD line 0 []) 0 0 ⌝ }
+    ensures { λ r. ⌜ r ≡ up (val (entry (getD (getD line 0 []) 0 0))) ⌝ }
 {
     let at = line[0];
-    (at[0] - words::BIAS) as usize
+    words::above(at[0]) as usize
 }
 
-// The answer once all lines are read: the one place where the rows of each kind are used.
-fn finished(parts: &[[[u64; 6]; 6]; TABLES], panels: usize, triggers: usize) -> Reading
+// The answer once all lines are read, with `left` bytes behind them: the one place where the rows of each kind are used.
+fn finished(parts: &[[[u64; 6]; 6]; TABLES], panels: usize, triggers: usize, left: usize) -> Reading
     requires { ⌜ (panels ≤ size-limit) × (triggers ≤ size-limit) ⌝ }
-    ensures { λ r. ⌜ FinishedIs (now (parts .entry)) panels triggers r ⌝ }
+    ensures { λ r. ⌜ FinishedIs (now (parts .entry)) panels triggers left r ⌝ }
 {
     let lag = parts[LAG];
-    if empty_row(lag, panels) {
+    let floor = parts[FLOOR];
+    let no_lag = empty_row(lag, panels);
+    let no_floor = empty_row(floor, 1);
+    if left != 0 {
+        return refused(2);
+    }
+    if no_lag {
         return refused(6);
     }
-    let floor = parts[FLOOR];
-    if empty_row(floor, 1) {
+    if no_floor {
         return refused(7);
     }
     let due = parts[DUE];
@@ -254,7 +257,7 @@ fn empty(at: [u64; 6]) -> bool
 {
     let mut j: usize = 0;
     while j < 6 {
-        if at[j] != 0 {
+        if words::present(at[j]) {
             return false;
         }
         j += 1;

@@ -1,149 +1,197 @@
--- Laws of faults: of the word of one entry, of a line as the least of its entries', and of the entries of a line that has none.
-use mathlib.Core.Path.{_≡_, refl, ap, sym, _∙_}
-use mathlib.Core.List.{List, [], _∷_, _++_}
+-- Laws of faults: clipping leaves each as it is, kind after kind gives what a line is refused for, and the entries of a line that has none.
+use mathlib.Core.Path.{_≡_, refl, ap, ap₂, sym, _∙_}
+use mathlib.Core.List.{List, [], _∷_}
 use mathlib.Core.Bool.{Bool, true, false, cond, _||_}
-use Prim.Native.Nat.{ℕ, zero, suc, _+_, _-_, _≤_, _<_, min}
+use Prim.Native.Nat.{ℕ, zero, suc, _+_, _≤_, _<_, min}
+use native.Mathlib.Decide.{decLt}
+use native.Mathlib.Numerals.{add-one}
 use native.Mathlib.Omega.{arith}
 use borrow.Author.Tests.{ltb-false, lt-ltb, le-ltb, eq-eqb, ne-eqb}
 use lib.Dec.{ltb, eqb}
 use lib.IntN.{ℤ, pos, negsuc}
+use lib.ListN.{length, take, drop, getD, length-take, drop-of-length-le}
+use lib.Seq.{drop-cons, getD-take}
 use Rattle.maxplus.specs.Whole.{up, dn}
-use Rattle.maxplus.specs.Entry.{E, absent, num}
+use Rattle.maxplus.specs.Entry.{E, absent, num, present?, val}
 use Rattle.maxplus.specs.Finite.{mapL}
-use Rattle.words.specs.Words.{bias, word}
+use Rattle.maxplus.proofs.EachLaws.{map-at}
+use Rattle.maxplus.proofs.EntryLaws.{num-inj, absent-not}
+use Rattle.words.specs.Words.{word, entry, far}
+use Rattle.words.proofs.Laws.{entry-word}
 use Rattle.sheet.specs.Sheet as sheet
-use Rattle.sheet.specs.Sheet.{got, refused, limit, absent?, no-size, out-of-range, any, checked, row}
-use Rattle.sheet.proofs.LineLaws.{true-not-false, none-or, none-at, any-none, Passes, checked-passes}
+use Rattle.sheet.specs.Sheet.{Got, got, refused, limit, absent?, no-size, out-of-range, any, checked, row}
+use Rattle.sheet.proofs.LineLaws.{true-not-false, none-or, none-at, any-none, any-at, Passes, checked-passes}
 use Rattle.rows.specs.Grid.{strip}
-use Rattle.rows.specs.Inner.{clip, verdict, earlier-of, words-of, fault-of, least, FaultIs}
+use Rattle.rows.specs.Inner.{clip, words-of, faults, has-fault, verdict, FaultIs}
+use Rattle.rows.specs.declared.Faults.{Faults}
+use Rattle.rows.proofs.PlaceLaws.{strip-at}
+use Rattle.cue.specs.Sizes.{size-limit}
 
--- a clipped number's word by the number's two parts, of which one is 0
-parts : (w : ℕ) (z : ℤ) → w ≡ word (clip (num z)) → (w + min (dn z) (suc limit) ≡ bias + min (up z) (suc limit)) × (min (up z) (dn z) ≡ 0)
-unfolding word
-parts w (pos n) q = omega arith
-parts w (negsuc n) q = omega arith
+-- ---- the faults of one entry, by how far its number is above and below 0
+pub range-above : (e : E) (a : ℕ) → a ≡ up (val e) → limit < a → true ≡ out-of-range e
+unfolding val
+range-above absent a q h = let x : ⊥ = omega arith in absurd x
+range-above (num z) a q h = rw (lt-ltb limit (up z) (omega arith))
 
-absent-word : word absent ≡ 0
-unfolding word
-absent-word = refl
+pub range-below : (e : E) (a b : ℕ) → a ≡ up (val e) → a ≤ limit → b ≡ dn (val e) → ltb limit b ≡ out-of-range e
+unfolding val
+range-below absent a b q h p = rw p
+range-below (num z) a b q h p = rw (p, le-ltb limit (up z) (omega arith))
 
-not-absent : {A : Type 0} (w : ℕ) → (w ≡ 0 → ⊥) → w ≡ word (clip absent) → A
-not-absent w n q = absurd (n (q ∙ absent-word))
+pub size-absent : (e : E) → present? e ≡ false → false ≡ no-size e
+size-absent absent h = refl
+size-absent (num z) h = absurd (true-not-false h)
 
-module _ (w : ℕ) where
-  pub size-absent : w ≡ 0 → FaultIs sheet.size w 2
-  size-absent h absent q = refl
-  size-absent h (num z) q = absurd (omega (arith, parts w z q))
+pub size-none : (e : E) (a : ℕ) → present? e ≡ true → a ≡ up (val e) → a ≡ 0 → true ≡ no-size e
+unfolding val
+size-none absent a p q h = absurd (true-not-false (sym p))
+size-none (num z) a p q h = rw (le-ltb 6 (up z) (omega arith), eq-eqb (up z) 0 (omega arith))
 
-  pub size-low : (w ≡ 0 → ⊥) → w ≤ bias → FaultIs sheet.size w 3
-  size-low n h absent q = not-absent w n q
-  size-low n h (num z) q =
-      let p = parts w z q in
-      rw (le-ltb 6 (up z) (omega arith), eq-eqb (up z) 0 (omega arith))
+pub size-some : (e : E) (a : ℕ) → present? e ≡ true → a ≡ up (val e) → ¬ (a ≡ 0) → ltb 6 a ≡ no-size e
+unfolding val
+size-some absent a p q h = absurd (true-not-false (sym p))
+size-some (num z) a p q h = rw (q, ne-eqb (up z) 0 (λ z. h (q ∙ z))) (go (ltb 6 (up z)))
+  where
+    go : (t : Bool) → t ≡ t || false
+    go true = refl
+    go false = refl
 
-  pub size-high : bias + 6 < w → FaultIs sheet.size w 3
-  size-high h absent q = not-absent w (omega arith) q
-  size-high h (num z) q =
-      let p = parts w z q in
-      rw (lt-ltb 6 (up z) (omega arith))
+module _ (kind : ℕ) (e : E) where
+  pub fault-size : kind ≡ 3 → no-size e ≡ has-fault kind e
+  fault-size h = rw h
 
-  pub size-good : bias < w → w ≤ bias + 6 → FaultIs sheet.size w 0
-  size-good l h absent q = not-absent w (omega arith) q
-  size-good l h (num z) q =
-      let p = parts w z q in
-      rw (le-ltb 6 (up z) (omega arith), ne-eqb (up z) 0 (omega arith))
+  pub fault-range : kind ≡ 4 → out-of-range e ≡ has-fault kind e
+  fault-range h = rw h
 
-  pub entry-absent : w ≡ 0 → FaultIs sheet.entry w 0
-  entry-absent h absent q = refl
-  entry-absent h (num z) q = absurd (omega (arith, parts w z q))
+  pub fault-absent : ¬ (kind ≡ 3) → ¬ (kind ≡ 4) → absent? e ≡ has-fault kind e
+  fault-absent h g = rw (ne-eqb kind 3 h, ne-eqb kind 4 g)
 
-  pub entry-low : (w ≡ 0 → ⊥) → w < bias - limit → FaultIs sheet.entry w 4
-  entry-low n h absent q = not-absent w n q
-  entry-low n h (num z) q =
-      let p = parts w z q in
-      rw (le-ltb limit (up z) (omega arith), lt-ltb limit (dn z) (omega arith))
+-- ---- a clipped entry has the faults of the entry
+same-beyond : (c a b : ℕ) → min a (suc c) ≡ min b (suc c) → ltb c a ≡ ltb c b
+same-beyond c a b e = go (decLt c a)
+  where
+    go : Dec (c < a) → ltb c a ≡ ltb c b
+    go (yes h) = rw (lt-ltb c a h, lt-ltb c b (omega arith))
+    go (no h) = rw (le-ltb c a (omega arith), le-ltb c b (omega arith))
 
-  pub entry-high : bias + limit < w → FaultIs sheet.entry w 4
-  entry-high h absent q = not-absent w (omega arith) q
-  entry-high h (num z) q =
-      let p = parts w z q in
-      rw (lt-ltb limit (up z) (omega arith))
+clip-size : (e : E) → no-size (clip e) ≡ no-size e
+clip-size absent = refl
+clip-size (num (pos zero)) = refl
+clip-size (num (pos (suc n))) = ap₂ _||_ (same-beyond 6 (min (suc n) (suc limit)) (suc n) (omega arith))
+    (ne-eqb (min (suc n) (suc limit)) 0 (λ e. let x : ⊥ = omega arith in x) ∙ sym (ne-eqb (suc n) 0 (λ e. let x : ⊥ = omega arith in x)))
+clip-size (num (negsuc n)) = refl
 
-  pub entry-good : bias - limit ≤ w → w ≤ bias + limit → FaultIs sheet.entry w 0
-  entry-good l h absent q = not-absent w (omega arith) q
-  entry-good l h (num z) q =
-      let p = parts w z q in
-      rw (le-ltb limit (up z) (omega arith), le-ltb limit (dn z) (omega arith))
+clip-range : (e : E) → out-of-range (clip e) ≡ out-of-range e
+clip-range absent = refl
+clip-range (num (pos n)) = ap (λ t. t || ltb limit 0) (same-beyond limit (min n (suc limit)) n (omega arith))
+clip-range (num (negsuc n)) = ap (λ t. ltb limit 0 || t) (same-beyond limit (suc (min n limit)) (suc n) (omega arith))
 
-  pub mark-absent : w ≡ 0 → FaultIs sheet.mark w 5
-  mark-absent h absent q = refl
-  mark-absent h (num z) q = absurd (omega (arith, parts w z q))
+clip-absent : (e : E) → absent? (clip e) ≡ absent? e
+clip-absent absent = refl
+clip-absent (num (pos n)) = refl
+clip-absent (num (negsuc n)) = refl
 
-  pub mark-present : (k : ℕ) → (w ≡ 0 → ⊥) → FaultIs sheet.entry w k → FaultIs sheet.mark w k
-  mark-present k n f absent q = not-absent w n q
-  mark-present k n f (num z) q = f (num z) q
+clip-fault : (kind : ℕ) (e : E) → has-fault kind (clip e) ≡ has-fault kind e
+clip-fault kind e = rw (clip-size e, clip-range e, clip-absent e)
 
--- the earlier of two faults
-pub earlier-second : (a b : ℕ) → a ≡ 0 → b ≡ earlier-of a b
-earlier-second a b e = rw e
+clip-near : (e : E) (z : ℤ) → clip e ≡ num z → dn z ≤ far + up z
+clip-near absent z q = absurd (absent-not q)
+clip-near (num (pos n)) z q = rw (← num-inj q) (omega arith)
+clip-near (num (negsuc n)) z q = rw (← num-inj q) (omega arith)
 
-pub earlier-first : (a b : ℕ) → b ≡ 0 → a ≡ earlier-of a b
-earlier-first zero b e = sym e
-earlier-first (suc a) b e = rw e
+-- the word of an entry of a line
+word-fault : (kind : ℕ) (es : List E) (ws : List ℕ) (j : ℕ) → length es ≤ size-limit → ws ≡ words-of es → j < length es →
+    has-fault kind (entry (getD ws j 0)) ≡ has-fault kind (row es j)
+word-fault kind es ws j six e h =
+    let at = ap (λ l. getD l j 0) e ∙ strip-at (row (mapL clip es)) j (omega arith) ∙ ap word (map-at clip es j absent absent h) in
+    ap (λ w. has-fault kind (entry w)) at ∙ ap (has-fault kind) (entry-word (clip (row es j)) (clip-near (row es j))) ∙ clip-fault kind (row es j)
 
-pub earlier-least : (k a b : ℕ) → (a ≡ 0 → ⊥) → (b ≡ 0 → ⊥) → k ≡ min a b → k ≡ earlier-of a b
-earlier-least k zero b n m e = absurd (n refl)
-earlier-least k (suc a) zero n m e = absurd (m refl)
-earlier-least k (suc a) (suc b) n m e = omega arith
+-- ---- a refusal's number, where 0 is none
+pub verdict-bad : {A : Type 0} (k : ℕ) (a : A) (s : List ℕ) → ¬ (k ≡ 0) → verdict k a s ≡ refused k
+verdict-bad zero a s h = absurd (h refl)
+verdict-bad (suc k) a s h = refl
 
-earlier-assoc : (a b c : ℕ) → earlier-of (earlier-of a b) c ≡ earlier-of a (earlier-of b c)
-earlier-assoc zero b c = refl
-earlier-assoc (suc a) zero c = refl
-earlier-assoc (suc a) (suc b) zero = refl
-earlier-assoc (suc a) (suc b) (suc c) = omega arith
+pub verdict-good : {A : Type 0} (k : ℕ) (a : A) (s : List ℕ) → k ≡ 0 → verdict k a s ≡ got a s
+verdict-good zero a s h = refl
+verdict-good (suc k) a s h = absurd (let e : ⊥ = omega arith in e)
 
-pub least-last : (f : E → ℕ) (es : List E) (e : E) → earlier-of (least f es) (f e) ≡ least f (es ++ e ∷ [])
-unfolding least
-least-last f [] e = earlier-first (f e) 0 refl
-least-last f (a ∷ es) e = earlier-assoc (f a) (least f es) (f e) ∙ ap (earlier-of (f a)) (least-last f es e)
+-- ---- kind after kind
+abbrev first : List ℕ → List E → List ℕ → Got (List E)
+first [] es s = got es s
+first (k ∷ ks) es s = cond (any (has-fault k) es) (refused k) (first ks es s)
 
-module _ (p q : ℕ) (h : p ≤ q) where
-  abbrev kind : Bool → Bool → ℕ
-  kind f g = cond f (suc p) (cond g (suc q) 0)
+abbrev listed : Faults → List ℕ
+listed K = take (K .count) (K .order)
 
-  kind-joined : (f g f′ g′ : Bool) → earlier-of (kind f g) (kind f′ g′) ≡ kind (f || f′) (g || g′)
-  kind-joined true g true g′ = omega arith
-  kind-joined true g false true = omega arith
-  kind-joined true g false false = refl
-  kind-joined false true true g′ = omega arith
-  kind-joined false true false true = omega arith
-  kind-joined false true false false = refl
-  kind-joined false false f′ g′ = refl
-
-  least-kind : (f g : E → Bool) (es : List E) → least (λ e. kind (f e) (g e)) es ≡ kind (any f es) (any g es)
-  unfolding any least
-  least-kind f g [] = refl
-  least-kind f g (e ∷ es) = ap (earlier-of (kind (f e) (g e))) (least-kind f g es) ∙ kind-joined (f e) (g e) (any f es) (any g es)
-
-  verdict-kind : (f g : Bool) (es : List E) (s : List ℕ)
-      → cond f (refused (suc p)) (cond g (refused (suc q)) (got es s)) ≡ verdict (kind f g) es s
-  verdict-kind true g es s = refl
-  verdict-kind false true es s = refl
-  verdict-kind false false es s = refl
-
-  checked-kind : (f g : E → Bool) (es : List E) (s : List ℕ)
-      → cond (any f es) (refused (suc p)) (cond (any g es) (refused (suc q)) (got es s)) ≡ verdict (least (λ e. kind (f e) (g e)) es) es s
-  checked-kind f g es s = verdict-kind (any f es) (any g es) es s ∙ ap (λ k. verdict k es s) (sym (least-kind f g es))
-
-pub checked-least : (r : sheet.Rule) (es : List E) (s : List ℕ) → checked r es s ≡ verdict (least (fault-of r) es) es s
+checked-first : (r : sheet.Rule) (es : List E) (s : List ℕ) → checked r es s ≡ first (listed (faults r)) es s
 unfolding checked
-checked-least sheet.size es s = checked-kind 1 2 (omega arith) absent? no-size es s
-checked-least sheet.entry es s =
-    let e = checked-kind 3 4 (omega arith) out-of-range (λ e. false) es s in
-    rw (any-none (λ e. false) absent es (λ j q. refl)) at e
-checked-least sheet.mark es s = checked-kind 3 4 (omega arith) out-of-range absent? es s
+checked-first sheet.size es s = refl
+checked-first sheet.entry es s = refl
+checked-first sheet.mark es s = refl
 
--- the entries of a line without fault
+-- there are at most two, each with a number
+pub faults-few : (r : sheet.Rule) → (faults r .count ≤ 2) × (length (faults r .order) ≡ 2)
+faults-few sheet.size = (omega arith, refl)
+faults-few sheet.entry = (omega arith, refl)
+faults-few sheet.mark = (omega arith, refl)
+
+kind-known : (r : sheet.Rule) (i : ℕ) → i < faults r .count → 0 < getD (faults r .order) i 0
+kind-known sheet.size zero h = omega arith
+kind-known sheet.size (suc zero) h = omega arith
+kind-known sheet.size (suc (suc i)) h = let x : ⊥ = omega arith in absurd x
+kind-known sheet.entry zero h = omega arith
+kind-known sheet.entry (suc i) h = let x : ⊥ = omega arith in absurd x
+kind-known sheet.mark zero h = omega arith
+kind-known sheet.mark (suc zero) h = omega arith
+kind-known sheet.mark (suc (suc i)) h = let x : ⊥ = omega arith in absurd x
+
+-- what the loop over the kinds keeps: the first i are no fault of the line, and the others give what the line is refused for
+pub record Asked (K : Faults) (ws : List ℕ) (n i : ℕ) : Type 0 where
+  pub left : (r : sheet.Rule) → K ≡ faults r → (es : List E) (s : List ℕ) → length es ≡ n → ws ≡ words-of es →
+      checked r es s ≡ first (drop i (listed K)) es s
+
+pub asked-none : {K : Faults} {ws : List ℕ} {n : ℕ} → Asked K ws n 0
+asked-none = record { left = λ r k es s l e. rw k (checked-first r es s) }
+
+-- the i-th kind
+abbrev pub kind-at : Faults → ℕ → ℕ
+kind-at K i = getD (K .order) i 0
+
+module _ {K : Faults} {ws : List ℕ} {n i : ℕ} (A : Asked K ws n i) (r : sheet.Rule) (k : K ≡ faults r) where
+  pub asked-all : K .count ≤ i → FaultIs r ws n 0
+  asked-all h =
+      let none = drop-of-length-le (listed K) {i = i} (let l = length-take (K .count) (K .order) in omega arith) in
+      record { checks = λ es s l e. A .left r k es s l e ∙ ap (λ ks. first ks es s) none }
+
+  module _ (h : i < K .count) (six : n ≤ size-limit) where
+    next : drop i (listed K) ≡ kind-at K i ∷ drop (i + 1) (listed K)
+    next =
+        let (few, room) : (K .count ≤ 2) × (length (K .order) ≡ 2) = rw k (faults-few r) in
+        let l = length-take (K .count) (K .order) in
+        rw (add-one i, drop-cons (listed K) i 0 (omega arith), getD-take)
+
+    decided : (r : sheet.Rule) → K ≡ faults r → (es : List E) (s : List ℕ) → length es ≡ n → ws ≡ words-of es → (b : Bool) →
+        any (has-fault (kind-at K i)) es ≡ b → checked r es s ≡ cond b (refused (kind-at K i)) (first (drop (i + 1) (listed K)) es s)
+    decided r k es s l e b q = A .left r k es s l e ∙ ap (λ ks. first ks es s) next ∙ rw q
+
+    pub asked-hit : (j : ℕ) → j < n → has-fault (kind-at K i) (entry (getD ws j 0)) ≡ true → FaultIs r ws n (kind-at K i)
+    asked-hit j q f =
+        let known : 0 < kind-at K i = rw k (kind-known r i (rw k at h)) in
+        let some : ¬ (kind-at K i ≡ 0) = λ z. let x : ⊥ = omega arith in x in
+        record {
+          checks = λ es s l e.
+              decided r k es s l e true (any-at _ absent es j (omega arith) (sym (word-fault (kind-at K i) es ws j (omega arith) e (omega arith)) ∙ f))
+              ∙ sym (verdict-bad _ es s some);
+        }
+
+    pub asked-more : ((j : ℕ) → j < n → has-fault (kind-at K i) (entry (getD ws j 0)) ≡ false) → Asked K ws n (i + 1)
+    asked-more f =
+        record {
+          left = λ r k es s l e. decided r k es s l e false
+              (any-none _ absent es (λ j q. sym (word-fault (kind-at K i) es ws j (omega arith) e q) ∙ f j (omega arith)));
+        }
+
+-- ---- the entries of a line without fault
 size-in-range : (e : E) → no-size e ≡ false → out-of-range e ≡ false
 size-in-range absent h = refl
 size-in-range (num (pos n)) h =
@@ -172,7 +220,5 @@ unfolding any mapL
 clip-same [] h = refl
 clip-same (e ∷ es) h = let (p, q) = none-or (out-of-range e) (any out-of-range es) h in rw (in-range-clip e p, clip-same es q)
 
-pub good-words : (r : sheet.Rule) (es : List E) → least (fault-of r) es ≡ 0 → words-of es ≡ strip (row es)
-good-words r es h =
-    let e : checked r es [] ≡ got es [] = checked-least r es [] ∙ ap (λ k. verdict k es []) h in
-    rw (clip-same es (in-range r es (checked-passes r es [] e .0)))
+pub good-words : (r : sheet.Rule) (es : List E) → checked r es [] ≡ got es [] → words-of es ≡ strip (row es)
+good-words r es e = rw (clip-same es (in-range r es (checked-passes r es [] e .0)))

@@ -2,7 +2,7 @@
 use mathlib.Core.Path.{_≡_, refl, ap, ap₂, sym, _∙_}
 use mathlib.Core.List.{List, [], _∷_, _++_, append-nil}
 use mathlib.Core.Bool.{Bool, true, false, not}
-use Prim.Native.Nat.{ℕ, zero, suc, _+_, _-_, _≤_, _<_}
+use Prim.Native.Nat.{ℕ, suc, _+_, _-_, _≤_, _<_}
 use native.Mathlib.Omega.{arith}
 use lib.ListN.{length, drop, set, length-append}
 use Rattle.maxplus.specs.Entry.{E, absent}
@@ -11,9 +11,9 @@ use Rattle.maxplus.proofs.EachLaws.{each-set, map-append, map-length}
 use Rattle.words.specs.Words.{word}
 use Rattle.sheet.specs.Sheet.{Got, got, refused, literal, ended, items, Rule, line, rows, row, table}
 use Rattle.rows.specs.Grid.{strip, strips}
-use Rattle.rows.specs.Inner.{clip, LiteralAt, verdict, words-of, earlier-of, least, fault-of, FaultIs, Found, Reads}
+use Rattle.rows.specs.Inner.{clip, LiteralAt, words-of, verdict, FaultIs, Found, Reads}
 use Rattle.sheet.proofs.LineLaws.{onto, onto-onto, onto-nil, front, at-last, at-other}
-use Rattle.rows.proofs.FaultLaws.{checked-least, least-last, good-words}
+use Rattle.rows.proofs.FaultLaws.{verdict-good, good-words}
 use Rattle.cue.specs.Sizes.{size-limit}
 
 -- one entry more, at its place
@@ -66,57 +66,57 @@ module _ (key : List ℕ) (r : Rule) (n : ℕ) (x : List ℕ) where
     unfolding rows
     rows-more es y p = let q : lines - i ≡ suc (lines - (i + 1)) = omega arith in rw (q, p) (front es (rows key r (lines - (i + 1)) n y))
 
--- ---- what the loop over the items of a line keeps: k of n items are read, from `from` to `at`, and their words and least fault stored
-pub record ItemsRead (s : List ℕ) (from : ℕ) (r : Rule) (n : ℕ) (ws : List ℕ) (found at k : ℕ) : Type 0 where
+-- ---- what the loop over the items of a line keeps: k of n items are read, from `from` to `at`, and their words stored
+pub record ItemsRead (s : List ℕ) (from n : ℕ) (ws : List ℕ) (at k : ℕ) : Type 0 where
   pub es : List E
   pub few : k ≤ n
   pub within : at ≤ length s
   pub long : length es ≡ k
   pub words : ws ≡ words-of es
-  pub fault : found ≡ least (fault-of r) es
   pub left : items n (drop from s) ≡ onto es (items (n - k) (drop at s))
 
-module _ {s : List ℕ} {from : ℕ} {r : Rule} {n : ℕ} where
-  pub items-none : {ws : List ℕ} {found : ℕ} → from ≤ length s → ws ≡ words-of [] → found ≡ 0 → ItemsRead s from r n ws found from 0
-  items-none h e z =
+module _ {s : List ℕ} {from n : ℕ} where
+  pub items-none : {ws : List ℕ} → from ≤ length s → ws ≡ words-of [] → ItemsRead s from n ws from 0
+  items-none h e =
       record {
         es = [];
         few = omega arith;
         within = h;
         long = refl;
         words = e;
-        fault = unfold least in z;
         left = let q : n - 0 ≡ n = omega arith in rw q (sym (onto-nil (items n (drop from s))));
       }
 
-  module _ {ws : List ℕ} {found at k : ℕ} (I : ItemsRead s from r n ws found at k) where
+  module _ {ws : List ℕ} {at k : ℕ} (I : ItemsRead s from n ws at k) where
     pub items-stop : k < n → ended (n - k - 1) (drop at s) ≡ refused 2 → items n (drop from s) ≡ refused 2
     items-stop h e = I .left ∙ ap (onto (I .es)) (items-bad k n (drop at s) h 2 e)
 
-    pub items-step : k < n → n ≤ size-limit → (e : E) (w next f found′ : ℕ) → ended (n - k - 1) (drop at s) ≡ got e (drop next s) →
-        w ≡ word (clip e) →
-        next ≤ length s → FaultIs r w f → found′ ≡ earlier-of found f → ItemsRead s from r n (set ws k w) found′ next (k + 1)
-    items-step h six e w next f found′ p q b is now =
+    pub items-step : k < n → n ≤ size-limit → (e : E) (w next : ℕ) → ended (n - k - 1) (drop at s) ≡ got e (drop next s) → w ≡ word (clip e) →
+        next ≤ length s → ItemsRead s from n (set ws k w) next (k + 1)
+    items-step h six e w next p q b =
         record {
           es = I .es ++ e ∷ [];
           few = omega arith;
           within = b;
           long = length-append (I .es) (e ∷ []) ∙ ap (λ m. m + 1) (I .long);
           words = ap₂ (λ l v. set l k v) (I .words) q ∙ words-more (I .es) e k (I .long) (let f = I .few in omega arith);
-          fault = now ∙ ap₂ earlier-of (I .fault) (is e q) ∙ least-last (fault-of r) (I .es) e;
           left = I .left ∙ ap (onto (I .es)) (items-more k n (drop at s) h e (drop next s) p) ∙
               onto-onto (I .es) (e ∷ []) (items (n - (k + 1)) (drop next s));
         }
 
-    pub items-line : n ≤ k → (key x : List ℕ) → literal key x ≡ got tt (drop from s) → line key r n x ≡ verdict found (I .es) (drop at s)
-    unfolding line
-    items-line h key x e = rw (e, items-done) (checked-least r (I .es) (drop at s) ∙ ap (λ k. verdict k (I .es) (drop at s)) (sym (I .fault)))
-      where
-        items-done : items n (drop from s) ≡ got (I .es) (drop at s)
-        items-done = I .left ∙ (let q : n - k ≡ 0 = omega arith in rw q (unfold items in ap (λ l. got l (drop at s)) (append-nil (I .es))))
+    module _ (h : n ≤ k) {r : Rule} {f : ℕ} (F : FaultIs r ws n f) where
+      many : length (I .es) ≡ n
+      many = let l = I .long in let q = I .few in omega arith
 
-    pub items-words : found ≡ 0 → ws ≡ strip (row (I .es))
-    items-words h = I .words ∙ good-words r (I .es) (sym (I .fault) ∙ h)
+      pub items-line : (key x : List ℕ) → literal key x ≡ got tt (drop from s) → line key r n x ≡ verdict f (I .es) (drop at s)
+      unfolding line
+      items-line key x e = rw (e, items-done) (F .checks (I .es) (drop at s) many (I .words))
+        where
+          items-done : items n (drop from s) ≡ got (I .es) (drop at s)
+          items-done = I .left ∙ (let q : n - k ≡ 0 = omega arith in rw q (unfold items in ap (λ l. got l (drop at s)) (append-nil (I .es))))
+
+      pub items-words : f ≡ 0 → ws ≡ strip (row (I .es))
+      items-words z = I .words ∙ good-words r (I .es) (F .checks (I .es) [] many (I .words) ∙ verdict-good f (I .es) [] z)
 
 -- ---- what the loop over lines keeps: i of the lines are read, from `from` to `at`, and their words stored
 pub record RowsRead (s key : List ℕ) (from : ℕ) (r : Rule) (lines n : ℕ) (ws : List (List ℕ)) (at i : ℕ) : Type 0 where
@@ -169,14 +169,6 @@ module _ (s : List ℕ) (at : ℕ) (key : List ℕ) where
   pub literal-no : (b : Bool) → not b ≡ true → LiteralAt s at key b → LiteralAt s at key false
   literal-no false h l = l
   literal-no true h l = absurd (let z : _≡_ {A = ℕ} 0 1 = cc in omega arith)
-
-pub verdict-bad : {A : Type 0} (k : ℕ) (a : A) (s : List ℕ) → ¬ (k ≡ 0) → verdict k a s ≡ refused k
-verdict-bad zero a s h = absurd (h refl)
-verdict-bad (suc k) a s h = refl
-
-pub verdict-good : {A : Type 0} (k : ℕ) (a : A) (s : List ℕ) → k ≡ 0 → verdict k a s ≡ got a s
-verdict-good zero a s h = refl
-verdict-good (suc k) a s h = absurd (let e : ⊥ = omega arith in e)
 
 module _ {A W : Type 0} {Holds : A → W → Type 0} {part : Got A} {s : List ℕ} {refusal next : ℕ} {held : W} where
   pub reads-fault : ¬ (refusal ≡ 0) → part ≡ refused refusal → Reads Holds part s refusal next held

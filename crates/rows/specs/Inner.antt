@@ -2,16 +2,17 @@
 use mathlib.Core.Path.{_≡_}
 use mathlib.Core.List.{List, [], _∷_}
 use mathlib.Core.Bool.{Bool, true, false, cond}
-use Prim.Native.Nat.{ℕ, zero, suc, _+_, _≤_, min}
+use Prim.Native.Nat.{ℕ, zero, suc, _+_, _≤_}
+use lib.Dec.{eqb}
 use lib.ListN.{length, drop}
 use Rattle.maxplus.specs.Entry.{E}
 use Rattle.maxplus.specs.Finite.{mapL}
-use Rattle.words.specs.Words.{word}
 use Rattle.sheet.specs.Sheet as sheet
-use Rattle.sheet.specs.Sheet.{Got, got, refused, limit, literal, absent?, no-size, out-of-range, row, table}
+use Rattle.sheet.specs.Sheet.{Got, got, refused, limit, literal, absent?, no-size, out-of-range, checked, row, table}
 use Rattle.rows.specs.Grid.{strip, strips}
 use Rattle.rows.specs.declared.Items.{Items}
 use Rattle.rows.specs.declared.Items.the-variants as rule
+use Rattle.rows.specs.declared.Faults.{Faults}
 use Rattle.rows.specs.declared.Place.{Place}
 use Rattle.items.specs.Inner as items
 
@@ -28,35 +29,28 @@ rule-of rule.Size = sheet.size
 rule-of rule.Entry = sheet.entry
 rule-of rule.Mark = sheet.mark
 
--- a line whose least fault is k, where 0 is none
-abbrev pub verdict : {A : Type 0} → ℕ → A → List ℕ → Got A
-verdict zero a s = got a s
-verdict (suc k) a s = refused (suc k)
-
--- the earlier of two faults, where 0 is none
-abbrev pub earlier-of : ℕ → ℕ → ℕ
-earlier-of zero b = b
-earlier-of (suc a) zero = suc a
-earlier-of (suc a) (suc b) = suc (min a b)
-
 -- the words of a line's entries, clipped
 abbrev pub words-of : List E → List ℕ
 words-of es = strip (row (mapL clip es))
 
--- the fault of an entry, where 0 is none
-abbrev pub fault-of : sheet.Rule → E → ℕ
-fault-of sheet.size e = cond (absent? e) 2 (cond (no-size e) 3 0)
-fault-of sheet.entry e = cond (out-of-range e) 4 0
-fault-of sheet.mark e = cond (out-of-range e) 4 (cond (absent? e) 5 0)
+-- the kinds of fault that a line's entries can have, in order
+abbrev pub faults : sheet.Rule → Faults
+faults sheet.size = record { count = 2; order = 2 ∷ 3 ∷ [] }
+faults sheet.entry = record { count = 1; order = 4 ∷ 0 ∷ [] }
+faults sheet.mark = record { count = 2; order = 4 ∷ 5 ∷ [] }
 
--- the least fault of a line, where 0 is none
-unfoldable pub least : (E → ℕ) → List E → ℕ
-least f [] = 0
-least f (e ∷ es) = earlier-of (f e) (least f es)
+-- an entry has the fault of a kind: 3, 4, or that it is absent
+abbrev pub has-fault : ℕ → E → Bool
+has-fault kind e = cond (eqb kind 3) (no-size e) (cond (eqb kind 4) (out-of-range e) (absent? e))
 
--- the fault k of an entry, for whatever entry the word stands
-abbrev pub FaultIs : sheet.Rule → ℕ → ℕ → Type 0
-FaultIs r w k = (e : E) → w ≡ word (clip e) → k ≡ fault-of r e
+-- what was read, or the refusal k, where 0 is none
+abbrev pub verdict : {A : Type 0} → ℕ → A → List ℕ → Got A
+verdict zero a s = got a s
+verdict (suc k) a s = refused (suc k)
+
+-- k is the refusal of a line of n words by the rule r, for whatever entries the words stand
+pub record FaultIs (r : sheet.Rule) (ws : List ℕ) (n k : ℕ) : Type 0 where
+  pub checks : (es : List E) (s : List ℕ) → length es ≡ n → ws ≡ words-of es → checked r es s ≡ verdict k es s
 
 -- What a function that reads the bytes s gives for a part of the sheet: the number of its refusal; or 0, the part in words, and the place
 -- behind it.

@@ -2,16 +2,26 @@
 ghost use mathlib.Core.Path.{_≡_};
 ghost use Prim.Native.Nat.{_≤_};
 ghost use lib.ListN.{length, drop};
-ghost use Rattle.sheet.specs.Sheet.{limit, ended};
+ghost use Rattle.words.specs.Words.{entry};
+ghost use Rattle.sheet.specs.Sheet.{limit, ended, no-size, out-of-range};
 ghost use Rattle.sheet.specs.Sheet as sheet;
 ghost use Rattle.items.specs.Inner.{ItemIs};
-ghost use Rattle.rows.specs.Inner.{LiteralAt, FaultIs, RowsAre, earlier-of, rule-of};
+ghost use Rattle.rows.specs.Inner.{LiteralAt, FaultIs, RowsAre, faults, has-fault, rule-of};
 ghost use Rattle.cue.specs.Sizes.{size-limit};
 use items::Item;
 use items::item_at;
 
 // Entries lie from -LIMIT to LIMIT.
 const LIMIT: u64 = 100000;
+
+// The kinds of fault that an item of good form can have, by their refusals.
+const ABSENT_SIZE: u8 = 2;
+
+const NO_SIZE: u8 = 3;
+
+const OUT_OF_RANGE: u8 = 4;
+
+const ABSENT_MARK: u8 = 5;
 
 // Six words of entries, absent past the last: a row of a table, the floors or the due marks.
 pub struct Row {
@@ -25,14 +35,20 @@ pub enum Items {
     Mark,
 }
 
+// The kinds of fault that the items of a line can have, in the order in which they are looked for: the first `count` of `order`.
+struct Faults {
+    count: usize,
+    order: [u8; 2],
+}
+
 // The place behind what was read; or a refusal, 2 to 5.
 pub struct Place {
     pub refusal: u8,
     pub next: usize,
 }
 
-// Reads `lines` lines of `count` items, each with the same key, into lent rows. The first fault met is the answer: for each line the items'
-// form (2), then the least fault of what they are (2 to 5), so that a line's 2 comes before its 3, 4 and 5, by kind and not by item.
+// Reads `lines` lines of `count` items, each with the same key, into lent rows, and leaves them at the first fault met. A line is read to its
+// end before its items are judged: a wrong form (2) comes before what the items are, and that goes by kind of fault and not by item.
 pub fn read_rows(
     s: &[u8],
     from: usize,
@@ -63,7 +79,6 @@ pub fn read_rows(
             match ended_item(s, at, count - k - 1) {
                 Item::Entry(word, next) => {
                     row[k] = word;
-                    refusal = earlier(refusal, fault(rule, word));
                     at = next;
                 }
                 Item::Faulty => {
@@ -73,6 +88,7 @@ pub fn read_rows(
             }
             k += 1;
         }
+        refusal = first_fault(rule, row, count);
         if refusal != 0 {
             break 'lines;
         }
@@ -123,61 +139,79 @@ fn literal_at(s: &[u8], at: usize, key: &[u8]) -> bool
     true
 }
 
-// The earlier of two faults, where 0 is none.
-fn earlier(a: u8, b: u8) -> u8
-    ensures { λ r. ⌜ r ≡ earlier-of a b ⌝ }
+// The refusal of a line whose items have their form, or 0: for each kind of fault in order, for each item, left at the first hit.
+fn first_fault(rule: Items, row: [u64; 6], count: usize) -> u8
+    requires { ⌜ count ≤ size-limit ⌝ }
+    ensures { λ r. ⌜ FaultIs (rule-of rule) row count r ⌝ }
 {
-    if a == 0 {
-        return b;
+    let faults = faults_of(rule);
+    let many = faults.count;
+    let order = faults.order;
+    let mut fault: u8 = 0;
+    let mut i: usize = 0;
+    'kinds: while i < many {
+        let kind = order[i];
+        let mut k: usize = 0;
+        while k < count {
+            if faulty(kind, row[k]) {
+                fault = kind;
+                break 'kinds;
+            }
+            k += 1;
+        }
+        i += 1;
     }
-    if b == 0 {
-        return a;
-    }
-    if a < b { a } else { b }
+    fault
 }
 
-// The fault of one entry, or 0.
-fn fault(rule: Items, word: u64) -> u8
-    ensures { λ r. ⌜ FaultIs (rule-of rule) word r ⌝ }
+fn faults_of(rule: Items) -> Faults
+    ensures { λ r. ⌜ r ≡ faults (rule-of rule) ⌝ }
 {
     match rule {
-        Items::Size => size_fault(word),
-        Items::Entry => entry_fault(word),
-        Items::Mark => {
-            if word == 0 {
-                return 5;
-            }
-            entry_fault(word)
-        }
+        Items::Size => Faults {
+            count: 2,
+            order: [ABSENT_SIZE, NO_SIZE],
+        },
+        Items::Entry => Faults {
+            count: 1,
+            order: [OUT_OF_RANGE, 0],
+        },
+        Items::Mark => Faults {
+            count: 2,
+            order: [OUT_OF_RANGE, ABSENT_MARK],
+        },
     }
 }
 
-fn size_fault(word: u64) -> u8
-    ensures { λ r. ⌜ FaultIs sheet.size word r ⌝ }
+// The entry has this kind of fault; an absent size and an absent due mark are asked for alike.
+fn faulty(kind: u8, word: u64) -> bool
+    ensures { λ r. ⌜ r ≡ has-fault kind (entry word) ⌝ }
 {
-    if word == 0 {
-        return 2;
+    match kind {
+        NO_SIZE => no_size(word),
+        OUT_OF_RANGE => out_of_range(word),
+        _ => !words::present(word),
     }
-    if word <= words::BIAS {
-        return 3;
-    }
-    if words::BIAS + 6 < word {
-        return 3;
-    }
-    0
 }
 
-fn entry_fault(word: u64) -> u8
-    ensures { λ r. ⌜ FaultIs sheet.entry word r ⌝ }
+fn no_size(word: u64) -> bool
+    ensures { λ r. ⌜ r ≡ no-size (entry word) ⌝ }
 {
-    if word == 0 {
-        return 0;
+    if !words::present(word) {
+        return false;
     }
-    if word < words::BIAS - LIMIT {
-        return 4;
+    let size = words::above(word);
+    if size == 0 {
+        return true;
     }
-    if words::BIAS + LIMIT < word {
-        return 4;
+    6 < size
+}
+
+fn out_of_range(word: u64) -> bool
+    ensures { λ r. ⌜ r ≡ out-of-range (entry word) ⌝ }
+{
+    if LIMIT < words::above(word) {
+        return true;
     }
-    0
+    LIMIT < words::below(word)
 }

@@ -1,5 +1,5 @@
 -- Laws of a sheet's sections: one kind of line more, its refusal, the end; and what is true of the rows of each kind that was read.
-use mathlib.Core.Path.{_≡_, refl, ap}
+use mathlib.Core.Path.{_≡_, refl, ap, _∙_}
 use mathlib.Core.Logic.{inl, inr}
 use mathlib.Core.List.{List, [], _∷_}
 use mathlib.Core.Bool.{true, false}
@@ -8,7 +8,6 @@ use native.Mathlib.Omega.{arith}
 use borrow.Author.Tests.{lt-ltb, le-ltb}
 use lib.IntN.{pos}
 use lib.ListN.{length, drop, getD, drop-of-length-le}
-use lib.Seq.{drop-cons}
 use Rattle.maxplus.specs.Entry.{E, absent, num}
 use Rattle.maxplus.specs.Finite.{In}
 use Rattle.maxplus.proofs.FiniteLaws.{in-at}
@@ -129,23 +128,28 @@ module _ (m n : ℕ) (x : List ℕ) where
   pub sized-refused : (f : ℕ) → sections (tables m n) x ≡ refused f → sized m n x ≡ refused f
   sized-refused f e = rw e
 
-  module _ (ts : List (List (List E))) (s : List ℕ) (k : ℕ) (e : sections (tables m n) x ≡ got ts (drop k s)) where
-    pub sized-left : k < length s → sized m n x ≡ refused 2
-    sized-left h = rw (e, drop-cons s k 0 h)
-
-    pub sized-all : length s ≤ k → sized m n x ≡ finished m n ts []
-    sized-all h = rw (e, drop-of-length-le s h)
+  pub sized-read : (ts : List (List (List E))) (y : List ℕ) → sections (tables m n) x ≡ got ts y → sized m n x ≡ finished m n ts y
+  sized-read ts y e = rw e
 
 module _ (m n : ℕ) (ts : List (List (List E))) where
-  pub finished-no-lag : any (all absent?) (part ts lag-lines) ≡ true → finished m n ts [] ≡ refused 6
-  finished-no-lag e = rw e
+  pub finished-left : (x : List ℕ) → ¬ (length x ≡ 0) → finished m n ts x ≡ refused 2
+  finished-left [] h = absurd (h refl)
+  finished-left (b ∷ x) h = refl
 
-  module _ (e : any (all absent?) (part ts lag-lines) ≡ false) where
-    pub finished-no-floor : any (all absent?) (part ts floor-line) ≡ true → finished m n ts [] ≡ refused 7
-    finished-no-floor f = rw (e, f)
+  finished-all : (x : List ℕ) → length x ≡ 0 → finished m n ts x ≡ finished m n ts []
+  finished-all [] h = refl
+  finished-all (b ∷ x) h = absurd (let y : ⊥ = omega arith in y)
 
-    pub finished-good : any (all absent?) (part ts floor-line) ≡ false → finished m n ts [] ≡ got (sheet-of m n ts) []
-    finished-good f = rw (e, f)
+  module _ (x : List ℕ) (none : length x ≡ 0) where
+    pub finished-no-lag : any (all absent?) (part ts lag-lines) ≡ true → finished m n ts x ≡ refused 6
+    finished-no-lag e = finished-all x none ∙ rw e
+
+    module _ (e : any (all absent?) (part ts lag-lines) ≡ false) where
+      pub finished-no-floor : any (all absent?) (part ts floor-line) ≡ true → finished m n ts x ≡ refused 7
+      finished-no-floor f = finished-all x none ∙ rw (e, f)
+
+      pub finished-good : any (all absent?) (part ts floor-line) ≡ false → finished m n ts x ≡ got (sheet-of m n ts) []
+      finished-good f = finished-all x none ∙ rw (e, f)
 
 module _ (s : List ℕ) where
   pub read-long : 2048 < length s → read s ≡ refused 1

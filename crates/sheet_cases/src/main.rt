@@ -4,16 +4,17 @@ use rows::Row;
 // One word of a table: a blank, and the number or a minus.
 fn put_word(word: u64) {
     io::write_all(1, b" ");
-    if word == 0 {
+    if !words::present(word) {
         io::write_all(1, b"-");
         return;
     }
-    if word < words::BIAS {
+    let below = words::below(word);
+    if 0 < below {
         io::write_all(1, b"-");
-        io::print_decimal(1, words::BIAS - word);
+        io::print_decimal(1, below);
         return;
     }
-    io::print_decimal(1, word - words::BIAS);
+    io::print_decimal(1, words::above(word));
 }
 
 fn put_row(at: [u64; 6], count: usize) {

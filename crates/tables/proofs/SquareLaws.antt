@@ -1,5 +1,6 @@
 -- Laws of the unit table's words, and of bounds on words as bounds on entries.
 use mathlib.Core.Path.{_≡_, refl, _∙_}
+use mathlib.Core.Bool.{false}
 use mathlib.Core.Logic.{inl, inr}
 use mathlib.Core.List.{List}
 use Prim.Native.Nat.{ℕ, _+_, _≤_, _<_}
@@ -8,7 +9,7 @@ use native.Mathlib.Numerals.{add-one}
 use native.Mathlib.Decide.{ℕ-discrete}
 use lib.ListN.{length, getD, set, length-set, replicate}
 use lib.Seq.{getD-set-same, getD-set-other}
-use Rattle.maxplus.specs.Entry.{E, _⊗_, _⊕_, unit}
+use Rattle.maxplus.specs.Entry.{E, absent, num, _⊗_, _⊕_, unit, present?}
 use Rattle.maxplus.specs.Tables.{sup, Vec, Mat, idm}
 use Rattle.maxplus.proofs.EntryLaws.{≼-refl, ≼-anti, ≼-absent, ≼-back, ⊕-r, ⊕-lub, ⊗-nothing, num-inj}
 use Rattle.maxplus.proofs.TableLaws.{idm-same, idm-eq, idm-or}
@@ -29,8 +30,9 @@ pub unit-other : (i j : ℕ) → ¬ (i ≡ j) → entry 0 ≡ idm i j
 unit-other i j h = elim (idm-or i j) [ inl e ↦ absurd (h (idm-eq i j (≼-back e))) | inr e ↦ rw (e, entry-zero) ]
 
 -- ---- a row of the product: one way between more, which raises each place; shifting by an absent entry adds nothing
-pub raised-none : {n v : ℕ} {x : List ℕ} (y : List ℕ) → v ≡ 0 → length x ≡ 6 → Raised n (entry v) (meantV y) x x
-raised-none y e z = record { size = z; at = λ j h. rw (e, entry-zero, ⊗-nothing) (≼-anti (⊕-r _ _) (⊕-lub (≼-absent _) (≼-refl _))) }
+pub raised-none : {n : ℕ} {x : List ℕ} (s : E) (y : Vec) → present? s ≡ false → length x ≡ 6 → Raised n s y x x
+raised-none absent y e z = record { size = z; at = λ j h. rw ⊗-nothing (≼-anti (⊕-r _ _) (⊕-lub (≼-absent _) (≼-refl _))) }
+raised-none (num v) y e z = absurd (let y : _≡_ {A = ℕ} 0 1 = cc in let x : ⊥ = omega arith in x)
 
 -- the first j places have been raised, the others are as they were
 pub record Raising (s : E) (y : Vec) (before r : List ℕ) (j : ℕ) : Type 0 where

@@ -106,7 +106,7 @@ fn raise(r: &mut [u64; 6], shift: u64, y: [u64; 6], n: usize)
     requires { ⌜ (n ≤ size-limit) × Near shift × CloselyV n far y × (length (now r) ≡ 6) ⌝ }
     ensures { λ _. ⌜ Raised n (entry shift) (meantV y) (now (r .entry)) (now (r .exit)) ⌝ }
 {
-    if shift == 0 {
+    if !words::present(shift) {
         return;
     }
     let mut j: usize = 0;

@@ -14,7 +14,7 @@ use mir.Facts.{toZ-ofZ}
 use mir.Syntax.{w64}
 use mir.Val.{SFits, toZ, ofZ}
 use lib.Seq.{drop-cons, getD-at}
-use Rattle.maxplus.specs.Entry.{E, absent, num}
+use Rattle.maxplus.specs.Entry.{E, absent, num, present?}
 use Rattle.maxplus.specs.Finite.{each}
 use Rattle.maxplus.specs.Whole.{up, dn}
 use Rattle.maxplus.proofs.EachLaws.{each-same, each-set}
@@ -22,6 +22,7 @@ use Rattle.maxplus.proofs.EntryLaws.{num-inj}
 use Rattle.words.specs.Words.{word, entry, Near}
 use Rattle.words.proofs.Laws.{entry-word}
 use Rattle.sheet.specs.Sheet.{Got, got, refused, _>>=_, digit, leading, behind, signed, item}
+use Rattle.sheet.proofs.LineLaws.{true-not-false}
 use Rattle.items.specs.Inner as items
 use Rattle.items.specs.Inner.{ItemIs}
 use Rattle.items.specs.declared.Item.the-variants.{Entry}
@@ -108,11 +109,11 @@ module _ (z : ℤ) (w : ℕ) (e : w ≡ word (num (clip z))) where
   unfolding word
   word-near = let (d, u) = clip-near z in (omega arith, record { high = omega arith; low = λ p. omega arith })
 
-  word-is : (x : ℤ) → entry w ≡ num x → x ≡ clip z
-  word-is x f = num-inj (sym f ∙ ap entry e ∙ entry-word (num (clip z)) (λ y q. let (d, u) = clip-near z in rw (← num-inj q) (omega arith)))
+  word-there : entry w ≡ num (clip z)
+  word-there = ap entry e ∙ entry-word (num (clip z)) (λ y q. let (d, u) = clip-near z in rw (← num-inj q) (omega arith))
 
   pub word-read : (x : ℤ) → entry w ≡ num x → toZ w64 (ofZ w64 x) ≡ clip z
-  word-read x f = let q = word-is x f in rw q (toZ-ofZ (clip-fits z))
+  word-read x f = let q : x ≡ clip z = num-inj (sym f ∙ word-there) in rw q (toZ-ofZ (clip-fits z))
 
 -- ---- a number of the argument is an item that is not absent
 behind-shorter : (s : List ℕ) → length (behind s) ≤ length s
@@ -173,17 +174,17 @@ clip-num (pos n) = refl
 clip-num (negsuc n) = refl
 
 module _ (s : List ℕ) (place : ℕ) {w next : ℕ} where
-  pub found : place ≤ length s → ItemIs far-limit item s place (Entry w next) → ¬ (w ≡ 0) → Found s place w next
-  unfolding number word
-  found p (absent, q, e, k) n = absurd (n e)
+  pub found : place ≤ length s → ItemIs far-limit item s place (Entry w next) → present? (entry w) ≡ true → Found s place w next
+  unfolding number word entry
+  found p (absent, q, e, k) n = absurd (true-not-false (sym (rw e at n)))
   found p (num z, q, e, k) n =
       record { number-is = z; reads = rw q; word-is = e ∙ ap word (clip-num z); within = k; on = item-on s place next q p k }
 
   -- a lone minus is no number
-  pub lone-minus : ItemIs far-limit item s place (Entry w next) → w ≡ 0 → number (drop place s) ≡ refused 2
+  pub lone-minus : ItemIs far-limit item s place (Entry w next) → present? (entry w) ≡ false → number (drop place s) ≡ refused 2
   unfolding number
   lone-minus (absent, q, e, k) h = rw q
-  lone-minus (num z, q, e, k) h = absurd (let l = word-near z w (e ∙ ap word (clip-num z)) .0 in omega arith)
+  lone-minus (num z, q, e, k) h = absurd (true-not-false (sym (ap present? (word-there z w (e ∙ ap word (clip-num z)))) ∙ h))
 
 pub no-item : (s : List ℕ) (place : ℕ) → item (drop place s) ≡ refused 2 → number (drop place s) ≡ refused 2
 unfolding number

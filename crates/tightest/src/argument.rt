@@ -23,7 +23,7 @@ pub fn times(s: &[u8]) -> Components
         match item_at(s, place, FAR_LIMIT) {
             Item::Entry(word, next) => {
                 // a lone minus is an item and no number
-                if word == 0 {
+                if !words::present(word) {
                     return no_times();
                 }
                 put(&mut at, count, words::number(word));

@@ -6,13 +6,13 @@ use mir.Syntax.{w64}
 use mir.Val.{SFits, toZ, ofZ}
 use mir.Facts.{toZ-pos, toZ-ofZ}
 use lib.Signed.{mag}
-use Prim.Native.Nat.{_^_, ℕ, zero, suc, _+_, _-_, _≤_, _<_}
+use Prim.Native.Nat.{_^_, ℕ, zero, suc, _+_, _-_, _≤_, _<_, min}
 use native.Mathlib.Omega.{arith}
 use lib.Dec.{ltb, leb, eqb, eqb·suc-zero}
 use lib.IntN.{ℤ, pos, negsuc, subℕ, _-ℤ_}
 use borrow.Author.Tests.{leb-true, leb-false}
 use Rattle.maxplus.specs.Whole.{up, dn, _+z_, neg}
-use Rattle.maxplus.specs.Entry.{E, absent, num, _≼_, leqE, _⊗_, _⊕_, inv, present?}
+use Rattle.maxplus.specs.Entry.{E, absent, num, _≼_, leqE, _⊗_, _⊕_, inv, present?, val}
 use Rattle.maxplus.proofs.WholeLaws.{z-eq, up-sub, up-add, up-neg}
 use Rattle.maxplus.proofs.EntryLaws.{≼-refl, ≼-anti, ≼-absent, ⊕-l, ⊕-r, ⊕-lub, ⊕-or, ⊗-absent, ⊗-nothing}
 use Rattle.maxplus.proofs.EntryLaws.{num-⊗, inv-num, num-inj, absent-not, leqE-yes, leqE-of}
@@ -79,6 +79,25 @@ pub word-present : (a : ℕ) → not (eqb a 0) ≡ present? (entry a)
 unfolding entry
 word-present zero = refl
 word-present (suc a) = rw eqb·suc-zero refl
+
+-- ---- how far a number is above and below 0
+one-side : (z : ℤ) → min (up z) (dn z) ≡ 0
+one-side (pos n) = omega arith
+one-side (negsuc n) = omega arith
+
+pub entry-above : (a : ℕ) → a - bias ≡ up (val (entry a))
+unfolding entry val
+entry-above zero = omega arith
+entry-above (suc a) = omega (arith, up-sub (suc a) bias, one-side (away (suc a)))
+
+pub entry-below : (a : ℕ) → 0 < a → bias - a ≡ dn (val (entry a))
+unfolding entry val
+entry-below zero h = let x : ⊥ = omega arith in absurd x
+entry-below (suc a) h = omega (arith, up-sub (suc a) bias, one-side (away (suc a)))
+
+pub none-below : (a : ℕ) → a ≡ 0 → 0 ≡ dn (val (entry a))
+unfolding val
+none-below a e = rw (e, entry-zero)
 
 -- ---- the larger, the sum and the difference
 pub larger-low : (a b : ℕ) → a ≤ b → entry b ≡ entry a ⊕ entry b

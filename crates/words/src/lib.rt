@@ -2,8 +2,8 @@
 ghost use mathlib.Core.Path.{_≡_};
 ghost use Prim.Native.Nat.{_≤_, _<_};
 ghost use lib.IntN.{pos};
-ghost use Rattle.maxplus.specs.Whole.{neg};
-ghost use Rattle.maxplus.specs.Entry.{num, _⊗_, _⊕_, inv, present?};
+ghost use Rattle.maxplus.specs.Whole.{up, dn, neg};
+ghost use Rattle.maxplus.specs.Entry.{num, _⊗_, _⊕_, inv, present?, val};
 ghost use Rattle.words.specs.Words.{word, entry, far, Near};
 
 // The word of the number 0.
@@ -33,6 +33,23 @@ pub fn present(a: u64) -> bool
     ensures { λ r. ⌜ r ≡ present? (entry a) ⌝ }
 {
     a != 0
+}
+
+// How far the number is above 0: 0 where it is below, and where there is none.
+pub fn above(a: u64) -> u64
+    ensures { λ r. ⌜ r ≡ up (val (entry a)) ⌝ }
+{
+    if a < BIAS { 0 } else { a - BIAS }
+}
+
+// How far the number is below 0: 0 where it is above, and where there is none.
+pub fn below(a: u64) -> u64
+    ensures { λ r. ⌜ r ≡ dn (val (entry a)) ⌝ }
+{
+    if a == 0 {
+        return 0;
+    }
+    if a < BIAS { BIAS - a } else { 0 }
 }
 
 // The larger of two entries.

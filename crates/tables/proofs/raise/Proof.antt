@@ -1,6 +1,8 @@
 -- `tables::raise` meets its contract: the places passed have been raised. Assumes nothing.
 use Prim.Native.Nat.{_≤_, _-_}
+use mathlib.Core.Path.{sym, _∙_}
 use native.Mathlib.Omega.{arith}
+use borrow.Author.Tests.{not-true}
 use Rattle.words.specs.Words.{entry}
 use Rattle.tables.specs.Held.{meantV}
 use Rattle.tables.proofs.SquareLaws.{raised-none, Raising, raising-none, raising-more, raising-end}
@@ -13,11 +15,16 @@ Inv-loop r₀ shift n y j₀ r j = (j ≤ n) × Raising (entry shift) (meantV y)
 abbrev μ-loop : tie.MeasureT-loop
 μ-loop r₀ shift n y j₀ r j = n - j
 
+present-requires : tie.Need-present-requires Inv-loop μ-loop
+present-requires c κs = tt
+
 returns : tie.Need-returns Inv-loop μ-loop
-returns c = raised-none _ (c .if1 .taken) (c .before .pre .3)
+returns c =
+    let s = c .before .before in
+    raised-none (entry (s .args .shift)) _ (sym (c .before .present .ensures) ∙ not-true _ (c .if1 .taken)) (s .pre .3)
 
 loop-holds : tie.Need-loop-holds Inv-loop μ-loop
-loop-holds c = (omega arith, raising-none (c .before .pre .3))
+loop-holds c = (omega arith, raising-none (c .before .before .pre .3))
 
 mul-plus : tie.Need-mul-plus Inv-loop μ-loop
 mul-plus c = omega arith
@@ -26,7 +33,7 @@ array-read-plus : tie.Need-array-read-plus Inv-loop μ-loop
 array-read-plus c = omega arith
 
 plus-requires : tie.Need-plus-requires Inv-loop μ-loop
-plus-requires c κs = let l = c .before in let s = l .before .before in (s .pre .1, s .pre .2 .at (l .loop .j) (omega arith))
+plus-requires c κs = let l = c .before in let s = l .before .before .before in (s .pre .1, s .pre .2 .at (l .loop .j) (omega arith))
 
 mul-larger : tie.Need-mul-larger Inv-loop μ-loop
 mul-larger c = omega arith
@@ -68,6 +75,7 @@ raise-spec =
     (tie.spec
     Inv-loop
     μ-loop
+    present-requires
     returns
     loop-holds
     mul-plus

@@ -4,6 +4,7 @@ use mathlib.Core.Path.{_≡_, ap, sym, _∙_}
 use Prim.Native.Nat.{_-_}
 use native.Mathlib.Omega.{arith}
 use borrow.Author.Needs.{needs}
+use borrow.Author.Tests.{not-true, not-false}
 use lib.ListN.{length}
 use mir.Syntax.{w64}
 use mir.Val.{toZ, ofZ}
@@ -32,7 +33,7 @@ abbrev start : tie.After-word Inv-loop μ-loop → tie.Start Inv-loop μ-loop
 start c = loop c .before .before
 
 abbrev at-word : tie.Else1 Inv-loop μ-loop → tie.After-word Inv-loop μ-loop
-at-word c = c .before .before
+at-word c = c .before .before .before
 
 abbrev at-else1 : tie.After-number Inv-loop μ-loop → tie.Else1 Inv-loop μ-loop
 at-else1 c = c .before .before
@@ -45,7 +46,9 @@ item-there c = rw (c .word .given .1) at (c .before .before .item-at .ensures)
 -- which is a number
 number-there : (c : tie.Else1 Inv-loop μ-loop) → let w = at-word c in
     Found (start w .args .s .now) (loop w .loop .place) (w .word .given .0 .0) (w .word .given .0 .1 .0)
-number-there c = let w = at-word c in found _ _ (loop w .loop .inv .within) (item-there w) (c .if1 .left)
+number-there c =
+    let w = at-word c in
+    found _ _ (loop w .loop .inv .within) (item-there w) (sym (c .before .present .ensures) ∙ not-false _ (c .if1 .left))
 
 -- its component
 component : (c : tie.After-number Inv-loop μ-loop) → toZ w64 (ofZ w64 (c .number .result)) ≡ clip (number-there (at-else1 c) .number-is)
@@ -60,15 +63,19 @@ item-at-requires c κs = (c .loop .inv .within, omega arith, omega arith)
 enum-known-word : tie.Need-enum-known-word Inv-loop μ-loop
 enum-known-word c = search needs
 
+present-requires : tie.Need-present-requires Inv-loop μ-loop
+present-requires c κs = search needs
+
 no-times-requires : tie.Need-no-times-requires Inv-loop μ-loop
 no-times-requires c κs = search needs
 
 returns : tie.Need-returns Inv-loop μ-loop
 returns c =
+    let p : tie.After-present Inv-loop μ-loop = search in
     let w : tie.After-word Inv-loop μ-loop = search in
     let l : tie.At-loop Inv-loop μ-loop = search in
-    c .no-times .ensures 2
-    ∙ ap times-of (sym (read-faulty (l .loop .inv) (lone-minus _ (l .loop .place) (item-there w) (c .before .if1 .taken))))
+    let none = lone-minus _ (l .loop .place) (item-there w) (sym (p .present .ensures) ∙ not-true _ (c .before .if1 .taken)) in
+    c .no-times .ensures 2 ∙ ap times-of (sym (read-faulty (l .loop .inv) none))
 
 number-requires : tie.Need-number-requires Inv-loop μ-loop
 number-requires c κs = let f = number-there (c .before) in word-near (f .number-is) _ (f .word-is)
@@ -152,6 +159,7 @@ times-spec =
     loop-holds
     item-at-requires
     enum-known-word
+    present-requires
     no-times-requires
     returns
     number-requires
