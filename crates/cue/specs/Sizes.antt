@@ -1,9 +1,15 @@
 -- How large results are, each size by its name: L limits lags, floors and due marks, B the entries of the order table. At most six triggers.
+use mathlib.Core.List.{List, [], _∷_}
 use Prim.Native.Nat.{ℕ, zero, suc, _+_, _*_, _^_}
+use Rattle.maxplus.specs.Finite.{each}
 
 -- "There are m panels and n triggers, each 1 to 6."
 abbrev pub size-limit : ℕ
 size-limit = 6
+
+-- what stands at six places, "the unused ones" too
+abbrev pub six : {A : Type 0} → (ℕ → A) → List A
+six f = each size-limit (λ i. f i ∷ [])
 
 -- "n + n² + ... + n to the power f"
 unfoldable pub geometric : ℕ → ℕ → ℕ

@@ -3,8 +3,8 @@ use mathlib.Core.List.{List, [], _∷_, _++_}
 use Prim.Native.Nat.{ℕ}
 use lib.IntN.{ℤ, pos, negsuc}
 use Rattle.maxplus.specs.Entry.{E, absent, num}
-use Rattle.maxplus.specs.Finite.{each}
 use Rattle.maxplus.specs.Line.{Line, at}
+use Rattle.cue.specs.Sizes.{six}
 
 -- "In the lent space these are seven signed 32-bit words, absent being the least such number"
 abbrev pub line-size : ℕ
@@ -16,7 +16,7 @@ signed (num z) = z
 
 -- "a line carries its count of triggers and its six components, the unused ones absent"
 unfoldable pub line-words : (n : ℕ) → Line n → List ℤ
-line-words n c = pos n ∷ each 6 (λ i. signed (at n c i) ∷ [])
+line-words n c = pos n ∷ six (λ i. signed (at n c i))
 
 unfoldable pub list-words : (n : ℕ) → List (Line n) → List ℤ
 list-words n [] = []

@@ -24,10 +24,10 @@ use Rattle.walk.specs.declared.Counts.{Counts}
 use Rattle.walk.proofs.Follows.{counts-follow}
 use Rattle.preparing.specs.Prepared.{MarkedAs}
 use Rattle.preparing.specs.declared.Marked.{Marked}
-use Rattle.keeping.specs.Keeping.{kept-of, keeping, six, six-counts, kept-answer, Steps-at-most}
+use Rattle.keeping.specs.Keeping.{kept-of, keeping, six-counts, kept-answer, Steps-at-most}
 use Rattle.sheet.specs.Ordered.{ordered}
 use Rattle.keeping.specs.declared.KeptTable.{KeptTable}
-use Rattle.cue.specs.Sizes.{size-limit}
+use Rattle.cue.specs.Sizes.{size-limit, six}
 
 -- the byte and the number of panel i
 abbrev pub Pair : Type 0

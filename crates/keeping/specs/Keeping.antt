@@ -7,6 +7,7 @@ use lib.IntN.{ℤ, pos}
 use lib.ListN.{length, getD, replicate}
 use Rattle.maxplus.specs.Finite.{each}
 use Rattle.cue.specs.Method.{kept-byte, kept-count}
+use Rattle.cue.specs.Sizes.{six}
 use Rattle.sheet.specs.Sheet.{Got, got, Sheet, read}
 use Rattle.sheet.specs.Cue.{cue-size, cue-of, sheet-least, sheet-steps, sheet-selections, most-steps}
 use Rattle.sheet.specs.Ordered.{ordered}
@@ -29,10 +30,7 @@ kept-of (got t r) =
 unfoldable pub keeping : List ℕ → KeptOutcome
 keeping s = kept-of (ordered s)
 
--- the first six of a list of pairs, part by part, and 0 past its end
-abbrev pub six : (ℕ → ℕ) → List ℕ
-six f = each 6 (λ i. f i ∷ [])
-
+-- the number of bits of each of six bytes
 abbrev pub six-counts : List ℕ → List ℕ
 six-counts bytes = six (λ i. ones (getD bytes i 0))
 

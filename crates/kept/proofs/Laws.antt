@@ -18,7 +18,8 @@ use Rattle.reading.proofs.Refusals.{refusal-known}
 use Rattle.sheet.proofs.Good.{read-good}
 use Rattle.advice.specs.Advice.{advice}
 use Rattle.writing.specs.Texts.{kept-text, refusal-text}
-use Rattle.keeping.specs.Keeping.{KeptOutcome, kept, refused, kept-of, keeping, six, kept-answer}
+use Rattle.keeping.specs.Keeping.{KeptOutcome, kept, refused, kept-of, keeping, kept-answer}
+use Rattle.cue.specs.Sizes.{six}
 use Rattle.sheet.specs.Cue.{Orderly, orderly?}
 use Rattle.sheet.specs.Ordered.{ordered}
 use Rattle.keeping.specs.declared.KeptTable.{KeptTable}

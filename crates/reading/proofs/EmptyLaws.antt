@@ -12,10 +12,11 @@ use Rattle.maxplus.specs.Entry.{E, absent, num, present?}
 use Rattle.maxplus.proofs.EntryLaws.{num-inj, absent-not}
 use Rattle.words.specs.Words.{word, entry}
 use Rattle.words.proofs.Laws.{entry-word}
+use Rattle.sheet.specs.Good.{RowsOf}
 use Rattle.sheet.specs.Sheet as sheet
 use Rattle.sheet.specs.Sheet.{limit, out-of-range, absent?, any, all, row, table}
 use Rattle.sheet.proofs.LineLaws.{true-not-false, none-or, any-none, any-at}
-use Rattle.sheet.proofs.SectionLaws.{RowsOf, row-long, row-passes}
+use Rattle.sheet.proofs.SectionLaws.{row-long, row-passes}
 use Rattle.rows.specs.Grid.{strips}
 use Rattle.rows.proofs.PlaceLaws.{strip-at, strips-at}
 use Rattle.reading.specs.Inner.{EmptyWords}

@@ -15,10 +15,11 @@ use Rattle.maxplus.proofs.EachLaws.{each-same}
 use Rattle.maxplus.proofs.EntryLaws.{num-inj}
 use Rattle.words.specs.Words.{entry}
 use Rattle.words.proofs.Laws.{entry-word}
+use Rattle.sheet.specs.Good.{RowsOf}
 use Rattle.sheet.specs.Sheet.{got, mark, size, absent?, table, sections, part, tables, count}
 use Rattle.sheet.specs.Sheet.{lag-lines, floor-line, due-line, after-lines, sheet-of}
 use Rattle.sheet.proofs.LineLaws.{none-at, there}
-use Rattle.sheet.proofs.SectionLaws.{RowsOf, row-long, row-passes, sections-of, sections-many, size-read}
+use Rattle.sheet.proofs.SectionLaws.{row-long, row-passes, sections-of, sections-many, size-read}
 use Rattle.rows.specs.Grid.{strip, strips, grid}
 use Rattle.rows.proofs.PlaceLaws.{strip-at, strips-at, strip-eq}
 use Rattle.reading.specs.Reading.{answer}

@@ -5,11 +5,10 @@ use mathlib.Core.Bool.{Bool, true, false}
 use Prim.Native.Nat.{ℕ, _≤_, _<_}
 use lib.ListN.{length, drop, getD}
 use Rattle.maxplus.specs.Entry.{E, present?}
-use Rattle.maxplus.specs.Finite.{each}
 use Rattle.words.specs.Words.{entry}
 use Rattle.sheet.specs.Sheet as sheet
 use Rattle.sheet.specs.Sheet.{Got, got, any, all, absent?, table, Section, section, sections, part, sizes, tables}
-use Rattle.sheet.proofs.SectionLaws.{RowsOf}
+use Rattle.sheet.specs.Good.{RowsOf}
 use Rattle.rows.specs.Grid.{strips}
 use Rattle.rows.specs.Inner.{RowsAre, Reads}
 use Rattle.rows.specs.declared.Row.{Row}
@@ -18,7 +17,7 @@ use Rattle.reading.specs.Reading.{answer}
 use Rattle.reading.specs.declared.Reading.{Reading}
 use Rattle.reading.specs.declared.Group.{Group}
 use Rattle.reading.specs.declared.Group.the-variants as group
-use Rattle.cue.specs.Sizes.{size-limit}
+use Rattle.cue.specs.Sizes.{size-limit, six}
 
 abbrev pub kinds : Group → ℕ → ℕ → List Section
 kinds group.Sizes m n = sizes
@@ -42,7 +41,7 @@ SectionsAre g s r held = Reads Stacked g s (r .refusal) (r .next) held
 
 -- six rows, each in its struct
 abbrev pub each-row : List (List ℕ) → List Row
-each-row ws = each 6 (λ i. (record { at = getD ws i [] }) ∷ [])
+each-row ws = six (λ i. record { at = getD ws i [] })
 
 -- the answer to the rows that were read of each kind, and to the bytes left behind them
 abbrev pub FinishedIs : List (List (List ℕ)) → ℕ → ℕ → ℕ → Reading → Type 0

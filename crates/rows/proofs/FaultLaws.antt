@@ -20,7 +20,8 @@ use Rattle.words.specs.Words.{word, entry, far}
 use Rattle.words.proofs.Laws.{entry-word}
 use Rattle.sheet.specs.Sheet as sheet
 use Rattle.sheet.specs.Sheet.{Got, got, refused, limit, absent?, no-size, out-of-range, any, checked, row}
-use Rattle.sheet.proofs.LineLaws.{true-not-false, none-or, none-at, any-none, any-at, Passes, checked-passes}
+use Rattle.sheet.proofs.LineLaws.{true-not-false, none-or, none-at, any-none, any-at, checked-passes}
+use Rattle.sheet.specs.Good.{Passes}
 use Rattle.rows.specs.Grid.{strip}
 use Rattle.rows.specs.Inner.{clip, words-of, faults, has-fault, verdict, FaultIs}
 use Rattle.rows.specs.declared.Faults.{Faults}

@@ -13,9 +13,9 @@ use Rattle.maxplus.proofs.EntryLaws.{num-inj, absent-not}
 use Rattle.cue.specs.Results.{Within}
 use Rattle.sheet.specs.Sheet.{got, refused, Rule, size, limit, out-of-range, absent?, any, all, table, Sheet, sections, sizes, tables, part, count}
 use Rattle.sheet.specs.Sheet.{panels-line, triggers-line, lag-lines, floor-line, due-line, after-lines, sheet-of, finished, lines, read}
-use Rattle.sheet.specs.Good.{Good}
+use Rattle.sheet.specs.Good.{RowsOf, Good}
 use Rattle.sheet.proofs.LineLaws.{true-not-false, none-or, none-at, at-any, not-got, bind-got, passed, there}
-use Rattle.sheet.proofs.SectionLaws.{RowsOf, row-long, row-passes, sections-of, size-read}
+use Rattle.sheet.proofs.SectionLaws.{row-long, row-passes, sections-of, size-read}
 use Rattle.cue.specs.Sizes.{size-limit}
 
 -- ---- entries

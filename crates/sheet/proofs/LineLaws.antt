@@ -10,6 +10,7 @@ use lib.Dec.{ltb, eqb}
 use lib.IntN.{pos, negsuc}
 use lib.ListN.{length, getD}
 use Rattle.maxplus.specs.Entry.{E, absent, num, val}
+use Rattle.sheet.specs.Good.{Passes}
 use Rattle.sheet.specs.Sheet.{Got, got, refused, _>>=_, Rule, size, entry, mark, out-of-range, no-size, absent?, any, checked}
 use Rattle.cue.specs.Sizes.{size-limit}
 
@@ -96,11 +97,6 @@ module _ {A : Type 0} where
   at-other (b ∷ l) a d (suc j) h = at-other l a d j (λ x. h (ap suc x))
 
 -- ---- entries that pass their line's rule
-abbrev pub Passes : Rule → List E → Type 0
-Passes size es = (any absent? es ≡ false) × (any no-size es ≡ false)
-Passes entry es = any out-of-range es ≡ false
-Passes mark es = (any out-of-range es ≡ false) × (any absent? es ≡ false)
-
 pub checked-passes : (r : Rule) (es : List E) (s : List ℕ) {fs : List E} {x : List ℕ} → checked r es s ≡ got fs x →
     Passes r es × (got es s ≡ got fs x)
 unfolding checked

@@ -11,10 +11,11 @@ use lib.ListN.{length, drop, getD, drop-of-length-le}
 use Rattle.maxplus.specs.Entry.{E, absent, num}
 use Rattle.maxplus.specs.Finite.{In}
 use Rattle.maxplus.proofs.FiniteLaws.{in-at}
+use Rattle.sheet.specs.Good.{Passes, RowsOf}
 use Rattle.sheet.specs.Sheet.{got, refused, literal, ended, items, Rule, size, absent?, no-size, any, all, line, rows, table}
 use Rattle.sheet.specs.Sheet.{Section, section, sections, part, sizes, tables, count, panels-line, triggers-line, lag-lines, floor-line}
 use Rattle.sheet.specs.Sheet.{sheet-of, finished, sized, lines, read}
-use Rattle.sheet.proofs.LineLaws.{bind-got, onto, front, none-at, Passes, checked-passes, size-there}
+use Rattle.sheet.proofs.LineLaws.{bind-got, onto, front, none-at, checked-passes, size-there}
 use Rattle.cue.specs.Sizes.{size-limit}
 
 -- ---- the fold: the next kind is k
@@ -32,11 +33,6 @@ unfolding sections
 sections-end ks i x h = rw (drop-of-length-le ks {i = i} h)
 
 -- ---- the rows of one kind
-pub record RowsOf (r : Rule) (lines items : ℕ) (t : List (List E)) : Type 0 where
-  pub many : length t ≡ lines
-  pub long : (es : List E) → In es t → length es ≡ items
-  pub good : (es : List E) → In es t → Passes r es
-
 items-long : (k : ℕ) (s : List ℕ) {es : List E} {x : List ℕ} → items k s ≡ got es x → length es ≡ k
 unfolding items
 items-long zero s {es} e = let h : [] ≡ es = cc in rw (← h)

@@ -1,12 +1,30 @@
--- What is true of every sheet that reading gives: its sizes, that each panel has a lag and some panel a floor, and that every entry is within
--- the limit.
-use Prim.Native.Nat.{_≤_}
+-- What is true of every sheet that reading gives: of the rows of each kind of line; of its sizes, that each panel has a lag and some panel a
+-- floor, and that every entry is within the limit.
+use mathlib.Core.Path.{_≡_}
+use mathlib.Core.Bool.{false}
+use mathlib.Core.List.{List}
+use Prim.Native.Nat.{ℕ, _≤_}
+use lib.ListN.{length}
+use Rattle.maxplus.specs.Entry.{E}
+use Rattle.maxplus.specs.Finite.{In}
 use Rattle.cue.specs.Cue.{Readable}
 use Rattle.cue.specs.Results.{Limited}
-use Rattle.sheet.specs.Sheet.{Sheet, limit}
+use Rattle.sheet.specs.Sheet.{Rule, size, entry, mark, limit, absent?, no-size, out-of-range, any, Sheet}
 use Rattle.sheet.specs.Sizes.{order-limit}
 use Rattle.sheet.specs.Cue.{cue-size, cue-of}
 use Rattle.cue.specs.Sizes.{size-limit}
+
+-- entries that pass their line's rule
+abbrev pub Passes : Rule → List E → Type 0
+Passes size es = (any absent? es ≡ false) × (any no-size es ≡ false)
+Passes entry es = any out-of-range es ≡ false
+Passes mark es = (any out-of-range es ≡ false) × (any absent? es ≡ false)
+
+-- the rows of one kind of line
+pub record RowsOf (r : Rule) (lines items : ℕ) (t : List (List E)) : Type 0 where
+  pub many : length t ≡ lines
+  pub long : (es : List E) → In es t → length es ≡ items
+  pub good : (es : List E) → In es t → Passes r es
 
 pub record Good (t : Sheet) : Type 0 where
   pub panels-few : t .panels ≤ size-limit

@@ -1,18 +1,18 @@
 -- What the functions that read the argument promise.
-use mathlib.Core.List.{List, [], _∷_}
+use mathlib.Core.List.{List}
 use mathlib.Core.Bool.{true, false, cond}
 use Prim.Native.Nat.{ℕ}
 use lib.Dec.{ltb}
 use lib.IntN.{ℤ, pos}
 use lib.ListN.{length, getD, set, replicate}
-use Rattle.maxplus.specs.Finite.{each}
+use Rattle.cue.specs.Sizes.{six}
 use Rattle.sheet.specs.Sheet.{Got, got, refused}
 use Rattle.tightest.specs.Times.{clip}
 use Rattle.tightest.specs.declared.Components.{Components}
 
 -- the first six numbers, clipped, and 0 past the last
 abbrev pub six-of : List ℤ → List ℤ
-six-of zs = each 6 (λ j. clip (getD zs j (pos 0)) ∷ [])
+six-of zs = six (λ j. clip (getD zs j (pos 0)))
 
 abbrev pub put-at : List ℤ → ℕ → ℤ → List ℤ
 put-at at count x = cond (ltb count 6) (set at count x) at
