@@ -88,7 +88,7 @@ pub fn read_rows(
             }
             k += 1;
         }
-        refusal = first_fault(rule, row, count);
+        refusal = first_fault(rule, &row, count);
         if refusal != 0 {
             break 'lines;
         }
@@ -140,9 +140,9 @@ fn literal_at(s: &[u8], at: usize, key: &[u8]) -> bool
 }
 
 // The refusal of a line whose items have their form, or 0: for each kind of fault in order, for each item, left at the first hit.
-fn first_fault(rule: Items, row: [u64; 6], count: usize) -> u8
+fn first_fault(rule: Items, row: &[u64; 6], count: usize) -> u8
     requires { ⌜ count ≤ size-limit ⌝ }
-    ensures { λ r. ⌜ FaultIs (rule-of rule) row count r ⌝ }
+    ensures { λ r. ⌜ FaultIs (rule-of rule) (now (row .entry)) count r ⌝ }
 {
     let faults = faults_of(rule);
     let many = faults.count;

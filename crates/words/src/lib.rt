@@ -46,10 +46,10 @@ pub fn above(a: u64) -> u64
 pub fn below(a: u64) -> u64
     ensures { λ r. ⌜ r ≡ dn (val (entry a)) ⌝ }
 {
-    if a == 0 {
+    if BIAS <= a {
         return 0;
     }
-    if a < BIAS { BIAS - a } else { 0 }
+    if a == 0 { 0 } else { BIAS - a }
 }
 
 // The larger of two entries.

@@ -14,24 +14,24 @@ use Rattle.rows.proofs.first_fault.Statement.{statement}
 use Rattle.rows.proofs.first_fault.Tie as tie
 
 abbrev Inv-loop : tie.InvT-loop
-Inv-loop count row many order fault₀ i kind k₀ fault k =
+Inv-loop row count many order fault₀ i kind k₀ fault k =
     (k ≤ count) × ((j : ℕ) → j < k → has-fault kind (entry (getD row j 0)) ≡ false) × (fault ≡ 0)
 
 abbrev μ-loop : tie.MeasureT-loop
-μ-loop count row many order fault₀ i kind k₀ fault k = count - k
+μ-loop row count many order fault₀ i kind k₀ fault k = count - k
 
 abbrev Inv-kinds : tie.InvT-kinds
-Inv-kinds count row many order fault₀ i₀ fault i = Asked (record { count = many; order = order }) row count i × (i ≤ many) × (fault ≡ 0)
+Inv-kinds row count many order fault₀ i₀ fault i = Asked (record { count = many; order = order }) row count i × (i ≤ many) × (fault ≡ 0)
 
 abbrev μ-kinds : tie.MeasureT-kinds
-μ-kinds count row many order fault₀ i₀ fault i = many - i
+μ-kinds row count many order fault₀ i₀ fault i = many - i
 
 -- places that statements name, each from the next one
 abbrev asked : tie.At-kinds Inv-loop μ-loop Inv-kinds μ-kinds → tie.After-faults-of Inv-loop μ-loop Inv-kinds μ-kinds
 asked c = c .before .before
 
-abbrev in-kinds : tie.After-faulty Inv-loop μ-loop Inv-kinds μ-kinds → tie.In-kinds Inv-loop μ-loop Inv-kinds μ-kinds
-in-kinds c = c .before .before .before
+abbrev in-items : tie.After-faulty Inv-loop μ-loop Inv-kinds μ-kinds → tie.In-loop Inv-loop μ-loop Inv-kinds μ-kinds
+in-items c = c .before .before
 
 -- there are two kinds at most
 few : (c : tie.After-faults-of Inv-loop μ-loop Inv-kinds μ-kinds) → c .faults-of .result .count ≤ 2
@@ -52,8 +52,8 @@ loop-holds c = (omega arith, (λ j h. let x : ⊥ = omega arith in absurd x), c 
 mul-faulty : tie.Need-mul-faulty Inv-loop μ-loop Inv-kinds μ-kinds
 mul-faulty c = omega arith
 
-array-read-faulty : tie.Need-array-read-faulty Inv-loop μ-loop Inv-kinds μ-kinds
-array-read-faulty c = omega arith
+element-copy-out-faulty : tie.Need-element-copy-out-faulty Inv-loop μ-loop Inv-kinds μ-kinds
+element-copy-out-faulty c = omega arith
 
 faulty-requires : tie.Need-faulty-requires Inv-loop μ-loop Inv-kinds μ-kinds
 faulty-requires c κs = search needs
@@ -66,7 +66,7 @@ loop-less c = omega arith
 
 loop-again : tie.Need-loop-again Inv-loop μ-loop Inv-kinds μ-kinds
 loop-again c =
-    let l = c .before .before .before .loop in
+    let l = in-items (c .before) .before .loop in
     (omega arith, below-more _ _ (l .inv .1) (sym (c .before .faulty .ensures) ∙ c .if1 .left), l .inv .2)
 
 add-i : tie.Need-add-i Inv-loop μ-loop Inv-kinds μ-kinds
@@ -94,9 +94,9 @@ returns c =
 
 returns-2 : tie.Need-returns-2 Inv-loop μ-loop Inv-kinds μ-kinds
 returns-2 c =
-    let k = in-kinds (c .before) in
+    let l = in-items (c .before) in
+    let k = l .before .before in
     let s = asked (k .before) in
-    let l = c .before .before in
     asked-hit (k .before .kinds .inv .0) (rule-of (s .before .args .rule)) (s .faults-of .ensures) (k .kinds-test .taken) (s .before .pre)
     (l .before .loop .k) (l .loop-test .taken) (sym (c .before .faulty .ensures) ∙ c .if1 .taken)
 
@@ -113,7 +113,7 @@ first-fault-spec =
     array-read-kind
     loop-holds
     mul-faulty
-    array-read-faulty
+    element-copy-out-faulty
     faulty-requires
     add-k
     loop-less
