@@ -161,11 +161,6 @@ accepted (planned n D k l L) h = refl
 accepted (full k) h = absurd h
 accepted (refused k) h = absurd h
 
-count-is : (o : PlanOutcome) → plan-answer o .count ≡ count-of o
-count-is (planned n D k l L) = refl
-count-is (full k) = refl
-count-is (refused k) = refl
-
 -- P and Q are what the two plannings answered, `front` and `back` what they left
 module _ (s₁ s₂ : List ℕ) (left right : List ℤ) (h₁ : Planned (planning s₁ left)) (h₂ : Planned (planning s₂ right)) (P Q : CuePlan)
     (p : P ≡ plan-answer (planning s₁ left)) (q : Q ≡ plan-answer (planning s₂ right)) where
@@ -190,10 +185,10 @@ module _ (s₁ s₂ : List ℕ) (left right : List ℤ) (h₁ : Planned (plannin
     Equal = (P .count ≡ Q .count) × (take (line-size * P .count) front ≡ take (line-size * P .count) back)
 
     c₁ : P .count ≡ count-of (planning s₁ left)
-    c₁ = ap (λ (p : CuePlan). p .count) p ∙ count-is (planning s₁ left)
+    c₁ = ap (λ (p : CuePlan). p .count) p
 
     c₂ : Q .count ≡ count-of (planning s₂ right)
-    c₂ = ap (λ (p : CuePlan). p .count) q ∙ count-is (planning s₂ right)
+    c₂ = ap (λ (p : CuePlan). p .count) q
 
     -- the two lists are equal exactly when the same timings are tightest
     alike-by : Equal ↔ Alike (read s₁) (read s₂)

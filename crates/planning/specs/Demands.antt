@@ -3,7 +3,7 @@ use mathlib.Core.Path.{_≡_}
 use mathlib.Core.Logic.{_↔_}
 use mathlib.Core.List.{List}
 use Prim.Native.Nat.{ℕ, _*_, _≤_}
-use lib.IntN.{ℤ, pos}
+use lib.IntN.{ℤ}
 use lib.ListN.{length, take}
 use Rattle.maxplus.specs.Entry.{num, _≼_}
 use Rattle.maxplus.specs.Combination.{Weighed}
@@ -20,14 +20,10 @@ Planned (full k) = ⊥
 Planned (refused k) = ⊥
 
 abbrev pub deviation-of : PlanOutcome → ℤ
-deviation-of (planned n D k l L) = D
-deviation-of (full k) = pos 0
-deviation-of (refused k) = pos 0
+deviation-of o = plan-answer o .deviation
 
 abbrev pub count-of : PlanOutcome → ℕ
-count-of (planned n D k l L) = length L
-count-of (full k) = k
-count-of (refused k) = 0
+count-of o = plan-answer o .count
 
 -- the words of the list at the front of the space
 abbrev pub written : PlanOutcome → List ℤ → List ℤ
