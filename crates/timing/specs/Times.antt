@@ -1,8 +1,7 @@
 -- A timing's components, the limit on them (document 01, "Testing a timing"), and their words.
-use mathlib.Core.Path.{_≡_}
 use mathlib.Core.List.{List, [], _∷_}
 use mathlib.Core.Bool.{Bool, _||_}
-use Prim.Native.Nat.{ℕ, _≤_}
+use Prim.Native.Nat.{ℕ}
 use lib.Dec.{ltb}
 use lib.IntN.{ℤ, pos}
 use lib.ListN.{getD}
@@ -10,7 +9,8 @@ use Rattle.maxplus.specs.Whole.{up, dn}
 use Rattle.maxplus.specs.Finite.{each}
 use Rattle.cue.specs.Cue.{timing}
 use Rattle.sheet.specs.Sheet.{any}
-use Rattle.tables.specs.Held.{HoldsV, CloselyV}
+use Rattle.words.specs.declared.LineWords.{LineWords}
+use Rattle.tables.specs.Lines.{Carries}
 
 -- x(j + 1) of the six words
 abbrev pub component : List ℤ → ℕ → ℤ
@@ -26,8 +26,6 @@ beyond z = ltb far-limit (up z) || ltb far-limit (dn z)
 abbrev pub some-beyond : ℕ → (ℕ → ℤ) → Bool
 some-beyond n X = any beyond (each n (λ j. X j ∷ []))
 
--- the words of n components, none of them beyond the limit, and absent past them
-pub record TimingWords (n : ℕ) (X : ℕ → ℤ) (r : List ℕ) : Type 0 where
-  pub are : HoldsV n (timing X) r
-  pub close : CloselyV n far-limit r
-  pub past : (j : ℕ) → n ≤ j → getD r j 0 ≡ 0
+-- the words of n components, none of them beyond the limit
+abbrev pub TimingWords : ℕ → (ℕ → ℤ) → LineWords → Type 0
+TimingWords n X r = Carries n far-limit (timing X) r

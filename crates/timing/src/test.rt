@@ -26,8 +26,8 @@ pub fn tested(
     ensures { λ r. ⌜ TestSays panels n (now (after .entry)) (now (lag .entry)) floor due least (component (timing .at)) r ⌝ }
 {
     let x = words_of(timing, n);
-    if keeps(after, x, n) {
-        return deviation(lag, floor, due, x, panels, n) == least;
+    if keeps(after, x) {
+        return deviation(lag, floor, due, x, panels) == least;
     }
     false
 }
