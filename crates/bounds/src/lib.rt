@@ -6,14 +6,15 @@ ghost use Rattle.tables.specs.Held.{Says};
 ghost use Rattle.bounds.specs.Bounds.{places, Under, Covered, Thinned, Joined, Branched, Expanded};
 ghost use Rattle.cue.specs.Sizes.{size-limit};
 use trigger_sets::has;
+use words::LineWords;
 
 // a lies below b in every component.
-fn under(a: [u64; 6], b: [u64; 6]) -> bool
-    ensures { λ r. ⌜ Says (Under a b) r ⌝ }
+fn under(a: LineWords, b: LineWords) -> bool
+    ensures { λ r. ⌜ Says (Under (a .at) (b .at)) r ⌝ }
 {
     let mut j: usize = 0;
     while j < 6 {
-        if b[j] < a[j] {
+        if b.at[j] < a.at[j] {
             return false;
         }
         j += 1;
@@ -22,13 +23,15 @@ fn under(a: [u64; 6], b: [u64; 6]) -> bool
 }
 
 // Some bound of the set lies below w.
-fn covered(set: &[[u64; 6]; 64], many: usize, w: [u64; 6]) -> bool
+fn covered(set: &[[u64; 6]; 64], many: usize, w: LineWords) -> bool
     requires { ⌜ many ≤ places ⌝ }
-    ensures { λ r. ⌜ Says (Covered (now (set .entry)) many w) r ⌝ }
+    ensures { λ r. ⌜ Says (Covered (now (set .entry)) many (w .at)) r ⌝ }
 {
     let mut k: usize = 0;
     while k < many {
-        if under(set[k], w) {
+        let at = set[k];
+        let bound = LineWords { count: w.count, at };
+        if under(bound, w) {
             return true;
         }
         k += 1;
@@ -37,16 +40,17 @@ fn covered(set: &[[u64; 6]; 64], many: usize, w: [u64; 6]) -> bool
 }
 
 // Takes the bounds that lie above w out of the set.
-fn thin(set: &mut [[u64; 6]; 64], many: usize, w: [u64; 6]) -> usize
+fn thin(set: &mut [[u64; 6]; 64], many: usize, w: LineWords) -> usize
     requires { ⌜ (many ≤ places) × (length (now set) ≡ places) ⌝ }
-    ensures { λ r. ⌜ Thinned (now (set .entry)) many w (now (set .exit)) r ⌝ }
+    ensures { λ r. ⌜ Thinned (now (set .entry)) many (w .at) (now (set .exit)) r ⌝ }
 {
     let mut left: usize = 0;
     let mut k: usize = 0;
     while k < many {
-        let b = set[k];
-        if !under(w, b) {
-            set[left] = b;
+        let at = set[k];
+        let bound = LineWords { count: w.count, at };
+        if !under(w, bound) {
+            set[left] = at;
             left += 1;
         }
         k += 1;
@@ -55,36 +59,31 @@ fn thin(set: &mut [[u64; 6]; 64], many: usize, w: [u64; 6]) -> usize
 }
 
 // Puts w into the set, unless one of its bounds lies below w.
-fn join(set: &mut [[u64; 6]; 64], many: usize, w: [u64; 6]) -> usize
+fn join(set: &mut [[u64; 6]; 64], many: usize, w: LineWords) -> usize
     requires { ⌜ (many < places) × (length (now set) ≡ places) ⌝ }
-    ensures { λ r. ⌜ Joined (now (set .entry)) many w (now (set .exit)) r ⌝ }
+    ensures { λ r. ⌜ Joined (now (set .entry)) many (w .at) (now (set .exit)) r ⌝ }
 {
     if covered(set, many, w) {
         return many;
     }
     let left = thin(set, many, w);
-    set[left] = w;
+    let at = w.at;
+    set[left] = at;
     left + 1
 }
 
 // Each trigger of the mask gives a bound: w, and what is wanted of the trigger.
-fn branch(
-    set: &mut [[u64; 6]; 64],
-    many: usize,
-    w: [u64; 6],
-    mask: u8,
-    wants: [u64; 6],
-    n: usize,
-) -> usize
-    requires { ⌜ (n ≤ size-limit) × (many + n ≤ places) × (length (now set) ≡ places) ⌝ }
-    ensures { λ r. ⌜ Branched w mask wants n (now (set .entry)) many (now (set .exit)) r ⌝ }
+fn branch(set: &mut [[u64; 6]; 64], many: usize, w: LineWords, mask: u8, wants: [u64; 6]) -> usize
+    requires { ⌜ (w .count ≤ size-limit) × (many + w .count ≤ places) × (length (now set) ≡ places) ⌝ }
+    ensures { λ r. ⌜ Branched (w .at) mask wants (w .count) (now (set .entry)) many (now (set .exit)) r ⌝ }
 {
+    let n = w.count;
     let mut held = many;
     let mut j: usize = 0;
     while j < n {
         if has(mask, j) {
             let mut v = w;
-            v[j] = words::larger(wants[j], w[j]);
+            v.at[j] = words::larger(wants[j], w.at[j]);
             held = join(set, held, v);
         }
         j += 1;
@@ -108,7 +107,12 @@ pub fn expand(
     let mut held: usize = 0;
     let mut k = from;
     while k < to {
-        held = branch(next, held, set[k], mask, wants, n);
+        let words = set[k];
+        let w = LineWords {
+            count: n,
+            at: words,
+        };
+        held = branch(next, held, w, mask, wants);
         k += 1;
     }
     held

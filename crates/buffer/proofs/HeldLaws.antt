@@ -20,7 +20,7 @@ use Rattle.maxplus.specs.Above.{gt?}
 use Rattle.cue.proofs.MinimalLaws.{Increasing}
 use Rattle.cue.specs.Written.{line-size, line-words, list-words}
 use Rattle.cue.proofs.WrittenLaws.{list-words-length, line-words-length}
-use Rattle.candidates.specs.Lines.{line-of, Sized}
+use Rattle.tables.specs.Lines.{line-of, Sized}
 use Rattle.candidates.proofs.OrderLaws.{below-says}
 use Rattle.buffer.specs.Buffer.{room, row, Before, Ordered, Placed, Fresh, between, Inserted, held, Stored}
 use Rattle.buffer.specs.Space.{laid}

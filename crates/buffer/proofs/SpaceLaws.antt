@@ -1,56 +1,26 @@
--- Laws of the lent space: a word as a signed number, a line's seven words, and lines laid one after the other.
+-- Laws of the lent space: a line's seven words, and lines laid one after the other.
 use mathlib.Core.Path.{_≡_, refl, ap, ap₂, sym, _∙_}
 use mathlib.Core.List.{List, [], _∷_, _++_, append-assoc, append-nil}
-use Prim.Native.Nat.{ℕ, zero, suc, _+_, _-_, _^_, _≤_, _<_}
+use Prim.Native.Nat.{ℕ, zero, suc, _+_, _≤_, _<_}
 use native.Mathlib.Omega.{arith}
 use native.Mathlib.Nat.{add-zero}
 use native.Mathlib.Decide.{decLt}
 use native.Mathlib.Numerals.{add-one}
-use lib.IntN.{ℤ, pos, negsuc, subℕ, _-ℤ_}
+use lib.IntN.{ℤ, pos}
 use lib.ListN.{length, getD, take, drop, set, take-append-drop, length-append}
 use lib.Seq.{paste, paste-suc, take-all, take-suc-set, drop-set-lt, append-snoc, take-at, drop-at, drop-drop, length-take-le}
-use mir.Syntax.{w32}
-use mir.Val.{toZ, SFits}
-use mir.Facts.{toZ-pos}
-use Rattle.maxplus.specs.Whole.{up, dn}
 use Rattle.maxplus.specs.Entry.{absent}
 use Rattle.maxplus.specs.Finite.{each}
 use Rattle.maxplus.specs.Line as line
 use Rattle.maxplus.specs.Line.{Line, at}
-use Rattle.maxplus.proofs.WholeLaws.{z-eq, up-sub}
 use Rattle.maxplus.proofs.EachLaws.{length-each, each-at}
 use Rattle.cue.specs.Written.{line-size, signed, line-words, list-words}
-use Rattle.words.specs.Words.{bias, entry, Close}
+use Rattle.words.specs.Words.{entry, Close}
 use Rattle.words.proofs.Laws.{entry-zero, close-none}
 use Rattle.tables.specs.Held.{meantV, CloselyV}
-use Rattle.candidates.specs.Lines.{line-of, Sized}
-use Rattle.candidates.proofs.WordLaws.{line-at}
+use Rattle.tables.specs.Lines.{line-of, Sized}
+use Rattle.tables.proofs.LineLaws.{line-at}
 use Rattle.buffer.specs.Space.{laid}
-
--- ---- a word as a signed number
-pub signed-none : (w : ℕ) → w ≡ 0 → negsuc 0x7fff_ffff ≡ signed (entry w)
-signed-none w e = rw (e, entry-zero)
-
-signed-some : (w : ℕ) (z : ℤ) → 0 < w → up z + bias ≡ w + dn z → z ≡ signed (entry w)
-unfolding entry
-signed-some zero z h e = let x : ⊥ = omega arith in absurd x
-signed-some (suc v) z h e = z-eq z (subℕ (suc v) bias) (omega (arith, up-sub (suc v) bias))
-
-pub signed-high : (w : ℕ) → bias ≤ w → w < bias + 2 ^ 31 → toZ w32 (w - bias) ≡ signed (entry w)
-signed-high w h k = toZ-pos w32 {n = w - bias} (omega arith) ∙ signed-some w (pos (w - bias)) (omega arith) (omega arith)
-
-minus : (k : ℕ) → 0 < k → pos 0 -ℤ pos k ≡ negsuc (k - 1)
-minus zero h = let x : ⊥ = omega arith in absurd x
-minus (suc k) h = z-eq (subℕ 0 (suc k)) (negsuc (suc k - 1)) (omega (arith, up-sub 0 (suc k)))
-
-low : (w : ℕ) → w < bias → bias < w + 2 ^ 31 → pos 0 -ℤ toZ w32 (bias - w) ≡ negsuc (bias - w - 1)
-low w h k = ap (λ z. pos 0 -ℤ z) (toZ-pos w32 {n = bias - w} (omega arith)) ∙ minus (bias - w) (omega arith)
-
-pub signed-low : (w : ℕ) → 0 < w → w < bias → bias < w + 2 ^ 31 → pos 0 -ℤ toZ w32 (bias - w) ≡ signed (entry w)
-signed-low w p h k = low w h k ∙ signed-some w (negsuc (bias - w - 1)) p (omega arith)
-
-pub low-fits : (w : ℕ) → w < bias → bias < w + 2 ^ 31 → SFits w32 (pos 0 -ℤ toZ w32 (bias - w))
-low-fits w h k = rw (low w h k) (record { sfits = omega arith })
 
 -- ---- the words of a line after its count
 abbrev pub component-words : (n : ℕ) → Line n → List ℤ

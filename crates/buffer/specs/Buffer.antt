@@ -5,7 +5,7 @@ use Prim.Native.Nat.{ℕ, _≤_, _<_}
 use lib.ListN.{length, getD, take, drop}
 use Rattle.maxplus.specs.Finite.{In, mapL}
 use Rattle.maxplus.specs.Line.{Line, ltL}
-use Rattle.candidates.specs.Lines.{line-of, Sized}
+use Rattle.tables.specs.Lines.{line-of, Sized}
 
 -- how many lines there is room for
 abbrev pub room : ℕ

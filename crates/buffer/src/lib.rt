@@ -1,24 +1,30 @@
-// A buffer of lines in order, each by its six words. Its first len places hold lines.
+// A buffer of lines in order, each by its six words: all have one count. Its first len places hold lines.
 ghost use mathlib.Core.Path.{_≡_};
 ghost use Prim.Native.Nat.{_+_, _≤_, _<_, min};
 ghost use lib.ListN.{length};
 ghost use Rattle.tables.specs.Held.{Says};
 ghost use Rattle.buffer.specs.Buffer.{room, Ordered, Placed, Fresh, Inserted};
 use candidates::order::below;
+use words::LineWords;
 
 // How many lines the buffer has room for: more than there are on nearly every sheet.
 pub const ROOM: usize = 128;
 
-// The first place whose line does not stand before c.
-pub fn place(buf: &[[u64; 6]; 128], len: usize, c: [u64; 6]) -> usize
+// The place of a line: the first whose line does not stand before it.
+pub fn place(buf: &[[u64; 6]; 128], len: usize, line: LineWords) -> usize
     requires { ⌜ (len ≤ room) × Ordered len (now buf) ⌝ }
-    ensures { λ r. ⌜ Placed (now (buf .entry)) len c r ⌝ }
+    ensures { λ r. ⌜ Placed (now (buf .entry)) len (line .at) r ⌝ }
 {
     let mut low: usize = 0;
     let mut high = len;
     while low < high {
         let mid = low + (high - low) / 2;
-        if below(buf[mid], c) {
+        let at = buf[mid];
+        let middle = LineWords {
+            count: line.count,
+            at,
+        };
+        if below(middle, line) {
             low = mid + 1;
         } else {
             high = mid;
@@ -27,10 +33,10 @@ pub fn place(buf: &[[u64; 6]; 128], len: usize, c: [u64; 6]) -> usize
     low
 }
 
-// At its place c is not there yet, nor past the end of a full buffer.
-pub fn fresh(buf: &[[u64; 6]; 128], len: usize, at: usize, c: [u64; 6]) -> bool
+// At its place the line is not there yet, nor past the end of a full buffer.
+pub fn fresh(buf: &[[u64; 6]; 128], len: usize, at: usize, line: LineWords) -> bool
     requires { ⌜ (at ≤ len) × (len ≤ room) ⌝ }
-    ensures { λ r. ⌜ Says (Fresh (now (buf .entry)) len at c) r ⌝ }
+    ensures { λ r. ⌜ Says (Fresh (now (buf .entry)) len at (line .at)) r ⌝ }
 {
     if at == ROOM {
         return false;
@@ -38,7 +44,12 @@ pub fn fresh(buf: &[[u64; 6]; 128], len: usize, at: usize, c: [u64; 6]) -> bool
     if at == len {
         return true;
     }
-    below(c, buf[at])
+    let words = buf[at];
+    let there = LineWords {
+        count: line.count,
+        at: words,
+    };
+    below(line, there)
 }
 
 // How many lines there are when one more has come: the last one falls out of a full buffer.
@@ -49,10 +60,10 @@ fn grown(len: usize) -> usize
     if len < ROOM { len + 1 } else { len }
 }
 
-// The line c at a place, those from there on one place further.
-pub fn insert(buf: &mut [[u64; 6]; 128], len: usize, at: usize, c: [u64; 6]) -> usize
+// The line at a place, those from there on one place further.
+pub fn insert(buf: &mut [[u64; 6]; 128], len: usize, at: usize, line: LineWords) -> usize
     requires { ⌜ (at ≤ len) × (at < room) × (len ≤ room) × (length (now buf) ≡ room) ⌝ }
-    ensures { λ r. ⌜ Inserted (now (buf .entry)) len at c (now (buf .exit)) r ⌝ }
+    ensures { λ r. ⌜ Inserted (now (buf .entry)) len at (line .at) (now (buf .exit)) r ⌝ }
 {
     let more = grown(len);
     let mut k = more - 1;
@@ -60,6 +71,7 @@ pub fn insert(buf: &mut [[u64; 6]; 128], len: usize, at: usize, c: [u64; 6]) -> 
         buf[k] = buf[k - 1];
         k -= 1;
     }
-    buf[at] = c;
+    let words = line.at;
+    buf[at] = words;
     more
 }

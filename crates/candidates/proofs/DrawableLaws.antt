@@ -11,6 +11,7 @@ use Rattle.maxplus.specs.Line.{line}
 use Rattle.maxplus.proofs.EntryLaws.{inv-num}
 use Rattle.maxplus.proofs.SupLaws.{sup-ext}
 use Rattle.words.specs.Words.{word, entry, far, Close}
+use Rattle.words.specs.declared.LineWords.{LineWords}
 use Rattle.words.proofs.Laws.{entry-word, close-minus}
 use Rattle.sheet.specs.Sheet.{limit}
 use Rattle.sheet.specs.Sizes.{order-limit, star-size, through-size, mark-down, least-up, need-down, ask-size}
@@ -23,11 +24,10 @@ use Rattle.cue.proofs.Bounds.{star-within, through-within, pull-within, least-w
 use Rattle.tables.specs.Held.{meant, meantV, HoldsV, Closely, CloselyV}
 use Rattle.tables.proofs.SquareLaws.{close-within, closely-within, closely-withinV}
 use Rattle.candidates.specs.declared.Marks.{Marks}
-use Rattle.candidates.specs.declared.LineWords.{LineWords}
-use Rattle.candidates.specs.Lines.{line-of, Drawn}
+use Rattle.tables.specs.Lines.{line-of, Carries}
 use Rattle.candidates.specs.Rays.{ray-of}
 use Rattle.candidates.specs.Drawable.{Drawable, MarksNear}
-use Rattle.candidates.proofs.WordLaws.{line-same, written-line}
+use Rattle.tables.proofs.LineLaws.{line-same, written-line}
 use Rattle.cue.specs.Sizes.{size-limit}
 
 -- an entry from −c to c has a word
@@ -41,9 +41,9 @@ normal-same {n} h = line-same (λ i k. ap₂ (λ a b. inv a ⊗ b) (sup-ext n h)
 
 -- the words of a line that is drawn, where y is M* w
 pub drawn-line : {n d : ℕ} (S : Mat) (u : Vec) (w y : List ℕ) (t : ℕ) (r : LineWords) → HoldsV n (mv n S (meantV w)) y →
-    Drawn n d (normal n (ray-of S u (meantV y) t)) r → line-of n (r .at) ≡ line n (normal n (ray-of S u (mv n S (meantV w)) t))
+    Carries n d (normal n (ray-of S u (meantV y) t)) r → line-of n (r .at) ≡ line n (normal n (ray-of S u (mv n S (meantV w)) t))
 unfolding ray-of
-drawn-line S u w y t r h e = written-line (e .written) ∙ normal-same (λ i hi. ap (λ a. S i t ⊕ u t ⊗ a) (h .at i hi))
+drawn-line S u w y t r h e = written-line (e .words .is) ∙ normal-same (λ i hi. ap (λ a. S i t ⊕ u t ⊗ a) (h .at i hi))
 
 module _ {n : ℕ} {P : Cue} {M : Marks} {stars lags needs : List (List ℕ)} (p : Drawable n P M stars lags needs) where
   open Cue P using (panels, lag, floor, due, order)
@@ -68,13 +68,13 @@ module _ {n : ℕ} {P : Cue} {M : Marks} {stars lags needs : List (List ℕ)} (p
         close-minus a b _ (p .asked .at i h ∙ ap₂ _⊗_ (sym ea) (sym (ap inv eb ∙ inv-num _))) ca cb;
   }
 
-  pub ready : MarksNear M stars lags
+  pub ready : MarksNear n M stars lags
   ready = record {
-    few = rw (p .triggers) (p .few);
+    few = p .few;
     few-panels = rw (p .panels) (p .few-panels);
-    starred = rw (p .triggers) stars-close;
-    lagged = rw (p .triggers, p .panels) (closely-within (omega arith) (omega arith) (p .lagged) (p .limited .lags));
-    due = rw (p .triggers) (closely-withinV (omega arith) (omega arith) (p .due) (p .limited .dues));
+    starred = stars-close;
+    lagged = rw (p .panels) (closely-within (omega arith) (omega arith) (p .lagged) (p .limited .lags));
+    due = closely-withinV (omega arith) (omega arith) (p .due) (p .limited .dues);
     asked = rw (p .panels) asks-close;
   }
 

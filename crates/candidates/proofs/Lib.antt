@@ -1,5 +1,4 @@
 -- Laws of lines as words, in the order in which one file builds on another.
-pub mod WordLaws
 pub mod OrderLaws
 pub mod DrawLaws
 pub mod DrawableLaws

@@ -12,8 +12,8 @@ use Rattle.maxplus.proofs.WholeLaws.{up-sub}
 use Rattle.maxplus.proofs.LineLaws.{ltL-irrefl, ltL-trans}
 use Rattle.words.specs.Words.{bias, entry}
 use Rattle.tables.specs.Held.{meantV, Says}
-use Rattle.candidates.specs.Lines.{line-of, Sized}
-use Rattle.candidates.proofs.WordLaws.{line-same}
+use Rattle.tables.specs.Lines.{line-of, Sized}
+use Rattle.tables.proofs.LineLaws.{line-same}
 use Rattle.cue.specs.Sizes.{size-limit}
 
 word-less : (a b : ℕ) → a < b → ltE (entry a) (entry b)

@@ -38,11 +38,11 @@ pub record Drawable (n : ℕ) (P : Cue) (M : Marks) (stars lags needs : List (Li
   -- the masks are the kept triggers of the panels with a floor
   pub masks : (l j : ℕ) → l < M .levels → j < 6 → bit (getD (M .kept) l 0) j ≡ (ltb j n && kept n P (least n P) (getD (floor-panels n P) l 0) j)
 
--- few enough of each, and words close enough to add up
-pub record MarksNear (M : Marks) (stars lags : List (List ℕ)) : Type 0 where
-  pub few : M .triggers ≤ size-limit
+-- few enough of each, and words close enough to add up with a line of n triggers
+pub record MarksNear (n : ℕ) (M : Marks) (stars lags : List (List ℕ)) : Type 0 where
+  pub few : n ≤ size-limit
   pub few-panels : M .panels ≤ size-limit
-  pub starred : Closely (M .triggers) (M .triggers) star-size stars
-  pub lagged : Closely (M .panels) (M .triggers) limit lags
-  pub due : CloselyV (M .triggers) limit (M .due)
+  pub starred : Closely n n star-size stars
+  pub lagged : Closely (M .panels) n limit lags
+  pub due : CloselyV n limit (M .due)
   pub asked : CloselyV (M .panels) ask-size (M .asks)

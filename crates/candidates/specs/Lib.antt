@@ -1,4 +1,3 @@
--- What the words of lines and of their tables say, and step 6 and the test for extreme over entries.
-pub mod Lines
+-- What the words of a sheet's tables say, and step 6 and the test for extreme over entries.
 pub mod Rays
 pub mod Drawable

@@ -3,12 +3,6 @@
 pub mod drawing;
 pub mod order;
 
-// A line, or w: its count of triggers and its six components as words of entries, the unused ones absent.
-pub struct LineWords {
-    pub count: usize,
-    pub at: [u64; 6],
-}
-
 // What a sheet's lines are drawn from, besides its tables. By trigger: pulls, the marks r(j) with the sign turned, and due. By panel: asks,
 // p(i) − Δ, absent without a floor. By level, that is by panel with a floor: kept, the bits of the kept triggers.
 pub struct Marks {

@@ -39,7 +39,8 @@ use Rattle.sheet.specs.Cue.{cue-of, Orderly, orderly?}
 use Rattle.sheet.proofs.Seam.{tightest-cue}
 use Rattle.sheet.specs.Sheet as sheet
 use Rattle.cue.specs.Written.{line-words, list-words}
-use Rattle.timing.specs.Times.{component, some-beyond}
+use Rattle.sheet.specs.Times.{some-beyond}
+use Rattle.timing.specs.Times.{component}
 use Rattle.timing.specs.declared.Timing.{Timing}
 use Rattle.sheet.specs.Ordered.{ordered}
 use Rattle.planning.specs.Planning.{planning, space-after, plan-answer}

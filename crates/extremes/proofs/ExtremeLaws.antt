@@ -18,6 +18,7 @@ use Rattle.maxplus.proofs.EntryLaws.{≼-back, ⊗-nums, num-⊗, inv-num, pres
 use Rattle.maxplus.proofs.FiniteLaws.{dec-×, some-dec}
 use Rattle.maxplus.proofs.SupLaws.{sup-ext}
 use Rattle.words.specs.Words.{entry}
+use Rattle.words.specs.declared.LineWords.{LineWords}
 use Rattle.words.proofs.Laws.{entry-inj}
 use Rattle.cue.specs.Cue.{Cue, timing, overdue, landing}
 use Rattle.cue.specs.Method.{least, ask}
@@ -27,11 +28,11 @@ use Rattle.cue.specs.Closures.{Foremost, Fires, Closure, Common}
 use Rattle.tables.specs.Held.{meant, meantV, HoldsV, Says}
 use Rattle.candidates.specs.declared.Marks.{Marks}
 use Rattle.trigger_sets.specs.Sets.{Has, SetOf}
-use Rattle.candidates.specs.Lines.{line-of}
+use Rattle.tables.specs.Lines.{line-of}
 use Rattle.candidates.specs.Rays.{HeldSets, Tight, TightSets, Inside, Closed}
 use Rattle.candidates.specs.Drawable.{Drawable}
 use Rattle.trigger_sets.proofs.SetLaws.{set-inside, set-some, set-empty, never-inside}
-use Rattle.candidates.proofs.WordLaws.{line-at}
+use Rattle.tables.proofs.LineLaws.{line-at}
 
 asked : (a : E) (z : ℤ) → Present (a ⊗ num z) ↔ Present a
 asked a z = (
@@ -175,9 +176,9 @@ module _ (n : ℕ) (P : Cue) (M : Marks) (stars lags needs : List (List ℕ)) (p
                 go true f g = common-from (f refl)
                 go false f g = common-to (g refl)
 
--- the marks tell n
-pub extreme-own : {n : ℕ} {P : Cue} {M : Marks} {stars lags needs : List (List ℕ)} (w : List ℕ) (r : Bool) →
-    (Drawable (M .triggers) P M stars lags needs → Says (Common (M .triggers) P (least (M .triggers) P) (line-of (M .triggers) w)) r) →
-    Drawable n P M stars lags needs → Says (Common n P (least n P) (line-of n w)) r
-extreme-own {n} {P} {M} {stars} {lags} {needs} w r f p =
-    subst (λ n. Drawable n P M stars lags needs → Says (Common n P (least n P) (line-of n w)) r) (p .triggers) f p
+-- the line's count is the marks', which tell n
+pub extreme-own : {n : ℕ} {P : Cue} {M : Marks} {stars lags needs : List (List ℕ)} (l : LineWords) (r : Bool) → l .count ≡ M .triggers →
+    (Drawable (l .count) P M stars lags needs → Says (Common (l .count) P (least (l .count) P) (line-of (l .count) (l .at))) r) →
+    Drawable n P M stars lags needs → Says (Common n P (least n P) (line-of n (l .at))) r
+extreme-own {n} {P} {M} {stars} {lags} {needs} l r e f p =
+    subst (λ n. Drawable n P M stars lags needs → Says (Common n P (least n P) (line-of n (l .at))) r) (e ∙ p .triggers) f p

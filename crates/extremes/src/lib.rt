@@ -12,15 +12,15 @@ ghost use Rattle.sheet.specs.Sheet.{limit};
 ghost use Rattle.sheet.specs.Sizes.{star-size, ask-size, shifted-size, late-size};
 ghost use Rattle.tables.specs.Held.{meant, meantV, HoldsV, Closely, CloselyV, Says};
 ghost use Rattle.trigger_sets.specs.Sets.{Has, SetOf};
-ghost use Rattle.candidates.specs.Lines.{line-of};
+ghost use Rattle.tables.specs.Lines.{line-of};
 ghost use Rattle.candidates.specs.Rays.{Held, HeldSets, TightSets, Reaching, Inside, Closed};
 ghost use Rattle.candidates.specs.Drawable.{Drawable, MarksNear};
 ghost use Rattle.cue.specs.Sizes.{size-limit};
 use crate::sums::places;
 use crate::sums::reached;
-use candidates::LineWords;
 use candidates::Marks;
 use tables::largest::largest;
+use words::LineWords;
 
 mod sums;
 
@@ -29,61 +29,64 @@ const NEVER: u8 = 64;
 
 // Whether some trigger is in the closure of every trigger of the line.
 pub fn extreme(line: LineWords, marks: Marks, star: &[[u64; 6]; 6], lag: &[[u64; 6]; 6]) -> bool
-    requires { ⌜ MarksNear marks (now star) (now lag) × CloselyV (marks .triggers) shifted-size (line .at) ⌝ }
+    requires { ⌜ MarksNear (line .count) marks (now star) (now lag) × (line .count ≡ marks .triggers)
+        × CloselyV (line .count) shifted-size (line .at) ⌝ }
     ensures { λ r. ⌜ ((n : ℕ) (P : Cue) (needs : List (List ℕ)) → Drawable n P marks (now (star .entry)) (now (lag .entry)) needs →
         Says (Common n P (least n P) (line-of n (line .at))) r) ⌝ }
 {
-    let n = marks.triggers;
-    let at = line.at;
     let due = marks.due;
     let asks = marks.asks;
-    let late = lateness(at, due, n);
-    let most = largest(late, n);
-    let held = held_sets(star, at, n);
-    let front = joined(held, late, most, n);
-    let tight = tight_sets(lag, asks, at, most, marks.panels, n);
-    common(at, held, tight, front, marks.panels, n) != 0
+    let late = lateness(line, due);
+    let most = largest(late, line.count);
+    let held = held_sets(star, line);
+    let front = joined(held, late, most, line.count);
+    let tight = tight_sets(lag, asks, line, most, marks.panels);
+    common(line, held, tight, front, marks.panels) != 0
 }
 
 // c(j) − q(j)
-fn lateness(at: [u64; 6], due: [u64; 6], n: usize) -> [u64; 6]
-    requires { ⌜ (n ≤ size-limit) × CloselyV n shifted-size at × CloselyV n limit due ⌝ }
-    ensures is { λ r. ⌜ HoldsV n (λ j. meantV at j ⊗ inv (meantV due j)) r ⌝ }
-    ensures close { λ r. ⌜ CloselyV n late-size r ⌝ }
+fn lateness(line: LineWords, due: [u64; 6]) -> [u64; 6]
+    requires { ⌜ (line .count ≤ size-limit) × CloselyV (line .count) shifted-size (line .at) × CloselyV (line .count) limit due ⌝ }
+    ensures is { λ r. ⌜ HoldsV (line .count) (λ j. meantV (line .at) j ⊗ inv (meantV due j)) r ⌝ }
+    ensures close { λ r. ⌜ CloselyV (line .count) late-size r ⌝ }
 {
+    let n = line.count;
     let mut r = [0u64; 6];
     let mut j: usize = 0;
     while j < n && j < 6 {
-        r[j] = words::minus(at[j], due[j]);
+        r[j] = words::minus(line.at[j], due[j]);
         j += 1;
     }
     r
 }
 
 // A(k) for each trigger k.
-fn held_sets(star: &[[u64; 6]; 6], at: [u64; 6], n: usize) -> [u8; 6]
-    requires { ⌜ (n ≤ size-limit) × Closely n n star-size (now star) × CloselyV n shifted-size at ⌝ }
-    ensures { λ r. ⌜ HeldSets n (meant (now (star .entry))) (meantV at) r ⌝ }
+fn held_sets(star: &[[u64; 6]; 6], line: LineWords) -> [u8; 6]
+    requires { ⌜ (line .count ≤ size-limit) × Closely (line .count) (line .count) star-size (now star)
+        × CloselyV (line .count) shifted-size (line .at) ⌝ }
+    ensures { λ r. ⌜ HeldSets (line .count) (meant (now (star .entry))) (meantV (line .at)) r ⌝ }
 {
+    let n = line.count;
     let mut r = [0u8; 6];
     let mut k: usize = 0;
     while k < n && k < 6 {
-        r[k] = held_by(star, k, at, n);
+        r[k] = held_by(star, k, line);
         k += 1;
     }
     r
 }
 
 // A(k): the j with M*(k,j) + c(j) = c(k). No closure asks for that of an absent c(k).
-fn held_by(star: &[[u64; 6]; 6], k: usize, at: [u64; 6], n: usize) -> u8
-    requires { ⌜ (n ≤ size-limit) × (k < n) × Closely n n star-size (now star) × CloselyV n shifted-size at ⌝ }
-    ensures { λ r. ⌜ SetOf (λ j. Held n (meant (now (star .entry))) (meantV at) k j) r ⌝ }
+fn held_by(star: &[[u64; 6]; 6], k: usize, line: LineWords) -> u8
+    requires { ⌜ (line .count ≤ size-limit) × (k < line .count) × Closely (line .count) (line .count) star-size (now star)
+        × CloselyV (line .count) shifted-size (line .at) ⌝ }
+    ensures { λ r. ⌜ SetOf (λ j. Held (line .count) (meant (now (star .entry))) (meantV (line .at)) k j) r ⌝ }
 {
-    let word = at[k];
+    let word = line.at[k];
     if !words::present(word) {
         return 0;
     }
-    places(star, k, at, word, n)
+    places(star, k, line, word)
 }
 
 // A(R): what is held by the triggers that reach the largest lateness.
@@ -106,35 +109,33 @@ fn joined(held: [u8; 6], late: [u64; 6], most: u64, n: usize) -> u8
 fn tight_sets(
     lag: &[[u64; 6]; 6],
     asks: [u64; 6],
-    at: [u64; 6],
+    line: LineWords,
     most: u64,
     panels: usize,
-    n: usize,
 ) -> [u8; 6]
-    requires { ⌜ (n ≤ size-limit) × (panels ≤ size-limit) × Closely panels n limit (now lag) × CloselyV panels ask-size asks ×
-        CloselyV n shifted-size at
-        × Close late-size most ⌝ }
-    ensures { λ r. ⌜ TightSets panels n (meant (now (lag .entry))) (meantV asks) (meantV at) (entry most) r ⌝ }
+    requires { ⌜ (line .count ≤ size-limit) × (panels ≤ size-limit) × Closely panels (line .count) limit (now lag)
+        × CloselyV panels ask-size asks × CloselyV (line .count) shifted-size (line .at) × Close late-size most ⌝ }
+    ensures { λ r. ⌜ TightSets panels (line .count) (meant (now (lag .entry))) (meantV asks) (meantV (line .at)) (entry most) r ⌝ }
 {
     let mut r = [NEVER; 6];
     let mut i: usize = 0;
     while i < panels {
-        r[i] = reaching(lag, i, asks[i], at, most, n);
+        r[i] = reaching(lag, i, asks[i], line, most);
         i += 1;
     }
     r
 }
 
 // A panel with a floor is tight when it lands just where Δ asks.
-fn reaching(lag: &[[u64; 6]; 6], i: usize, ask: u64, at: [u64; 6], most: u64, n: usize) -> u8
-    requires { ⌜ (i < 6) × (n ≤ size-limit) × Closely (i + 1) n limit (now lag) × Close ask-size ask × CloselyV n shifted-size at
-        × Close late-size most ⌝ }
-    ensures { λ r. ⌜ Reaching n (λ j. meant (now (lag .entry)) i j ⊗ meantV at j) (entry ask) (entry most) r ⌝ }
+fn reaching(lag: &[[u64; 6]; 6], i: usize, ask: u64, line: LineWords, most: u64) -> u8
+    requires { ⌜ (i < 6) × (line .count ≤ size-limit) × Closely (i + 1) (line .count) limit (now lag) × Close ask-size ask
+        × CloselyV (line .count) shifted-size (line .at) × Close late-size most ⌝ }
+    ensures { λ r. ⌜ Reaching (line .count) (λ j. meant (now (lag .entry)) i j ⊗ meantV (line .at) j) (entry ask) (entry most) r ⌝ }
 {
     if !words::present(ask) {
         return NEVER;
     }
-    let set = reached(lag, i, at, words::plus(ask, most), n);
+    let set = reached(lag, i, line, words::plus(ask, most));
     if set == 0 { NEVER } else { set }
 }
 
@@ -166,14 +167,15 @@ fn closed(held: u8, tight: [u8; 6], front: u8, panels: usize) -> u8
 }
 
 // The triggers in the closure of every present component. An empty set stays empty, so it ends the loop.
-fn common(at: [u64; 6], held: [u8; 6], tight: [u8; 6], front: u8, panels: usize, n: usize) -> u8
-    requires { ⌜ (n ≤ size-limit) × (panels ≤ size-limit) × ((k : ℕ) → k < n → getD held k 0 < 64) × (front < 64) ⌝ }
-    ensures { λ r. ⌜ SetOf (λ j. (k : ℕ) → k < n → Present (meantV at k) → Closed tight panels front (getD held k 0) j) r ⌝ }
+fn common(line: LineWords, held: [u8; 6], tight: [u8; 6], front: u8, panels: usize) -> u8
+    requires { ⌜ (line .count ≤ size-limit) × (panels ≤ size-limit) × ((k : ℕ) → k < line .count → getD held k 0 < 64) × (front < 64) ⌝ }
+    ensures { λ r. ⌜ SetOf (λ j. (k : ℕ) → k < line .count → Present (meantV (line .at) k) → Closed tight panels front (getD held k 0) j) r ⌝ }
 {
+    let n = line.count;
     let mut all: u8 = 63;
     let mut k: usize = 0;
     while k < n && k < 6 {
-        if words::present(at[k]) {
+        if words::present(line.at[k]) {
             all = all & closed(held[k], tight, front, panels);
             if all == 0 {
                 return 0;

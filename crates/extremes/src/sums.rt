@@ -1,4 +1,4 @@
-// Sets of triggers as six bits in a byte, bit 0 for trigger 1: which sums of a table's row i and x have a word. No sum is stored.
+// Sets of triggers as six bits in a byte, bit 0 for trigger 1: which sums of a table's row i and a line have a word. No sum is stored.
 ghost use mathlib.Core.Path.{_≡_};
 ghost use Prim.Native.Nat.{_+_, _≤_, _<_};
 ghost use Rattle.maxplus.specs.Entry.{_⊗_};
@@ -7,17 +7,19 @@ ghost use Rattle.tables.specs.Held.{meant, meantV, Closely, CloselyV};
 ghost use Rattle.trigger_sets.specs.Sets.{SetOf};
 ghost use Rattle.candidates.specs.Rays.{ReachesTop};
 ghost use Rattle.cue.specs.Sizes.{size-limit};
+use words::LineWords;
 
-// The places below n where the sum has the word.
-pub fn places(table: &[[u64; 6]; 6], i: usize, x: [u64; 6], word: u64, n: usize) -> u8
-    requires { ⌜ (n ≤ size-limit) × (i < 6) × Closely (i + 1) n far (now table) × CloselyV n far x ⌝ }
-    ensures { λ r. ⌜ SetOf (λ j. (j < n) × (meant (now (table .entry)) i j ⊗ meantV x j ≡ entry word)) r ⌝ }
+// The places where the sum has the word.
+pub fn places(table: &[[u64; 6]; 6], i: usize, line: LineWords, word: u64) -> u8
+    requires { ⌜ (line .count ≤ size-limit) × (i < 6) × Closely (i + 1) (line .count) far (now table) × CloselyV (line .count) far (line .at) ⌝ }
+    ensures { λ r. ⌜ SetOf (λ j. (j < line .count) × (meant (now (table .entry)) i j ⊗ meantV (line .at) j ≡ entry word)) r ⌝ }
 {
+    let n = line.count;
     let mut set: u8 = 0;
     let mut bit: u8 = 1;
     let mut j: usize = 0;
     while j < n && j < 6 {
-        if words::plus(table[i][j], x[j]) == word {
+        if words::plus(table[i][j], line.at[j]) == word {
             set = set | bit;
         }
         bit += bit;
@@ -27,15 +29,16 @@ pub fn places(table: &[[u64; 6]; 6], i: usize, x: [u64; 6], word: u64, n: usize)
 }
 
 // The same, but none where some sum is beyond the word: the first such sum ends the search.
-pub fn reached(table: &[[u64; 6]; 6], i: usize, x: [u64; 6], word: u64, n: usize) -> u8
-    requires { ⌜ (n ≤ size-limit) × (i < 6) × Closely (i + 1) n far (now table) × CloselyV n far x ⌝ }
-    ensures { λ r. ⌜ SetOf (λ j. ReachesTop n (λ j. meant (now (table .entry)) i j ⊗ meantV x j) (entry word) j) r ⌝ }
+pub fn reached(table: &[[u64; 6]; 6], i: usize, line: LineWords, word: u64) -> u8
+    requires { ⌜ (line .count ≤ size-limit) × (i < 6) × Closely (i + 1) (line .count) far (now table) × CloselyV (line .count) far (line .at) ⌝ }
+    ensures { λ r. ⌜ SetOf (λ j. ReachesTop (line .count) (λ j. meant (now (table .entry)) i j ⊗ meantV (line .at) j) (entry word) j) r ⌝ }
 {
+    let n = line.count;
     let mut set: u8 = 0;
     let mut bit: u8 = 1;
     let mut j: usize = 0;
     while j < n && j < 6 {
-        let sum = words::plus(table[i][j], x[j]);
+        let sum = words::plus(table[i][j], line.at[j]);
         if word < sum {
             return 0;
         }

@@ -21,12 +21,12 @@ use Rattle.cue.specs.Cue.{Cue}
 use Rattle.cue.specs.Method.{least, lines}
 use Rattle.cue.specs.Closures.{Common}
 use Rattle.cue.proofs.Covering.{Covering, lines-covered}
+use Rattle.words.specs.declared.LineWords.{LineWords}
 use Rattle.sheet.specs.Sizes.{shifted-size}
 use Rattle.tables.specs.Held.{meant, meantV, HoldsV}
-use Rattle.candidates.specs.Lines.{line-of, Sized, Drawn}
+use Rattle.tables.specs.Lines.{line-of, Sized, Carries}
 use Rattle.candidates.specs.Rays.{ray-of}
 use Rattle.candidates.specs.Drawable.{Drawable}
-use Rattle.candidates.specs.declared.LineWords as candidates
 use Rattle.candidates.specs.declared.Marks.{Marks}
 use Rattle.candidates.proofs.OrderLaws.{below-says}
 use Rattle.candidates.proofs.DrawableLaws.{drawn-line}
@@ -144,33 +144,43 @@ first-all {n} {P} np C v last = ap (take room) (sorted-eq (ltL n) (strict n) (si
         let (k, q) = lines-covered n P np C v c .0 i in in-sift (ltL n) (strict n) (wanted? n P last) C c k (l, q)
 
 -- ---- the lines of a bound: those of the first t triggers have been considered. The words y of M* w tell of the bound w, which may be any
-pub record Drawing (M : Marks) (stars lags : List (List ℕ)) (last y : List ℕ) (len₀ : ℕ) (buf₀ : List (List ℕ)) (t len : ℕ)
+pub record Drawing (M : Marks) (stars lags : List (List ℕ)) (last : List ℕ) (y : LineWords) (len₀ : ℕ) (buf₀ : List (List ℕ)) (t len : ℕ)
     (buf : List (List ℕ)) : Type 0 where
+  pub counted : y .count ≡ M .triggers
   pub so-far : t ≤ M .triggers
   pub gathered : (P : Cue) (needs : List (List ℕ)) (C : List (Line (M .triggers))) (w : List ℕ) →
-      Drawable (M .triggers) P M stars lags needs → HoldsV (M .triggers) (mv (M .triggers) (meant stars) (meantV w)) y →
+      Drawable (M .triggers) P M stars lags needs → HoldsV (M .triggers) (mv (M .triggers) (meant stars) (meantV w)) (y .at) →
       Gathered (M .triggers) P last C len₀ buf₀ →
       Gathered (M .triggers) P last (C ++ drawn (M .triggers) (meant stars) (meantV (M .pulls)) t w) len buf
 
-module _ {M : Marks} {stars lags : List (List ℕ)} {last y : List ℕ} {len₀ : ℕ} {buf₀ : List (List ℕ)} where
-  pub drawing-start : Drawing M stars lags last y len₀ buf₀ 0 len₀ buf₀
-  drawing-start = record {
+module _ {M : Marks} {stars lags : List (List ℕ)} {last : List ℕ} {y : LineWords} {len₀ : ℕ} {buf₀ : List (List ℕ)} where
+  pub drawing-start : y .count ≡ M .triggers → Drawing M stars lags last y len₀ buf₀ 0 len₀ buf₀
+  drawing-start e = record {
+    counted = e;
     so-far = omega arith;
     gathered = λ P needs C w p h g. gathered-as g (drawn-none (M .triggers) (meant stars) (meantV (M .pulls)) C w);
   }
 
   module _ {t len : ℕ} {buf : List (List ℕ)} (s : Drawing M stars lags last y len₀ buf₀ t len buf) where
-    pub drawing-more : t < M .triggers → {r : candidates.LineWords} {more : ℕ} {after : List (List ℕ)} →
-        Drawn (M .triggers) shifted-size (normal (M .triggers) (ray-of (meant stars) (meantV (M .pulls)) (meantV y) t)) r →
+    -- the candidate of the next trigger, by the marks' count
+    abbrev Next : LineWords → Type 0
+    Next r = Carries (M .triggers) shifted-size (normal (M .triggers) (ray-of (meant stars) (meantV (M .pulls)) (meantV (y .at)) t)) r
+
+    pub next-drawn : {r : LineWords} →
+        Carries (y .count) shifted-size (normal (y .count) (ray-of (meant stars) (meantV (M .pulls)) (meantV (y .at)) t)) r → Next r
+    next-drawn d = rw (s .counted) at d
+
+    pub drawing-more : t < M .triggers → {r : LineWords} {more : ℕ} {after : List (List ℕ)} → Next r →
         ((P : Cue) (needs : List (List ℕ)) (C : List (Line (M .triggers))) → Drawable (M .triggers) P M stars lags needs →
         Gathered (M .triggers) P last C len buf → Gathered (M .triggers) P last (C ++ line-of (M .triggers) (r .at) ∷ []) more after) →
         Drawing M stars lags last y len₀ buf₀ (t + 1) more after
     drawing-more q {r} e f = record {
+      counted = s .counted;
       so-far = omega arith;
       gathered = λ P needs C w p h g.
           let D = C ++ drawn (M .triggers) (meant stars) (meantV (M .pulls)) t w in
           gathered-as (f P needs D p (s .gathered P needs C w p h g))
-          (ap (λ c. D ++ c ∷ []) (drawn-line (meant stars) (meantV (M .pulls)) w y t r h e) ∙
+          (ap (λ c. D ++ c ∷ []) (drawn-line (meant stars) (meantV (M .pulls)) w (y .at) t r h e) ∙
           drawn-more (M .triggers) (meant stars) (meantV (M .pulls)) C w t);
     }
 

@@ -28,10 +28,10 @@ use Rattle.cue.proofs.Covering.{Covering}
 use Rattle.tables.specs.Held.{cell, meant, meantV}
 use Rattle.tables.proofs.Loops.{blank-word}
 use Rattle.trigger_sets.specs.Sets.{Has}
-use Rattle.candidates.specs.Lines.{line-of}
+use Rattle.tables.specs.Lines.{line-of}
 use Rattle.candidates.specs.Drawable.{Drawable}
 use Rattle.candidates.specs.declared.Marks.{Marks}
-use Rattle.candidates.proofs.WordLaws.{blank, sized-none, sized-set}
+use Rattle.tables.proofs.LineLaws.{blank, sized-none, sized-set}
 use Rattle.candidates.proofs.DrawableLaws.{needs-close, drawn-from}
 use Rattle.buffer.specs.Buffer.{room, row, held}
 use Rattle.bounds.specs.Bounds.{places, Under, BoundRaised, Expanded}

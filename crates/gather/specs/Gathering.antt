@@ -17,7 +17,7 @@ use Rattle.cue.proofs.Closure.{common?}
 use Rattle.sheet.specs.Sizes.{need-down}
 use Rattle.tables.specs.Held.{meant, meantV, CloselyV}
 use Rattle.trigger_sets.specs.Sets.{Has}
-use Rattle.candidates.specs.Lines.{line-of, Sized}
+use Rattle.tables.specs.Lines.{line-of, Sized}
 use Rattle.candidates.specs.Rays.{ray-of}
 use Rattle.candidates.specs.Drawable.{Drawable}
 use Rattle.candidates.specs.declared.Marks.{Marks}

@@ -7,7 +7,7 @@ ghost use Rattle.maxplus.specs.Line as maxplus;
 ghost use Rattle.cue.specs.Cue.{Cue};
 ghost use Rattle.sheet.specs.Sizes.{need-down, shifted-size};
 ghost use Rattle.tables.specs.Held.{meant, meantV, CloselyV};
-ghost use Rattle.candidates.specs.Lines.{Sized, line-of};
+ghost use Rattle.tables.specs.Lines.{Sized, line-of};
 ghost use Rattle.candidates.specs.Drawable.{Drawable};
 ghost use Rattle.buffer.specs.Buffer.{room, row};
 ghost use Rattle.bounds.specs.Bounds.{places};
@@ -16,75 +16,71 @@ use bounds::expand;
 use buffer::fresh;
 use buffer::insert;
 use buffer::place;
-use candidates::LineWords;
 use candidates::Marks;
 use candidates::drawing::candidate;
 use candidates::drawing::starred;
 use candidates::order::below;
 use extremes::extreme;
+use words::LineWords;
 
 // Puts a line in at its place if it is above the last one, new and extreme. Most lines are there already, so a line is looked up before it
 // is tested.
 fn consider(
     buf: &mut [[u64; 6]; 128],
     len: usize,
-    last: [u64; 6],
+    last: LineWords,
     line: LineWords,
     marks: Marks,
     star: &[[u64; 6]; 6],
     lag: &[[u64; 6]; 6],
 ) -> usize
     requires { ⌜ ((P : Cue) × (needs : List (List ℕ)) × (C : List (maxplus.Line (marks .triggers)))
-        × Drawable (marks .triggers) P marks (now star) (now lag) needs × Gathered (marks .triggers) P last C len (now buf))
-        × Sized (marks .triggers) last × Sized (marks .triggers) (line .at) × CloselyV (marks .triggers) shifted-size (line .at) ⌝ }
+        × Drawable (marks .triggers) P marks (now star) (now lag) needs × Gathered (marks .triggers) P (last .at) C len (now buf))
+        × Sized (marks .triggers) (last .at) × (line .count ≡ marks .triggers) × Sized (marks .triggers) (line .at)
+        × CloselyV (marks .triggers) shifted-size (line .at) ⌝ }
     ensures { λ r. ⌜ ((P : Cue) (needs : List (List ℕ)) (C : List (maxplus.Line (marks .triggers))) →
         Drawable (marks .triggers) P marks (now (star .entry)) (now (lag .entry)) needs →
-        Gathered (marks .triggers) P last C len (now (buf .entry)) →
-        Gathered (marks .triggers) P last (C ++ line-of (marks .triggers) (line .at) ∷ []) r (now (buf .exit))) ⌝ }
+        Gathered (marks .triggers) P (last .at) C len (now (buf .entry)) →
+        Gathered (marks .triggers) P (last .at) (C ++ line-of (marks .triggers) (line .at) ∷ []) r (now (buf .exit))) ⌝ }
 {
-    let c = line.at;
-    if !below(last, c) {
+    if !below(last, line) {
         return len;
     }
-    let at = place(buf, len, c);
-    if !fresh(buf, len, at, c) {
+    let at = place(buf, len, line);
+    if !fresh(buf, len, at, line) {
         return len;
     }
     if !extreme(line, marks, star, lag) {
         return len;
     }
-    insert(buf, len, at, c)
+    insert(buf, len, at, line)
 }
 
 // The candidates of one bound.
 fn consider_bound(
     buf: &mut [[u64; 6]; 128],
     len: usize,
-    last: [u64; 6],
-    bound: [u64; 6],
+    last: LineWords,
+    bound: LineWords,
     marks: Marks,
     star: &[[u64; 6]; 6],
     lag: &[[u64; 6]; 6],
 ) -> usize
     requires { ⌜ ((P : Cue) × (needs : List (List ℕ)) × (C : List (maxplus.Line (marks .triggers)))
-        × Drawable (marks .triggers) P marks (now star) (now lag) needs × Gathered (marks .triggers) P last C len (now buf))
-        × Sized (marks .triggers) last × CloselyV (marks .triggers) need-down bound ⌝ }
+        × Drawable (marks .triggers) P marks (now star) (now lag) needs × Gathered (marks .triggers) P (last .at) C len (now buf))
+        × Sized (marks .triggers) (last .at) × (bound .count ≡ marks .triggers) × CloselyV (marks .triggers) need-down (bound .at) ⌝ }
     ensures { λ r. ⌜ ((P : Cue) (needs : List (List ℕ)) (C : List (maxplus.Line (marks .triggers))) →
         Drawable (marks .triggers) P marks (now (star .entry)) (now (lag .entry)) needs →
-        Gathered (marks .triggers) P last C len (now (buf .entry)) → Gathered (marks .triggers) P last
-        (C ++ drawn (marks .triggers) (meant (now (star .entry))) (meantV (marks .pulls)) (marks .triggers) bound) r (now (buf .exit))) ⌝ }
+        Gathered (marks .triggers) P (last .at) C len (now (buf .entry)) → Gathered (marks .triggers) P (last .at)
+        (C ++ drawn (marks .triggers) (meant (now (star .entry))) (meantV (marks .pulls)) (marks .triggers) (bound .at)) r (now (buf .exit))) ⌝ }
 {
-    let n = marks.triggers;
+    let n = bound.count;
     let pulls = marks.pulls;
-    let w = LineWords {
-        count: n,
-        at: bound,
-    };
-    let w_starred = starred(star, w, n);
+    let w_starred = starred(star, bound);
     let mut held = len;
     let mut t: usize = 0;
     while t < n {
-        let line = candidate(star, pulls, w_starred, n, t);
+        let line = candidate(star, pulls, w_starred, t);
         held = consider(buf, held, last, line, marks, star, lag);
         t += 1;
     }
@@ -95,7 +91,7 @@ fn consider_bound(
 fn consider_bounds(
     buf: &mut [[u64; 6]; 128],
     len: usize,
-    last: [u64; 6],
+    last: LineWords,
     set: &[[u64; 6]; 64],
     many: usize,
     marks: Marks,
@@ -103,18 +99,23 @@ fn consider_bounds(
     lag: &[[u64; 6]; 6],
 ) -> usize
     requires { ⌜ ((P : Cue) × (needs : List (List ℕ)) × (C : List (maxplus.Line (marks .triggers)))
-        × Drawable (marks .triggers) P marks (now star) (now lag) needs × Gathered (marks .triggers) P last C len (now buf))
-        × Sized (marks .triggers) last × (many ≤ places) × (length (now set) ≡ places)
+        × Drawable (marks .triggers) P marks (now star) (now lag) needs × Gathered (marks .triggers) P (last .at) C len (now buf))
+        × Sized (marks .triggers) (last .at) × (many ≤ places) × (length (now set) ≡ places)
         × ((k : ℕ) → k < many → CloselyV (marks .triggers) need-down (row (now set) k)) ⌝ }
     ensures { λ r. ⌜ ((P : Cue) (needs : List (List ℕ)) (C : List (maxplus.Line (marks .triggers))) →
         Drawable (marks .triggers) P marks (now (star .entry)) (now (lag .entry)) needs →
-        Gathered (marks .triggers) P last C len (now (buf .entry)) → Gathered (marks .triggers) P last
+        Gathered (marks .triggers) P (last .at) C len (now (buf .entry)) → Gathered (marks .triggers) P (last .at)
         (C ++ drawn-all (marks .triggers) (meant (now (star .entry))) (meantV (marks .pulls)) (take many (now (set .entry)))) r (now (buf .exit))) ⌝ }
 {
     let mut held = len;
     let mut k: usize = 0;
     while k < many {
-        held = consider_bound(buf, held, last, set[k], marks, star, lag);
+        let at = set[k];
+        let bound = LineWords {
+            count: marks.triggers,
+            at,
+        };
+        held = consider_bound(buf, held, last, bound, marks, star, lag);
         k += 1;
     }
     held
@@ -132,7 +133,7 @@ fn part_end(from: usize, many: usize) -> usize
 fn spread(
     buf: &mut [[u64; 6]; 128],
     len: usize,
-    last: [u64; 6],
+    last: LineWords,
     set: &[[u64; 6]; 64],
     from: usize,
     many: usize,
@@ -143,10 +144,10 @@ fn spread(
     needs: &[[u64; 6]; 6],
 ) -> usize
     requires { ⌜ ((P : Cue) × (C : List (maxplus.Line (marks .triggers)))
-        × Drawable (marks .triggers) P marks (now star) (now lag) (now needs) × Gathered (marks .triggers) P last C len (now buf))
-        × Sized (marks .triggers) last × (many ≤ places) × (length (now set) ≡ places) × (level ≤ marks .levels)
+        × Drawable (marks .triggers) P marks (now star) (now lag) (now needs) × Gathered (marks .triggers) P (last .at) C len (now buf))
+        × Sized (marks .triggers) (last .at) × (many ≤ places) × (length (now set) ≡ places) × (level ≤ marks .levels)
         × Bounds marks (now needs) level (now set) many ⌝ }
-    ensures { λ r. ⌜ Spread marks (now (star .entry)) (now (lag .entry)) (now (needs .entry)) last (now (set .entry)) from many level
+    ensures { λ r. ⌜ Spread marks (now (star .entry)) (now (lag .entry)) (now (needs .entry)) (last .at) (now (set .entry)) from many level
         len (now (buf .entry)) r (now (buf .exit)) ⌝ }
 {
     if level == marks.levels {
@@ -199,16 +200,16 @@ fn spread(
 // are the bound of no panel.
 pub fn gather(
     buf: &mut [[u64; 6]; 128],
-    last: [u64; 6],
+    last: LineWords,
     marks: Marks,
     star: &[[u64; 6]; 6],
     lag: &[[u64; 6]; 6],
     needs: &[[u64; 6]; 6],
 ) -> usize
-    requires { ⌜ ((P : Cue) × Drawable (marks .triggers) P marks (now star) (now lag) (now needs)) × Sized (marks .triggers) last ×
+    requires { ⌜ ((P : Cue) × Drawable (marks .triggers) P marks (now star) (now lag) (now needs)) × Sized (marks .triggers) (last .at) ×
         (length (now buf) ≡ room) ⌝ }
     ensures { λ r. ⌜ ((P : Cue) → Drawable (marks .triggers) P marks (now (star .entry)) (now (lag .entry)) (now (needs .entry)) →
-        Filled (marks .triggers) P last r (now (buf .exit))) ⌝ }
+        Filled (marks .triggers) P (last .at) r (now (buf .exit))) ⌝ }
 {
     let set = [[0u64; 6]; 64];
     spread(buf, 0, last, &set, 0, 1, 0, marks, star, lag, needs)

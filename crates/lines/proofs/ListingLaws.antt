@@ -27,10 +27,10 @@ use Rattle.sheet.specs.Sizes.{order-limit, line-down}
 use Rattle.tables.specs.Held.{meantV, CloselyV}
 use Rattle.cue.proofs.Few as few
 use Rattle.cue.proofs.Few.{most}
-use Rattle.candidates.specs.Lines.{line-of, Sized}
+use Rattle.tables.specs.Lines.{line-of, Sized}
 use Rattle.candidates.specs.Drawable.{Drawable}
 use Rattle.candidates.specs.declared.Marks.{Marks}
-use Rattle.candidates.proofs.WordLaws.{blank, sized-none, line-at}
+use Rattle.tables.proofs.LineLaws.{blank, sized-none, line-at}
 use Rattle.buffer.specs.Buffer.{room, row, held}
 use Rattle.gather.specs.Gathering.{rest, Filled}
 use Rattle.buffer.proofs.ListLaws.{in-take}

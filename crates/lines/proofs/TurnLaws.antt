@@ -10,9 +10,9 @@ use Rattle.cue.specs.Cue.{Cue}
 use Rattle.cue.specs.Method.{lines}
 use Rattle.cue.specs.Written.{line-size, list-words}
 use Rattle.cue.proofs.WrittenLaws.{list-words-length}
-use Rattle.candidates.specs.Lines.{line-of, Sized}
+use Rattle.tables.specs.Lines.{line-of, Sized}
 use Rattle.candidates.specs.declared.Marks.{Marks}
-use Rattle.candidates.proofs.WordLaws.{blank, sized-none}
+use Rattle.tables.proofs.LineLaws.{blank, sized-none}
 use Rattle.buffer.specs.Buffer.{room, row, held}
 use Rattle.buffer.specs.Space.{laid}
 use Rattle.candidates.specs.Drawable.{Drawable}

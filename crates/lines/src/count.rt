@@ -7,6 +7,7 @@ ghost use Rattle.candidates.specs.Drawable.{Drawable};
 use buffer::ROOM;
 use candidates::Marks;
 use gather::gather;
+use words::LineWords;
 
 pub fn count_lines(
     marks: Marks,
@@ -19,7 +20,10 @@ pub fn count_lines(
         r ≡ length (lines (marks .triggers) P)) ⌝ }
 {
     let mut buf = [[0u64; 6]; 128];
-    let mut last = [0u64; 6];
+    let mut last = LineWords {
+        count: marks.triggers,
+        at: [0u64; 6],
+    };
     let mut count: usize = 0;
     loop {
         let len = gather(&mut buf, last, marks, star, lag, needs);
@@ -27,6 +31,7 @@ pub fn count_lines(
         if len < ROOM {
             return count;
         }
-        last = buf[ROOM - 1];
+        let words = buf[ROOM - 1];
+        last.at = words;
     }
 }

@@ -10,6 +10,7 @@ use buffer::ROOM;
 use candidates::Marks;
 use gather::gather;
 use words::LINE_SIZE;
+use words::LineWords;
 
 mod count;
 mod write;
@@ -35,7 +36,11 @@ pub fn list(
     let mut buf = [[0u64; 6]; 128];
     let n = marks.triggers;
     let room = out.len() / LINE_SIZE;
-    let len = gather(&mut buf, [0u64; 6], marks, star, lag, needs);
+    let none = LineWords {
+        count: n,
+        at: [0u64; 6],
+    };
+    let len = gather(&mut buf, none, marks, star, lag, needs);
     // A buffer that was not filled holds the whole list.
     if len < ROOM {
         if room < len {

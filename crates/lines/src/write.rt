@@ -6,11 +6,10 @@ ghost use lib.ListN.{length, take};
 ghost use Rattle.maxplus.specs.Finite.{In};
 ghost use Rattle.cue.specs.Cue.{Cue};
 ghost use Rattle.cue.specs.Method.{lines};
-ghost use Rattle.cue.specs.Written.{line-size, signed, line-words, list-words};
-ghost use Rattle.words.specs.Words.{entry, Close};
+ghost use Rattle.cue.specs.Written.{line-size, line-words, list-words};
 ghost use Rattle.sheet.specs.Sizes.{line-down};
 ghost use Rattle.tables.specs.Held.{CloselyV};
-ghost use Rattle.candidates.specs.Lines.{Sized, line-of};
+ghost use Rattle.tables.specs.Lines.{Sized, line-of};
 ghost use Rattle.buffer.specs.Buffer.{room, held};
 ghost use Rattle.candidates.specs.Drawable.{Drawable};
 ghost use Rattle.buffer.specs.Space.{laid};
@@ -18,34 +17,20 @@ ghost use Rattle.cue.specs.Sizes.{size-limit};
 use buffer::ROOM;
 use candidates::Marks;
 use gather::gather;
-use words::BIAS;
 use words::LINE_SIZE;
+use words::LineWords;
 
-const ABSENT: i32 = -2147483648;
-
-// The signed word of an entry.
-fn signed_word(w: u64) -> i32
-    requires { ⌜ Close line-down w ⌝ }
-    ensures { λ r. ⌜ r ≡ signed (entry w) ⌝ }
+// The words of one line from a place on: its count of triggers, then its components.
+fn write_line(out: &mut [i32], at: usize, line: LineWords)
+    requires { ⌜ (line .count ≤ size-limit) × (at + line-size ≤ length (now out)) × Sized (line .count) (line .at)
+        × CloselyV (line .count) line-down (line .at) ⌝ }
+    ensures { λ r. ⌜ now (out .exit) ≡ laid (now (out .entry)) at (line-words (line .count) (line-of (line .count) (line .at))) ⌝ }
 {
-    if w == 0 {
-        return ABSENT;
-    }
-    if BIAS <= w {
-        return (w - BIAS) as i32;
-    }
-    -((BIAS - w) as i32)
-}
-
-// The words of one line from a place on.
-fn write_line(out: &mut [i32], at: usize, n: usize, c: [u64; 6])
-    requires { ⌜ (n ≤ size-limit) × (at + line-size ≤ length (now out)) × Sized n c × CloselyV n line-down c ⌝ }
-    ensures { λ r. ⌜ now (out .exit) ≡ laid (now (out .entry)) at (line-words n (line-of n c)) ⌝ }
-{
-    out[at] = n as i32;
+    let count = line.count;
+    out[at] = count as i32;
     let mut j: usize = 0;
     while j < 6 {
-        out[at + 1 + j] = signed_word(c[j]);
+        out[at + 1 + j] = words::signed(line.at[j]);
         j += 1;
     }
 }
@@ -58,7 +43,12 @@ pub fn write_held(out: &mut [i32], at: usize, buf: &[[u64; 6]; 128], len: usize,
 {
     let mut k: usize = 0;
     while k < len {
-        write_line(out, at + LINE_SIZE * k, n, buf[k]);
+        let words = buf[k];
+        let line = LineWords {
+            count: n,
+            at: words,
+        };
+        write_line(out, at + LINE_SIZE * k, line);
         k += 1;
     }
 }
@@ -78,7 +68,10 @@ pub fn write_lines(
         now (out .exit) ≡ laid (now (out .entry)) 0 (list-words (marks .triggers) (lines (marks .triggers) P))) ⌝ }
 {
     let mut buf = [[0u64; 6]; 128];
-    let mut last = [0u64; 6];
+    let mut last = LineWords {
+        count: marks.triggers,
+        at: [0u64; 6],
+    };
     let mut at: usize = 0;
     loop {
         let len = gather(&mut buf, last, marks, star, lag, needs);
@@ -87,6 +80,7 @@ pub fn write_lines(
             return;
         }
         at += LINE_SIZE * len;
-        last = buf[ROOM - 1];
+        let words = buf[ROOM - 1];
+        last.at = words;
     }
 }

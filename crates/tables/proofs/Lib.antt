@@ -2,3 +2,4 @@
 pub mod Loops
 pub mod SquareLaws
 pub mod LargestLaws
+pub mod LineLaws

@@ -1,2 +1,3 @@
--- What arrays of words say of tables and vectors of entries.
+-- What arrays of words say of tables and vectors of entries, and of lines.
 pub mod Held
+pub mod Lines

@@ -14,7 +14,7 @@ use Rattle.sheet.proofs.Decided.{tightest?}
 use Rattle.reading.proofs.Refusals.{refusal-known}
 use Rattle.sheet.specs.Cue.{Orderly, orderly?}
 use Rattle.tables.specs.Held.{Says}
-use Rattle.timing.specs.Times.{some-beyond}
+use Rattle.sheet.specs.Times.{some-beyond}
 use Rattle.testing.specs.Testing.{TestOutcome, answer, refused, tests, testing, test-answer}
 use Rattle.testing.specs.declared.Tested.{Tested}
 use Rattle.testing.specs.declared.Tested.the-variants.{Yes, No, Refused}

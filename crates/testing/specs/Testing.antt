@@ -8,7 +8,7 @@ use Rattle.sheet.specs.Sheet.{Got, got, Sheet, read}
 use Rattle.sheet.specs.Sheet as sheet
 use Rattle.sheet.specs.Cue.{orderly?}
 use Rattle.sheet.proofs.Decided.{tightest?}
-use Rattle.timing.specs.Times.{some-beyond}
+use Rattle.sheet.specs.Times.{some-beyond}
 use Rattle.testing.specs.declared.Tested.{Tested}
 use Rattle.testing.specs.declared.Tested.the-variants.{Yes, No, Refused}
 

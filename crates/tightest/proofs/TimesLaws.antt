@@ -26,7 +26,7 @@ use Rattle.sheet.proofs.LineLaws.{true-not-false}
 use Rattle.items.specs.Inner as items
 use Rattle.items.specs.Inner.{ItemIs}
 use Rattle.items.specs.declared.Item.the-variants.{Entry}
-use Rattle.timing.specs.Times.{far-limit, beyond}
+use Rattle.sheet.specs.Times.{far-limit, beyond}
 use Rattle.tightest.specs.Times.{number, numbers, followed, far-beyond, clip}
 use Rattle.tightest.specs.Inner.{six-of, put-at, times-of}
 use Rattle.tightest.specs.declared.Components.{Components}

@@ -6,7 +6,7 @@ use lib.Dec.{eqb}
 use lib.IntN.{ℤ, pos, negsuc}
 use Rattle.maxplus.specs.Entry.{E, absent, num}
 use Rattle.sheet.specs.Sheet.{Got, got, refused, _>>=_, item}
-use Rattle.timing.specs.Times.{far-limit}
+use Rattle.sheet.specs.Times.{far-limit}
 
 -- an item of a sheet that is a number
 abbrev pub whole : E → List ℕ → Got ℤ

@@ -1,5 +1,4 @@
 -- Laws of the limit on components, of their words, of the order and of the test.
 pub mod LimitLaws
 pub mod TimeLaws
-pub mod OrderLaws
 pub mod TestLaws

@@ -10,14 +10,12 @@ use lib.Dec.{leb·suc-suc}
 use lib.IntN.{ℤ, pos, negsuc}
 use lib.Signed.{mag, ltZ}
 use mir.Syntax.{w64}
-use mir.Val.{toZ, ofZ, SFits}
+use mir.Val.{SFits}
 use mir.Facts.{toZ-ofZ}
 use Rattle.maxplus.specs.Finite.{each}
+use Rattle.words.proofs.SignedLaws.{clash, read}
 use Rattle.sheet.specs.Sheet.{any}
-use Rattle.timing.specs.Times.{far-limit, beyond}
-
-pub clash : {A : Type 0} → true ≡ false → A
-clash e = let z : _≡_ {A = ℕ} 0 1 = cc in let x : ⊥ = omega arith in absurd x
+use Rattle.sheet.specs.Times.{far-limit, beyond}
 
 -- ---- some of the first places pass a test
 module _ {A : Type 0} (f : A → Bool) where
@@ -51,9 +49,6 @@ module _ {A : Type 0} (f : A → Bool) where
         go false q = refl
 
 -- ---- a number as the code reads it out of its signed word, and the limit on it
-abbrev pub read : ℤ → ℤ
-read x = toZ w64 (ofZ w64 x)
-
 pub read-again : (x : ℤ) → mag x < 0x8000_0000_0000_0000 → read x ≡ x
 read-again x h = toZ-ofZ {w = w64} (record { sfits = h })
 

@@ -2,24 +2,25 @@
 ghost use mathlib.Core.Path.{_≡_};
 ghost use Rattle.words.specs.Words.{entry};
 ghost use Rattle.tables.specs.Held.{meant, meantV, CloselyV};
-ghost use Rattle.timing.specs.Times.{far-limit};
+ghost use Rattle.sheet.specs.Times.{far-limit};
 ghost use Rattle.timing.specs.Deviation.{deviation-of, SheetClose};
 use tables::largest::overdue;
 use tables::largest::shortfall;
+use words::LineWords;
 
 // The deviation of the times x.
 pub fn deviation(
     lag: &[[u64; 6]; 6],
     floor: [u64; 6],
     due: [u64; 6],
-    x: [u64; 6],
+    x: LineWords,
     panels: usize,
-    n: usize,
 ) -> u64
-    requires { ⌜ SheetClose panels n (now lag) floor due × CloselyV n far-limit x ⌝ }
-    ensures { λ r. ⌜ entry r ≡ deviation-of panels n (meant (now (lag .entry))) (meantV floor) (meantV due) (meantV x) ⌝ }
+    requires { ⌜ SheetClose panels (x .count) (now lag) floor due × CloselyV (x .count) far-limit (x .at) ⌝ }
+    ensures { λ r. ⌜ entry r ≡ deviation-of panels (x .count) (meant (now (lag .entry))) (meantV floor) (meantV due) (meantV (x .at)) ⌝ }
 {
-    let late = overdue(due, x, n);
-    let short = shortfall(lag, floor, x, panels, n);
+    let at = x.at;
+    let late = overdue(due, at, x.count);
+    let short = shortfall(lag, floor, at, panels, x.count);
     words::plus(late, short)
 }

@@ -1,7 +1,8 @@
 // The limit on a timing's components: "11: one beyond ±1,000,000,000".
 ghost use mathlib.Core.Path.{_≡_};
 ghost use Prim.Native.Nat.{_≤_};
-ghost use Rattle.timing.specs.Times.{component, beyond, some-beyond};
+ghost use Rattle.sheet.specs.Times.{beyond, some-beyond};
+ghost use Rattle.timing.specs.Times.{component};
 ghost use Rattle.cue.specs.Sizes.{size-limit};
 use crate::Timing;
 

@@ -3,7 +3,8 @@ ghost use mathlib.Core.Path.{_≡_};
 ghost use mathlib.Core.Bool.{false};
 ghost use Rattle.sheet.specs.Sizes.{order-limit};
 ghost use Rattle.tables.specs.Held.{Closely};
-ghost use Rattle.timing.specs.Times.{component, some-beyond};
+ghost use Rattle.sheet.specs.Times.{some-beyond};
+ghost use Rattle.timing.specs.Times.{component};
 ghost use Rattle.timing.specs.Deviation.{SheetClose};
 ghost use Rattle.timing.specs.Test.{TestSays};
 use crate::Timing;
@@ -26,8 +27,8 @@ pub fn tested(
     ensures { λ r. ⌜ TestSays panels n (now (after .entry)) (now (lag .entry)) floor due least (component (timing .at)) r ⌝ }
 {
     let x = words_of(timing, n);
-    if keeps(after, x, n) {
-        return deviation(lag, floor, due, x, panels, n) == least;
+    if keeps(after, x) {
+        return deviation(lag, floor, due, x, panels) == least;
     }
     false
 }

@@ -14,7 +14,7 @@ use borrow.Author.Tests.{leb-true, leb-false}
 use Rattle.maxplus.specs.Whole.{up, dn, _+z_, neg}
 use Rattle.maxplus.specs.Entry.{E, absent, num, _≼_, leqE, _⊗_, _⊕_, inv, present?, val}
 use Rattle.maxplus.proofs.WholeLaws.{z-eq, up-sub, up-add, up-neg}
-use Rattle.maxplus.proofs.EntryLaws.{≼-refl, ≼-anti, ≼-absent, ⊕-l, ⊕-r, ⊕-lub, ⊕-or, ⊗-absent, ⊗-nothing}
+use Rattle.maxplus.proofs.EntryLaws.{_▸_, ≼-refl, ≼-anti, ≼-of, ≼-back, ≼-absent, ⊕-l, ⊕-r, ⊕-lub, ⊕-or, ⊗-absent, ⊗-nothing}
 use Rattle.maxplus.proofs.EntryLaws.{num-⊗, inv-num, num-inj, absent-not, leqE-yes, leqE-of}
 use Rattle.words.specs.Words.{bias, word, entry, far, Close, Near}
 
@@ -74,6 +74,20 @@ word-order a b = go (leb a b) (leqE (entry a) (entry b)) refl refl
     go false false e f = refl
     go true false e f = absurd (rw f at (leqE-of _ _ (entry-mono a b (leb-true a b e))))
     go false true e f = let h = entry-reflects a b (leqE-yes _ _ (rw f tt)) in let x : ⊥ = omega (arith, leb-false a b e) in absurd x
+
+-- and of entries that are told by their words: s is the word of e
+module _ {e : E} {s v : ℕ} (is : entry s ≡ e) where
+  pub same-word : s ≡ v → e ≡ entry v
+  same-word h = sym is ∙ ap entry h
+
+  pub other-word : ¬ (s ≡ v) → ¬ (e ≡ entry v)
+  other-word h k = h (entry-inj (is ∙ k))
+
+  pub within-word : s ≤ v → e ≼ entry v
+  within-word h = ≼-back is ▸ entry-mono s v h
+
+  pub beyond-word : v < s → ¬ (e ≼ entry v)
+  beyond-word h k = let l = entry-reflects s v (≼-of is ▸ k) in omega arith
 
 pub word-present : (a : ℕ) → not (eqb a 0) ≡ present? (entry a)
 unfolding entry

@@ -1,2 +1,3 @@
--- Laws of words as entries.
+-- Laws of words as entries, and as signed numbers.
 pub mod Laws
+pub mod SignedLaws

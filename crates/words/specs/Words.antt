@@ -11,6 +11,10 @@ bias = 0x100_0000_0000
 abbrev pub far : ℕ
 far = 0x40_0000_0000
 
+-- a number no further from 0 fits a signed word of 32 bits and is not the word of absent
+abbrev pub signed-far : ℕ
+signed-far = 0x7fff_ffff
+
 -- three numbers no further from 0 than this add up to one within far
 abbrev pub third : ℕ
 third = 0x15_5555_5555

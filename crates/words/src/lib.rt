@@ -1,16 +1,27 @@
-// An entry of a table in one word: 0 is absent, BIAS + z is the number z. The order of words is the order of entries.
+// An entry of a table in one word: 0 is absent, BIAS + z is the number z. The order of words is the order of entries, and nothing else of this
+// is known outside. A line, w or a timing is six such words with its count of triggers.
 ghost use mathlib.Core.Path.{_≡_};
 ghost use Prim.Native.Nat.{_≤_, _<_};
 ghost use lib.IntN.{pos};
 ghost use Rattle.maxplus.specs.Whole.{up, dn, neg};
 ghost use Rattle.maxplus.specs.Entry.{num, _⊗_, _⊕_, inv, present?, val};
-ghost use Rattle.words.specs.Words.{word, entry, far, Near};
+ghost use Rattle.cue.specs.Written.{signed};
+ghost use Rattle.words.specs.Words.{word, entry, far, signed-far, Close, Near};
 
 // The word of the number 0.
-pub const BIAS: u64 = 0x100_0000_0000;
+const BIAS: u64 = 0x100_0000_0000;
 
 // The words that a line takes in a lent space.
 pub const LINE_SIZE: usize = 7;
+
+// The signed word of absent in a lent space: the least number of 32 bits.
+const ABSENT: i32 = -2147483648;
+
+// A line, w or a timing: its count of triggers and its six components as words of entries, the unused ones absent.
+pub struct LineWords {
+    pub count: usize,
+    pub at: [u64; 6],
+}
 
 // The word of m.
 pub fn positive(m: u64) -> u64
@@ -26,6 +37,17 @@ pub fn negative(m: u64) -> u64
     ensures { λ r. ⌜ r ≡ word (num (neg (pos m))) ⌝ }
 {
     BIAS - m
+}
+
+// The word of x. Its magnitude is taken by its sign: a word is made of an unsigned number.
+pub fn of_number(x: i64) -> u64
+    requires { ⌜ (up x ≤ far) × (dn x ≤ far) ⌝ }
+    ensures { λ r. ⌜ r ≡ word (num x) ⌝ }
+{
+    if x < 0 {
+        return negative((0 - x) as u64);
+    }
+    positive(x as u64)
 }
 
 // There is a number.
@@ -93,4 +115,18 @@ pub fn number(a: u64) -> i64
     ensures { λ r. ⌜ entry a ≡ num r ⌝ }
 {
     (a as i64) - (BIAS as i64)
+}
+
+// The signed word of an entry in a lent space.
+pub fn signed(a: u64) -> i32
+    requires { ⌜ Close signed-far a ⌝ }
+    ensures { λ r. ⌜ r ≡ signed (entry a) ⌝ }
+{
+    if a == 0 {
+        return ABSENT;
+    }
+    if BIAS <= a {
+        return (a - BIAS) as i32;
+    }
+    -((BIAS - a) as i32)
 }

@@ -9,10 +9,10 @@ use Rattle.bounds.proofs.branch.Statement.{statement}
 use Rattle.bounds.proofs.branch.Tie as tie
 
 abbrev Inv-loop : tie.InvT-loop
-Inv-loop set₀ many mask n w wants held₀ j₀ set held j = (j ≤ n) × Branched w mask wants j set₀ many set held
+Inv-loop set₀ many mask w wants n held₀ j₀ set held j = (j ≤ n) × Branched (w .at) mask wants j set₀ many set held
 
 abbrev μ-loop : tie.MeasureT-loop
-μ-loop set₀ many mask n w wants held₀ j₀ set held j = n - j
+μ-loop set₀ many mask w wants n held₀ j₀ set held j = n - j
 
 loop-holds : tie.Need-loop-holds Inv-loop μ-loop
 loop-holds c = (omega arith, branched-none (c .pre .2))
@@ -29,8 +29,8 @@ array-read-larger c = omega arith
 mul-larger-2 : tie.Need-mul-larger-2 Inv-loop μ-loop
 mul-larger-2 c = omega arith
 
-array-read-larger-2 : tie.Need-array-read-larger-2 Inv-loop μ-loop
-array-read-larger-2 c = omega arith
+element-copy-out-larger : tie.Need-element-copy-out-larger Inv-loop μ-loop
+element-copy-out-larger c = omega arith
 
 larger-requires : tie.Need-larger-requires Inv-loop μ-loop
 larger-requires c κs = tt
@@ -38,8 +38,8 @@ larger-requires c κs = tt
 mul-v : tie.Need-mul-v Inv-loop μ-loop
 mul-v c = omega arith
 
-array-write-v : tie.Need-array-write-v Inv-loop μ-loop
-array-write-v c = omega arith
+element-write-v : tie.Need-element-write-v Inv-loop μ-loop
+element-write-v c = omega arith
 
 join-requires : tie.Need-join-requires Inv-loop μ-loop
 join-requires c κs =
@@ -58,13 +58,15 @@ loop-less c = omega arith
 loop-again : tie.Need-loop-again Inv-loop μ-loop
 loop-again c = let h = c .before .has .ensures in let i = c .before .before .before .loop .inv .1 in (
   omega arith,
-  ⊎-elim (λ w. rw (w .4, w .5) (branched-more i (has-yes h (w .0 .taken))
-      (raised-by _ _ _ (w .1 .result) (w .1 .ensures)) (w .3 .ensures)))
+  ⊎-elim (λ w. rw (w .5, w .6) (branched-more i (has-yes h (w .0 .taken))
+      (raised-by _ _ _ (w .2 .result) (w .2 .ensures)) (w .4 .ensures)))
       (λ w. rw (w .1, w .2) (branched-skip i (has-no h (w .0 .left)))) (c .if1 .came),
 )
 
 returns : tie.Need-returns Inv-loop μ-loop
-returns c = let e : c .before .loop .j ≡ c .before .before .args .n = omega (arith, c .before .loop .inv .0) in rw e at (c .before .loop .inv .1)
+returns c =
+    let l = c .before in
+    let e : l .loop .j ≡ l .before .args .t3 .count = omega (arith, l .loop .inv .0) in rw e at (l .loop .inv .1)
 
 pub branch-spec : {M : Type 1} → statement M
 branch-spec =
@@ -77,10 +79,10 @@ branch-spec =
     mul-larger
     array-read-larger
     mul-larger-2
-    array-read-larger-2
+    element-copy-out-larger
     larger-requires
     mul-v
-    array-write-v
+    element-write-v
     join-requires
     add-j
     loop-less

@@ -6,7 +6,7 @@ use Rattle.bounds.proofs.covered.Statement.{statement}
 use Rattle.bounds.proofs.covered.Tie as tie
 
 abbrev Inv-loop : tie.InvT-loop
-Inv-loop set many w k₀ k = NoneTo set w k
+Inv-loop set many w k₀ k = NoneTo set (w .at) k
 
 abbrev μ-loop : tie.MeasureT-loop
 μ-loop set many w k₀ k = many - k
@@ -14,11 +14,11 @@ abbrev μ-loop : tie.MeasureT-loop
 loop-holds : tie.Need-loop-holds Inv-loop μ-loop
 loop-holds c = none-start _ _
 
-mul-under : tie.Need-mul-under Inv-loop μ-loop
-mul-under c = omega arith
+mul-at : tie.Need-mul-at Inv-loop μ-loop
+mul-at c = omega arith
 
-element-copy-out-under : tie.Need-element-copy-out-under Inv-loop μ-loop
-element-copy-out-under c = omega arith
+element-copy-out-at : tie.Need-element-copy-out-at Inv-loop μ-loop
+element-copy-out-at c = omega arith
 
 under-requires : tie.Need-under-requires Inv-loop μ-loop
 under-requires c κs = tt
@@ -54,8 +54,8 @@ covered-spec =
     Inv-loop
     μ-loop
     loop-holds
-    mul-under
-    element-copy-out-under
+    mul-at
+    element-copy-out-at
     under-requires
     returns
     add-k

@@ -16,11 +16,11 @@ abbrev μ-loop : tie.MeasureT-loop
 loop-holds : tie.Need-loop-holds Inv-loop μ-loop
 loop-holds c = (omega arith, omega (arith, c .pre .1), expanded-none _ (c .pre .4))
 
-mul-branch : tie.Need-mul-branch Inv-loop μ-loop
-mul-branch c = omega (arith, c .before .before .before .pre .3)
+mul-words : tie.Need-mul-words Inv-loop μ-loop
+mul-words c = omega (arith, c .before .before .pre .3)
 
-element-copy-out-branch : tie.Need-element-copy-out-branch Inv-loop μ-loop
-element-copy-out-branch c = omega (arith, c .before .before .before .pre .3)
+element-copy-out-words : tie.Need-element-copy-out-words Inv-loop μ-loop
+element-copy-out-words c = omega (arith, c .before .before .pre .3)
 
 branch-requires : tie.Need-branch-requires Inv-loop μ-loop
 branch-requires c κs =
@@ -54,8 +54,8 @@ expand-spec =
     Inv-loop
     μ-loop
     loop-holds
-    mul-branch
-    element-copy-out-branch
+    mul-words
+    element-copy-out-words
     branch-requires
     add-k
     loop-less

@@ -13,11 +13,11 @@ returns c = joined-covered (c .before .before .before .pre .1) (rw (c .if1 .take
 thin-requires : tie.Need-thin-requires
 thin-requires c κs = search needs
 
-mul-w : tie.Need-mul-w
-mul-w c = search needs
+mul-at : tie.Need-mul-at
+mul-at c = search needs
 
-element-set-from-w : tie.Need-element-set-from-w
-element-set-from-w c = search needs
+element-set-from-at : tie.Need-element-set-from-at
+element-set-from-at c = search needs
 
 add-result : tie.Need-add-result
 add-result c = search needs
@@ -25,9 +25,9 @@ add-result c = search needs
 returns-2 : tie.Need-returns-2
 returns-2 c =
     let start : tie.Start = search in
-    joined-new (start .pre .0) (c .thin .ensures)
+    joined-new (start .pre .0) (c .before .thin .ensures)
 
 pub join-spec : {M : Type 1} → statement M
 join-spec =
     tie.close
-    (tie.spec covered-requires returns thin-requires mul-w element-set-from-w add-result returns-2)
+    (tie.spec covered-requires returns thin-requires mul-at element-set-from-at add-result returns-2)

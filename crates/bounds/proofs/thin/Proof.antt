@@ -8,7 +8,7 @@ use Rattle.bounds.proofs.thin.Statement.{statement}
 use Rattle.bounds.proofs.thin.Tie as tie
 
 abbrev Inv-loop : tie.InvT-loop
-Inv-loop set₀ many w left₀ k₀ set left k = (k ≤ many) × Thinning set₀ w set left k
+Inv-loop set₀ many w left₀ k₀ set left k = (k ≤ many) × Thinning set₀ (w .at) set left k
 
 abbrev μ-loop : tie.MeasureT-loop
 μ-loop set₀ many w left₀ k₀ set left k = many - k
@@ -16,23 +16,23 @@ abbrev μ-loop : tie.MeasureT-loop
 loop-holds : tie.Need-loop-holds Inv-loop μ-loop
 loop-holds c = (omega arith, thinning-start (c .pre .1))
 
-mul-b : tie.Need-mul-b Inv-loop μ-loop
-mul-b c = omega arith
+mul-at : tie.Need-mul-at Inv-loop μ-loop
+mul-at c = omega arith
 
-element-copy-out-b : tie.Need-element-copy-out-b Inv-loop μ-loop
-element-copy-out-b c = omega arith
+element-copy-out-at : tie.Need-element-copy-out-at Inv-loop μ-loop
+element-copy-out-at c = omega arith
 
 under-requires : tie.Need-under-requires Inv-loop μ-loop
 under-requires c κs = tt
 
-mul-b-2 : tie.Need-mul-b-2 Inv-loop μ-loop
-mul-b-2 c =
+mul-at-2 : tie.Need-mul-at-2 Inv-loop μ-loop
+mul-at-2 c =
     let l : tie.At-loop Inv-loop μ-loop = search in
     let start : tie.Start Inv-loop μ-loop = search in
     omega (arith, start .pre .0, l .loop .inv .1 .few)
 
-element-set-from-b : tie.Need-element-set-from-b Inv-loop μ-loop
-element-set-from-b c =
+element-set-from-at : tie.Need-element-set-from-at Inv-loop μ-loop
+element-set-from-at c =
     let l : tie.At-loop Inv-loop μ-loop = search in
     let start : tie.Start Inv-loop μ-loop = search in
     omega (arith, start .pre .0, l .loop .inv .1 .few)
@@ -69,11 +69,11 @@ thin-spec =
     Inv-loop
     μ-loop
     loop-holds
-    mul-b
-    element-copy-out-b
+    mul-at
+    element-copy-out-at
     under-requires
-    mul-b-2
-    element-set-from-b
+    mul-at-2
+    element-set-from-at
     add-left
     add-k
     loop-less

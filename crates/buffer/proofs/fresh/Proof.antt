@@ -21,11 +21,11 @@ returns c = search needs
 returns-2 : tie.Need-returns-2
 returns-2 c = (omega arith, λ h. let e : ⊥ = omega arith in absurd e)
 
-mul-below : tie.Need-mul-below
-mul-below c = search needs
+mul-words : tie.Need-mul-words
+mul-words c = search needs
 
-element-copy-out-below : tie.Need-element-copy-out-below
-element-copy-out-below c = search needs
+element-copy-out-words : tie.Need-element-copy-out-words
+element-copy-out-words c = search needs
 
 below-requires : tie.Need-below-requires
 below-requires c κs = search needs
@@ -34,9 +34,9 @@ returns-3 : tie.Need-returns-3
 returns-3 c =
     let start : tie.Start = search in
     let a = start .args in
-    inside (a .buf .now) (a .len) (a .at) (a .c) (c .below .result) (omega arith) (omega arith) (c .below .ensures)
+    inside (a .buf .now) (a .len) (a .at) (a .line .at) (c .below .result) (omega arith) (omega arith) (c .below .ensures)
 
 pub fresh-spec : {M : Type 1} → statement M
 fresh-spec =
     tie.close
-    (tie.spec returns returns-2 mul-below element-copy-out-below below-requires returns-3)
+    (tie.spec returns returns-2 mul-words element-copy-out-words below-requires returns-3)

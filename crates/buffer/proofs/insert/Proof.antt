@@ -10,10 +10,10 @@ use Rattle.buffer.proofs.insert.Statement.{statement}
 use Rattle.buffer.proofs.insert.Tie as tie
 
 abbrev Inv-loop : tie.InvT-loop
-Inv-loop buf₀ len at c more k₀ buf k = (at ≤ k) × (k ≤ more - 1) × Moved [] buf₀ (more - 1) k buf
+Inv-loop buf₀ len at line more k₀ buf k = (at ≤ k) × (k ≤ more - 1) × Moved [] buf₀ (more - 1) k buf
 
 abbrev μ-loop : tie.MeasureT-loop
-μ-loop buf₀ len at c more k₀ buf k = k
+μ-loop buf₀ len at line more k₀ buf k = k
 
 grown-requires : tie.Need-grown-requires Inv-loop μ-loop
 grown-requires c κs = c .pre .2
@@ -33,8 +33,8 @@ mul-buf c = omega arith
 element-copy-out-buf : tie.Need-element-copy-out-buf Inv-loop μ-loop
 element-copy-out-buf c = omega arith
 
-mul-t13 : tie.Need-mul-t13 Inv-loop μ-loop
-mul-t13 c = omega arith
+mul-t14 : tie.Need-mul-t14 Inv-loop μ-loop
+mul-t14 c = omega arith
 
 element-set-from-buf : tie.Need-element-set-from-buf Inv-loop μ-loop
 element-set-from-buf c = omega arith
@@ -56,20 +56,24 @@ loop-again c =
       moved-more [] (s .args .buf .now) (m - 1) (l .k) (l .buf) (omega arith) (omega arith) (l .inv .2),
     )
 
-mul-c : tie.Need-mul-c Inv-loop μ-loop
-mul-c c = omega arith
+mul-words : tie.Need-mul-words Inv-loop μ-loop
+mul-words c = omega arith
 
-element-set-from-c : tie.Need-element-set-from-c Inv-loop μ-loop
-element-set-from-c c = omega arith
+element-set-from-words : tie.Need-element-set-from-words Inv-loop μ-loop
+element-set-from-words c = omega arith
 
 returns : tie.Need-returns Inv-loop μ-loop
-returns c = let s = c .before .before .before in let l = c .before .loop in let m = c .before .before .grown .result in
+returns c =
+    let at-loop : tie.At-loop Inv-loop μ-loop = search in
+    let g : tie.After-grown Inv-loop μ-loop = search in
+    let s : tie.Start Inv-loop μ-loop = search in
+    let l = at-loop .loop in
     let e : l .k ≡ s .args .at = omega arith in
     record {
-      size = length-set (l .buf) (s .args .at) (s .args .c) ∙ l .inv .2 .size ∙ s .pre .3;
+      size = length-set (l .buf) (s .args .at) (s .args .line .at) ∙ l .inv .2 .size ∙ s .pre .3;
       few = omega arith;
-      rows = moved-end [] room (s .args .buf .now) (s .args .len) (s .args .at) m (l .buf) (s .args .c) (s .pre .3) (s .pre .0) (s .pre .2)
-          (omega arith) (c .before .before .grown .ensures) (rw e at (l .inv .2));
+      rows = moved-end [] room (s .args .buf .now) (s .args .len) (s .args .at) (g .grown .result) (l .buf) (s .args .line .at)
+          (s .pre .3) (s .pre .0) (s .pre .2) (omega arith) (g .grown .ensures) (rw e at (l .inv .2));
     }
 
 pub insert-spec : {M : Type 1} → statement M
@@ -84,11 +88,11 @@ insert-spec =
     sub-buf
     mul-buf
     element-copy-out-buf
-    mul-t13
+    mul-t14
     element-set-from-buf
     sub-k-2
     loop-less
     loop-again
-    mul-c
-    element-set-from-c
+    mul-words
+    element-set-from-words
     returns)

@@ -6,13 +6,13 @@ use Rattle.buffer.proofs.place.Statement.{statement}
 use Rattle.buffer.proofs.place.Tie as tie
 
 abbrev Inv-loop : tie.InvT-loop
-Inv-loop buf len c low₀ high₀ low high = Between buf len c low high
+Inv-loop buf len line low₀ high₀ low high = Between buf len (line .at) low high
 
 abbrev μ-loop : tie.MeasureT-loop
-μ-loop buf len c low₀ high₀ low high = high - low
+μ-loop buf len line low₀ high₀ low high = high - low
 
 loop-holds : tie.Need-loop-holds Inv-loop μ-loop
-loop-holds c = between-start (c .args .buf .now) (c .args .len) (c .args .c)
+loop-holds c = between-start (c .args .buf .now) (c .args .len) (c .args .line .at)
 
 sub-mid : tie.Need-sub-mid Inv-loop μ-loop
 sub-mid c = omega arith
@@ -20,11 +20,11 @@ sub-mid c = omega arith
 add-mid : tie.Need-add-mid Inv-loop μ-loop
 add-mid c = omega arith
 
-mul-below : tie.Need-mul-below Inv-loop μ-loop
-mul-below c = omega arith
+mul-at : tie.Need-mul-at Inv-loop μ-loop
+mul-at c = omega arith
 
-element-copy-out-below : tie.Need-element-copy-out-below Inv-loop μ-loop
-element-copy-out-below c = omega arith
+element-copy-out-at : tie.Need-element-copy-out-at Inv-loop μ-loop
+element-copy-out-at c = omega arith
 
 below-requires : tie.Need-below-requires Inv-loop μ-loop
 below-requires c κs = tt
@@ -40,7 +40,7 @@ loop-again c =
     let at-loop : tie.At-loop Inv-loop μ-loop = search in
     let s : tie.Start Inv-loop μ-loop = search in
     let l = at-loop .loop in
-    between-up (s .args .buf .now) (s .args .len) (s .args .c) (l .low) (l .high) (l .low + (l .high - l .low) / 2) (s .pre .1) (l .inv)
+    between-up (s .args .buf .now) (s .args .len) (s .args .line .at) (l .low) (l .high) (l .low + (l .high - l .low) / 2) (s .pre .1) (l .inv)
     (omega arith) (omega arith) (rw (c .if1 .taken) at (c .before .below .ensures))
 
 loop-less-2 : tie.Need-loop-less-2 Inv-loop μ-loop
@@ -51,12 +51,12 @@ loop-again-2 c =
     let at-loop : tie.At-loop Inv-loop μ-loop = search in
     let s : tie.Start Inv-loop μ-loop = search in
     let l = at-loop .loop in
-    between-down (s .args .buf .now) (s .args .len) (s .args .c) (l .low) (l .high) (l .low + (l .high - l .low) / 2) (s .pre .1) (l .inv)
+    between-down (s .args .buf .now) (s .args .len) (s .args .line .at) (l .low) (l .high) (l .low + (l .high - l .low) / 2) (s .pre .1) (l .inv)
     (omega arith) (omega arith) (rw (c .if1 .left) at (c .before .below .ensures))
 
 returns : tie.Need-returns Inv-loop μ-loop
 returns c = let s = c .before .before in let l = c .before .loop in
-    between-end (s .args .buf .now) (s .args .len) (s .args .c) (l .low) (l .high) (c .loop-test .left) (l .inv)
+    between-end (s .args .buf .now) (s .args .len) (s .args .line .at) (l .low) (l .high) (c .loop-test .left) (l .inv)
 
 pub place-spec : {M : Type 1} → statement M
 place-spec =
@@ -67,8 +67,8 @@ place-spec =
     loop-holds
     sub-mid
     add-mid
-    mul-below
-    element-copy-out-below
+    mul-at
+    element-copy-out-at
     below-requires
     add-low
     loop-less

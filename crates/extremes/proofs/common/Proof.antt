@@ -15,11 +15,11 @@ use Rattle.extremes.proofs.common.Statement.{statement}
 use Rattle.extremes.proofs.common.Tie as tie
 
 abbrev Inv-loop : tie.InvT-loop
-Inv-loop tight front panels n at held all₀ k₀ all k = (k ≤ n) ×
-    SetOf (λ j. (i : ℕ) → i < k → Present (meantV at i) → Closed tight panels front (getD held i 0) j) all
+Inv-loop tight front panels line held n all₀ k₀ all k = (k ≤ n) ×
+    SetOf (λ j. (i : ℕ) → i < k → Present (meantV (line .at) i) → Closed tight panels front (getD held i 0) j) all
 
 abbrev μ-loop : tie.MeasureT-loop
-μ-loop tight front panels n at held all₀ k₀ all k = n - k
+μ-loop tight front panels line held n all₀ k₀ all k = n - k
 
 loop-holds : tie.Need-loop-holds Inv-loop μ-loop
 loop-holds c = (omega arith, every-none _ _)
@@ -27,8 +27,8 @@ loop-holds c = (omega arith, every-none _ _)
 mul-present : tie.Need-mul-present Inv-loop μ-loop
 mul-present c = omega arith
 
-array-read-present : tie.Need-array-read-present Inv-loop μ-loop
-array-read-present c = omega arith
+element-copy-out-present : tie.Need-element-copy-out-present Inv-loop μ-loop
+element-copy-out-present c = omega arith
 
 present-requires : tie.Need-present-requires Inv-loop μ-loop
 present-requires c κs = tt
@@ -44,10 +44,10 @@ closed-requires c κs =
 returns : tie.Need-returns Inv-loop μ-loop
 unfolding meantV
 returns c =
-    let p = c .before .before .before in
-    let k = p .before .before .before .loop in
+    let p : tie.After-present Inv-loop μ-loop = search in
+    let k : tie.At-loop Inv-loop μ-loop = search in
     every-stop _ _ _ _ _ (omega arith)
-    (every-more _ _ _ _ _ (k .inv .1) (c .before .closed .ensures) (flag-present _ _ (p .present .ensures) (c .before .before .if2 .taken)))
+    (every-more _ _ _ _ _ (k .loop .inv .1) (c .before .closed .ensures) (flag-present _ _ (p .present .ensures) (c .before .before .if2 .taken)))
     (c .if3 .taken)
 
 add-k : tie.Need-add-k Inv-loop μ-loop
@@ -70,7 +70,9 @@ returns-2 : tie.Need-returns-2 Inv-loop μ-loop
 returns-2 c = let e : ⊥ = omega (arith, ltb-false) in absurd e
 
 returns-3 : tie.Need-returns-3 Inv-loop μ-loop
-returns-3 c = let e : c .before .loop .k ≡ c .before .before .args .n = omega arith in rw e at (c .before .loop .inv .1)
+returns-3 c =
+    let k = c .before in
+    let e : k .loop .k ≡ k .before .args .t1 .count = omega arith in rw e at (k .loop .inv .1)
 
 pub common-spec : {M : Type 1} → statement M
 common-spec =
@@ -80,7 +82,7 @@ common-spec =
     μ-loop
     loop-holds
     mul-present
-    array-read-present
+    element-copy-out-present
     present-requires
     array-read-closed
     closed-requires

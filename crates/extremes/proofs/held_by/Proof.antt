@@ -11,8 +11,8 @@ use Rattle.extremes.proofs.held_by.Tie as tie
 mul-word : tie.Need-mul-word
 mul-word c = omega arith
 
-array-read-word : tie.Need-array-read-word
-array-read-word c = omega arith
+element-copy-out-word : tie.Need-element-copy-out-word
+element-copy-out-word c = omega arith
 
 present-requires : tie.Need-present-requires
 present-requires c κs = tt
@@ -23,7 +23,7 @@ returns c = set-none (λ j h u. flag-absent _ _ (c .before .present .ensures) (n
 
 places-requires : tie.Need-places-requires
 places-requires c κs =
-    let s = c .before .before in
+    let s : tie.Start = search in
     (omega arith, omega arith, closely-part _ (omega arith) (omega arith) (s .pre .2), closely-moreV (omega arith) (s .pre .3))
 
 returns-2 : tie.Need-returns-2
@@ -35,4 +35,4 @@ returns-2 c =
 pub held-by-spec : {M : Type 1} → statement M
 held-by-spec =
     tie.close
-    (tie.spec mul-word array-read-word present-requires returns places-requires returns-2)
+    (tie.spec mul-word element-copy-out-word present-requires returns places-requires returns-2)

@@ -10,16 +10,16 @@ use Rattle.extremes.proofs.held_sets.Statement.{statement}
 use Rattle.extremes.proofs.held_sets.Tie as tie
 
 abbrev Inv-loop : tie.InvT-loop
-Inv-loop star at n r₀ k₀ r k = (k ≤ n) × Filled (λ k m. SetOf (λ j. Held n (meant star) (meantV at) k j) m) 0 r k
+Inv-loop star line n r₀ k₀ r k = (k ≤ n) × Filled (λ k m. SetOf (λ j. Held n (meant star) (meantV (line .at)) k j) m) 0 r k
 
 abbrev μ-loop : tie.MeasureT-loop
-μ-loop star at n r₀ k₀ r k = n - k
+μ-loop star line n r₀ k₀ r k = n - k
 
 loop-holds : tie.Need-loop-holds Inv-loop μ-loop
 loop-holds c = (omega arith, filled-none _ 0 _)
 
 held-by-requires : tie.Need-held-by-requires Inv-loop μ-loop
-held-by-requires c κs = let s = c .before .before .before in (omega arith, omega arith, s .pre .1, s .pre .2)
+held-by-requires c κs = let s : tie.Start Inv-loop μ-loop = search in (omega arith, omega arith, s .pre .1, s .pre .2)
 
 array-write-r : tie.Need-array-write-r Inv-loop μ-loop
 array-write-r c = omega arith

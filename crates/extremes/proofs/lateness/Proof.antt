@@ -13,10 +13,11 @@ use Rattle.extremes.proofs.lateness.Statement.{statement}
 use Rattle.extremes.proofs.lateness.Tie as tie
 
 abbrev Inv-loop : tie.InvT-loop
-Inv-loop n at due r₀ j₀ r j = (j ≤ n) × Filled (λ j v. (entry v ≡ meantV at j ⊗ inv (meantV due j)) × Close late-size v) 0 r j
+Inv-loop line due n r₀ j₀ r j = (j ≤ n) ×
+    Filled (λ j v. (entry v ≡ meantV (line .at) j ⊗ inv (meantV due j)) × Close late-size v) 0 r j
 
 abbrev μ-loop : tie.MeasureT-loop
-μ-loop n at due r₀ j₀ r j = n - j
+μ-loop line due n r₀ j₀ r j = n - j
 
 loop-holds : tie.Need-loop-holds Inv-loop μ-loop
 loop-holds c = (omega arith, filled-none _ 0 _)
@@ -24,18 +25,18 @@ loop-holds c = (omega arith, filled-none _ 0 _)
 mul-minus : tie.Need-mul-minus Inv-loop μ-loop
 mul-minus c = omega arith
 
-array-read-minus : tie.Need-array-read-minus Inv-loop μ-loop
-array-read-minus c = omega arith
+element-copy-out-minus : tie.Need-element-copy-out-minus Inv-loop μ-loop
+element-copy-out-minus c = omega arith
 
 mul-minus-2 : tie.Need-mul-minus-2 Inv-loop μ-loop
 mul-minus-2 c = omega arith
 
-array-read-minus-2 : tie.Need-array-read-minus-2 Inv-loop μ-loop
-array-read-minus-2 c = omega arith
+array-read-minus : tie.Need-array-read-minus Inv-loop μ-loop
+array-read-minus c = omega arith
 
 minus-requires : tie.Need-minus-requires Inv-loop μ-loop
 minus-requires c κs =
-    let s = c .before .before .before in
+    let s : tie.Start Inv-loop μ-loop = search in
     (close-more (omega arith) (s .pre .1 .at _ (omega arith)), close-more (omega arith) (s .pre .2 .at _ (omega arith)))
 
 mul-r : tie.Need-mul-r Inv-loop μ-loop
@@ -53,8 +54,8 @@ loop-less c = omega arith
 loop-again : tie.Need-loop-again Inv-loop μ-loop
 unfolding meantV
 loop-again c =
-    let k = c .before .before .before in
-    let s = k .before in
+    let k : tie.At-loop Inv-loop μ-loop = search in
+    let s : tie.Start Inv-loop μ-loop = search in
     let e = c .minus .ensures in (
       omega arith,
       filled-more _ 0 _ _ _ (omega arith) (k .loop .inv .1)
@@ -78,9 +79,9 @@ lateness-spec =
     μ-loop
     loop-holds
     mul-minus
-    array-read-minus
+    element-copy-out-minus
     mul-minus-2
-    array-read-minus-2
+    array-read-minus
     minus-requires
     mul-r
     array-write-r

@@ -10,11 +10,11 @@ use Rattle.extremes.proofs.tight_sets.Statement.{statement}
 use Rattle.extremes.proofs.tight_sets.Tie as tie
 
 abbrev Inv-loop : tie.InvT-loop
-Inv-loop lag at most panels n asks r₀ i₀ r i = (i ≤ panels) ×
-    Filled (λ i m. Reaching n (λ j. meant lag i j ⊗ meantV at j) (meantV asks i) (entry most) m) 0 r i
+Inv-loop lag line most panels asks r₀ i₀ r i = (i ≤ panels) ×
+    Filled (λ i m. Reaching (line .count) (λ j. meant lag i j ⊗ meantV (line .at) j) (meantV asks i) (entry most) m) 0 r i
 
 abbrev μ-loop : tie.MeasureT-loop
-μ-loop lag at most panels n asks r₀ i₀ r i = panels - i
+μ-loop lag line most panels asks r₀ i₀ r i = panels - i
 
 loop-holds : tie.Need-loop-holds Inv-loop μ-loop
 loop-holds c = (omega arith, filled-none _ 0 _)

@@ -10,10 +10,10 @@ abbrev at-place : tie.Else2 → tie.After-place
 at-place c = c .before .before .before
 
 abbrev start : tie.Else1 → tie.Start
-start c = c .before .before .before
+start c = c .before .before
 
 -- where the tests before were passed: the line is above the last one, and new
-higher : (c : tie.Else1) → let a = start c .args in Before (a .last) (a .line .at)
+higher : (c : tie.Else1) → let a = start c .args in Before (a .last .at) (a .line .at)
 higher c = says-yes (c .before .below .result) (c .if1 .left) (c .before .below .ensures)
 
 new : (c : tie.Else2) → let l = at-place c in let a = start (l .before .before) .args in
@@ -24,14 +24,14 @@ below-requires : tie.Need-below-requires
 below-requires c κs = tt
 
 returns : tie.Need-returns
-returns c P needs C p s = let q = c .before .before .before .pre in
-    not-above (p .few) (q .1) (q .2) s (says-no (c .before .below .result) (c .if1 .taken) (c .before .below .ensures))
+returns c P needs C p s = let q = c .before .before .pre in
+    not-above (p .few) (q .1) (q .3) s (says-no (c .before .below .result) (c .if1 .taken) (c .before .below .ensures))
 
 place-requires : tie.Need-place-requires
 place-requires c κs =
     let start : tie.Start = search in
     let q = start .pre in let g = q .0 .4 in
-    (g .stored .few, gathered-ordered (q .0 .3 .few) (q .1) (q .2) g)
+    (g .stored .few, gathered-ordered (q .0 .3 .few) (q .1) (q .3) g)
 
 fresh-requires : tie.Need-fresh-requires
 fresh-requires c κs =
@@ -43,19 +43,19 @@ returns-2 c P needs C p s =
     let l : tie.After-place = search in
     let start : tie.Start = search in
     let q = start .pre in
-    not-fresh (p .few) (q .1) (q .2) s (l .place .result) (l .place .ensures)
+    not-fresh (p .few) (q .1) (q .3) s (l .place .result) (l .place .ensures)
     (says-no (c .before .fresh .result) (c .if2 .taken) (c .before .fresh .ensures))
 
 extreme-requires : tie.Need-extreme-requires
 extreme-requires c κs =
     let start : tie.Start = search in
-    let q = start .pre in (ready (q .0 .3), q .3)
+    let q = start .pre in (rw (q .2) (ready (q .0 .3)), q .2, rw (q .2) (q .4))
 
 returns-3 : tie.Need-returns-3
 returns-3 c P needs C p s =
     let start : tie.Start = search in
     let q = start .pre in
-    not-extreme (p .few) (q .1) (q .2) s (says-no (c .before .extreme .result) (c .if3 .taken) (c .before .extreme .ensures _ P needs p))
+    not-extreme (p .few) (q .1) (q .3) s (says-no (c .before .extreme .result) (c .if3 .taken) (c .before .extreme .ensures _ P needs p))
 
 insert-requires : tie.Need-insert-requires
 insert-requires c κs =
@@ -75,7 +75,7 @@ returns-4 c P needs C p s =
     let start : tie.Start = search in
     let q = start .pre in
     let e = says-yes (x .extreme .result) (else3 .if3 .left) (x .extreme .ensures _ P needs p) in
-    put-in (p .few) (q .1) (q .2) s _ _ _ (higher else1) (l .place .ensures) (new else2) e (c .insert .ensures)
+    put-in (p .few) (q .1) (q .3) s _ _ _ (higher else1) (l .place .ensures) (new else2) e (c .insert .ensures)
 
 pub consider-spec : {M : Type 1} → statement M
 consider-spec =

@@ -1,4 +1,5 @@
 -- `gather::consider_bounds` meets its contract: the candidates of the first `k` bounds have been considered.
+use mathlib.Core.Path.{refl}
 use Prim.Native.Nat.{_-_}
 use native.Mathlib.Omega.{arith}
 use Rattle.gather.proofs.SpreadLaws.{Drawn-to, drawn-to-none, drawn-to-more, drawn-to-end}
@@ -6,7 +7,7 @@ use Rattle.gather.proofs.consider_bounds.Statement.{statement}
 use Rattle.gather.proofs.consider_bounds.Tie as tie
 
 abbrev Inv-loop : tie.InvT-loop
-Inv-loop buf₀ len last set many marks star lag held₀ k₀ buf held k = Drawn-to marks star lag last set many held₀ buf₀ k held buf
+Inv-loop buf₀ len last set many marks star lag held₀ k₀ buf held k = Drawn-to marks star lag (last .at) set many held₀ buf₀ k held buf
 
 abbrev μ-loop : tie.MeasureT-loop
 μ-loop buf₀ len last set many marks star lag held₀ k₀ buf held k = many - k
@@ -14,11 +15,11 @@ abbrev μ-loop : tie.MeasureT-loop
 loop-holds : tie.Need-loop-holds Inv-loop μ-loop
 loop-holds c = drawn-to-none
 
-mul-consider-bound : tie.Need-mul-consider-bound Inv-loop μ-loop
-mul-consider-bound c = omega arith
+mul-at : tie.Need-mul-at Inv-loop μ-loop
+mul-at c = omega arith
 
-element-copy-out-consider-bound : tie.Need-element-copy-out-consider-bound Inv-loop μ-loop
-element-copy-out-consider-bound c = omega arith
+element-copy-out-at : tie.Need-element-copy-out-at Inv-loop μ-loop
+element-copy-out-at c = omega arith
 
 consider-bound-requires : tie.Need-consider-bound-requires Inv-loop μ-loop
 consider-bound-requires c κs =
@@ -26,7 +27,7 @@ consider-bound-requires c κs =
     let l : tie.At-loop Inv-loop μ-loop = search in
     let s : tie.Start Inv-loop μ-loop = search in
     let (P, needs, C, p, g) = s .pre .0 in
-    ((P, needs, _, p, l .loop .inv .gathered P needs C p g), s .pre .1, s .pre .4 (l .loop .k) (in-loop .loop-test .taken))
+    ((P, needs, _, p, l .loop .inv .gathered P needs C p g), s .pre .1, refl, s .pre .4 (l .loop .k) (in-loop .loop-test .taken))
 
 add-k : tie.Need-add-k Inv-loop μ-loop
 add-k c = omega arith
@@ -51,8 +52,8 @@ consider-bounds-spec =
     Inv-loop
     μ-loop
     loop-holds
-    mul-consider-bound
-    element-copy-out-consider-bound
+    mul-at
+    element-copy-out-at
     consider-bound-requires
     add-k
     loop-less

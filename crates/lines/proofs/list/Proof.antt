@@ -3,7 +3,7 @@ use mathlib.Core.Path.{refl}
 use native.Mathlib.Omega.{arith}
 use borrow.Author.Needs.{needs}
 use Rattle.cue.specs.Method.{lines}
-use Rattle.candidates.proofs.WordLaws.{sized-none}
+use Rattle.tables.proofs.LineLaws.{sized-none}
 use Rattle.lines.proofs.ListingLaws.{held-close}
 use Rattle.lines.proofs.TurnLaws.{answers-lines, answers-held, whole-count}
 use Rattle.lines.proofs.list.Statement.{statement}

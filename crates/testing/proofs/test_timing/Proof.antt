@@ -14,7 +14,7 @@ use Rattle.sheet.proofs.OrderedLaws.{ordered-read, not-orderly}
 use Rattle.reading.specs.Reading.{answer}
 use Rattle.reading.specs.declared.Reading.{Reading}
 use Rattle.tables.specs.Held.{Says}
-use Rattle.timing.specs.Times.{some-beyond}
+use Rattle.sheet.specs.Times.{some-beyond}
 use Rattle.preparing.specs.Prepared.{Worded}
 use Rattle.preparing.proofs.Preparing.{reading-refused, reading-good, triggers-of}
 use Rattle.testing.specs.Testing.{testing}

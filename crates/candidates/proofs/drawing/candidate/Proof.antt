@@ -17,16 +17,19 @@ drawn-requires : tie.Need-drawn-requires
 drawn-requires c κs = (omega arith, c .pre .1, c .pre .2, c .pre .3 .at _ (c .pre .1), c .pre .4)
 
 largest-requires : tie.Need-largest-requires
-largest-requires c κs = omega arith
+largest-requires c κs = let d = c .before in rw (d .drawn .ensures .count) (d .before .pre .0)
 
 shifted-requires : tie.Need-shifted-requires
-shifted-requires c κs = let d = c .before .drawn .ensures in (omega arith, d .1, close-largest _ (d .1) (c .largest .ensures))
+shifted-requires c κs =
+    let k = c .before .before in
+    let d = k .drawn .ensures in
+    (rw (d .count) (k .before .pre .0), rw (d .count) (d .words .close), close-largest _ (d .words .close) (rw (d .count) at (c .largest .ensures)))
 
 returns : tie.Need-returns
 unfolding ray-of meantV
 returns c =
-    let d = c .before .before .drawn .ensures in
-    candidate-drawn _ _ _ (d .0) (c .before .largest .ensures) (d .1) (c .shifted .ensures)
+    let k = c .before in
+    candidate-drawn _ (k .before .before .drawn .ensures) (k .largest .ensures) (c .shifted .ensures)
 
 pub candidate-spec : {M : Type 1} → statement M
 candidate-spec =

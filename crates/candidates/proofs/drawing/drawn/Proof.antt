@@ -1,27 +1,26 @@
 -- `candidates::drawing::drawn` meets its contract. The places passed are written. Assumes nothing.
-use mathlib.Core.Path.{_≡_}
 use Prim.Native.Nat.{_≤_, _-_}
 use native.Mathlib.Omega.{arith}
 use borrow.Author.Tests.{ltb-false}
 use Rattle.maxplus.specs.Entry.{_⊗_, _⊕_}
-use Rattle.words.specs.Words.{entry, Close}
+use Rattle.words.specs.Words.{entry}
 use Rattle.words.proofs.Laws.{close-more}
 use Rattle.sheet.specs.Sizes.{drawn-size}
 use Rattle.tables.specs.Held.{meant, meantV}
-use Rattle.tables.proofs.Loops.{Filled, filled-none, filled-more}
+use Rattle.tables.specs.Lines.{WordsOf}
+use Rattle.tables.proofs.LineLaws.{written-none, written-more, written-all}
 use Rattle.candidates.proofs.DrawLaws.{ray-is}
 use Rattle.candidates.proofs.drawing.drawn.Statement.{statement}
 use Rattle.candidates.proofs.drawing.drawn.Tie as tie
 
 abbrev Inv-loop : tie.InvT-loop
-Inv-loop star pull n t starred r₀ i₀ r i = (i ≤ n) ×
-    Filled (λ i v. (entry v ≡ meant star i t ⊕ entry pull ⊗ meantV starred i) × Close drawn-size v) 0 r i
+Inv-loop star pull t starred n r₀ i₀ r i = (i ≤ n) × WordsOf i drawn-size (λ i. meant star i t ⊕ entry pull ⊗ meantV (starred .at) i) r
 
 abbrev μ-loop : tie.MeasureT-loop
-μ-loop star pull n t starred r₀ i₀ r i = n - i
+μ-loop star pull t starred n r₀ i₀ r i = n - i
 
 loop-holds : tie.Need-loop-holds Inv-loop μ-loop
-loop-holds c = (omega arith, filled-none _ 0 _)
+loop-holds c = (omega arith, written-none _ _)
 
 mul-larger : tie.Need-mul-larger Inv-loop μ-loop
 mul-larger c = omega arith
@@ -38,8 +37,8 @@ index-2-larger c = omega arith
 mul-plus : tie.Need-mul-plus Inv-loop μ-loop
 mul-plus c = omega arith
 
-array-read-plus : tie.Need-array-read-plus Inv-loop μ-loop
-array-read-plus c = omega arith
+element-copy-out-plus : tie.Need-element-copy-out-plus Inv-loop μ-loop
+element-copy-out-plus c = omega arith
 
 plus-requires : tie.Need-plus-requires Inv-loop μ-loop
 plus-requires c κs =
@@ -65,21 +64,16 @@ loop-again : tie.Need-loop-again Inv-loop μ-loop
 unfolding meant meantV
 loop-again c =
     let k : tie.At-loop Inv-loop μ-loop = search in
-    let s = k .before in (
-      omega arith,
-      filled-more _ 0 _ _ _ (omega arith) (k .loop .inv .1)
-          (ray-is _ _ _ _ _ (omega arith) (c .before .plus .ensures) (c .larger .ensures) (s .pre .2 .at _ _ (omega arith) (s .pre .1)) (s .pre .3)
-          (s .pre .4 .at _ (omega arith))),
-    )
+    let s : tie.Start Inv-loop μ-loop = search in
+    let (e, l) = ray-is _ _ _ _ _ (omega arith) (c .before .plus .ensures) (c .larger .ensures) (s .pre .2 .at _ _ (omega arith) (s .pre .1)) (s .pre .3)
+    (s .pre .4 .at _ (omega arith)) in
+    (omega arith, written-more _ (omega arith) (k .loop .inv .1) e l)
 
 returns : tie.Need-returns Inv-loop μ-loop
 returns c = let e : ⊥ = omega (arith, ltb-false) in absurd e
 
 returns-2 : tie.Need-returns-2 Inv-loop μ-loop
-unfolding meantV
-returns-2 c =
-    let r = c .before .loop .inv .1 in
-    (record { at = λ j h. r .done j (omega arith) .0 }, record { at = λ j h. r .done j (omega arith) .1 })
+returns-2 c = written-all (omega arith) (omega arith) (c .before .loop .inv .1)
 
 pub drawn-spec : {M : Type 1} → statement M
 drawn-spec =
@@ -93,7 +87,7 @@ drawn-spec =
     index-1-larger
     index-2-larger
     mul-plus
-    array-read-plus
+    element-copy-out-plus
     plus-requires
     larger-requires
     mul-r

@@ -1,26 +1,25 @@
 -- `candidates::drawing::starred` meets its contract. The rows passed are written. Assumes nothing.
-use mathlib.Core.Path.{_≡_}
 use Prim.Native.Nat.{_≤_, _-_}
 use native.Mathlib.Omega.{arith}
 use borrow.Author.Tests.{ltb-false}
 use Rattle.maxplus.specs.Tables.{mv}
-use Rattle.words.specs.Words.{entry, Close}
 use Rattle.sheet.specs.Sizes.{starred-size}
 use Rattle.tables.specs.Held.{meant, meantV}
-use Rattle.tables.proofs.Loops.{Filled, filled-none, filled-more}
 use Rattle.tables.proofs.SquareLaws.{closely-moreV, closely-part}
 use Rattle.tables.proofs.LargestLaws.{close-dot}
+use Rattle.tables.specs.Lines.{WordsOf}
+use Rattle.tables.proofs.LineLaws.{written-none, written-more, written-all}
 use Rattle.candidates.proofs.drawing.starred.Statement.{statement}
 use Rattle.candidates.proofs.drawing.starred.Tie as tie
 
 abbrev Inv-loop : tie.InvT-loop
-Inv-loop star n at r₀ i₀ r i = (i ≤ n) × Filled (λ i v. (entry v ≡ mv n (meant star) (meantV at) i) × Close starred-size v) 0 r i
+Inv-loop star n at r₀ i₀ r i = (i ≤ n) × WordsOf i starred-size (mv n (meant star) (meantV at)) r
 
 abbrev μ-loop : tie.MeasureT-loop
 μ-loop star n at r₀ i₀ r i = n - i
 
 loop-holds : tie.Need-loop-holds Inv-loop μ-loop
-loop-holds c = (omega arith, filled-none _ 0 _)
+loop-holds c = (omega arith, written-none _ _)
 
 dot-requires : tie.Need-dot-requires Inv-loop μ-loop
 dot-requires c κs =
@@ -45,17 +44,14 @@ loop-again c =
     let s = k .before .before in
     let e = c .dot .ensures in (
       omega arith,
-      filled-more _ 0 _ _ _ (omega arith) (k .loop .inv .1) (e, close-dot _ _ (omega arith) (s .pre .1) (s .pre .2) e),
+      written-more _ (omega arith) (k .loop .inv .1) e (close-dot _ _ (omega arith) (s .pre .1) (s .pre .2) e),
     )
 
 returns : tie.Need-returns Inv-loop μ-loop
 returns c = let e : ⊥ = omega (arith, ltb-false) in absurd e
 
 returns-2 : tie.Need-returns-2 Inv-loop μ-loop
-unfolding meantV
-returns-2 c =
-    let r = c .before .loop .inv .1 in
-    (record { at = λ j h. r .done j (omega arith) .0 }, record { at = λ j h. r .done j (omega arith) .1 })
+returns-2 c = written-all (omega arith) (omega arith) (c .before .loop .inv .1)
 
 pub starred-spec : {M : Type 1} → statement M
 starred-spec =

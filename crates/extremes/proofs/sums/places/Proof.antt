@@ -1,4 +1,4 @@
--- `bits::places` meets its contract. The places passed that have the word are marked, and bit is theirs to come.
+-- `extremes::sums::places` meets its contract. The places passed that have the word are marked, and bit is theirs to come.
 -- Assumes nothing.
 use mathlib.Core.Path.{_≡_, refl}
 use mathlib.Core.Logic.{⊎-elim}
@@ -11,16 +11,16 @@ use Rattle.tables.specs.Held.{meant, meantV}
 use Rattle.trigger_sets.proofs.ByteLaws.{bit-more, bit-low}
 use Rattle.trigger_sets.specs.Sets.{SetOf}
 use Rattle.trigger_sets.proofs.SetLaws.{passed-none, passed-more, passed-less}
-use Rattle.candidates.proofs.WordLaws.{same-word, other-word}
+use Rattle.words.proofs.Laws.{same-word, other-word}
 use Rattle.extremes.proofs.sums.places.Statement.{statement}
 use Rattle.extremes.proofs.sums.places.Tie as tie
 
 abbrev Inv-loop : tie.InvT-loop
-Inv-loop table i word n x set₀ bit₀ j₀ set bit j = (j ≤ n) × (bit ≡ 2 ^ j) ×
-    SetOf (λ k. (k < j) × (meant table i k ⊗ meantV x k ≡ entry word)) set
+Inv-loop table i word line n set₀ bit₀ j₀ set bit j = (j ≤ n) × (bit ≡ 2 ^ j) ×
+    SetOf (λ k. (k < j) × (meant table i k ⊗ meantV (line .at) k ≡ entry word)) set
 
 abbrev μ-loop : tie.MeasureT-loop
-μ-loop table i word n x set₀ bit₀ j₀ set bit j = n - j
+μ-loop table i word line n set₀ bit₀ j₀ set bit j = n - j
 
 loop-holds : tie.Need-loop-holds Inv-loop μ-loop
 loop-holds c = (omega arith, refl, passed-none _)
@@ -40,8 +40,8 @@ index-2-plus c = omega arith
 mul-plus-3 : tie.Need-mul-plus-3 Inv-loop μ-loop
 mul-plus-3 c = omega arith
 
-array-read-plus : tie.Need-array-read-plus Inv-loop μ-loop
-array-read-plus c = omega arith
+element-copy-out-plus : tie.Need-element-copy-out-plus Inv-loop μ-loop
+element-copy-out-plus c = omega arith
 
 plus-requires : tie.Need-plus-requires Inv-loop μ-loop
 plus-requires c κs =
@@ -72,7 +72,9 @@ returns : tie.Need-returns Inv-loop μ-loop
 returns c = let e : ⊥ = omega (arith, ltb-false) in absurd e
 
 returns-2 : tie.Need-returns-2 Inv-loop μ-loop
-returns-2 c = let e : c .before .loop .j ≡ c .before .before .args .n = omega arith in rw e at (c .before .loop .inv .2)
+returns-2 c =
+    let k = c .before in
+    let e : k .loop .j ≡ k .before .args .t3 .count = omega arith in rw e at (k .loop .inv .2)
 
 pub places-spec : {M : Type 1} → statement M
 places-spec =
@@ -86,7 +88,7 @@ places-spec =
     index-1-plus
     index-2-plus
     mul-plus-3
-    array-read-plus
+    element-copy-out-plus
     plus-requires
     add-bit
     add-j

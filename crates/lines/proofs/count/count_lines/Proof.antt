@@ -10,7 +10,7 @@ use Rattle.lines.proofs.count.count_lines.Statement.{statement}
 use Rattle.lines.proofs.count.count_lines.Tie as tie
 
 abbrev Inv-loop : tie.InvT-loop
-Inv-loop marks star lag needs buf₀ last₀ count₀ buf last count = (length buf ≡ room) × Counted marks star lag needs last count
+Inv-loop marks star lag needs buf₀ last₀ count₀ buf last count = (length buf ≡ room) × Counted marks star lag needs (last .at) count
 
 abbrev μ-loop : tie.MeasureT-loop
 μ-loop marks star lag needs buf₀ last₀ count₀ buf last count = most - count
@@ -27,14 +27,14 @@ add-count c = omega (arith, counted-few (c .gather .ensures) (c .before .before 
 returns : tie.Need-returns Inv-loop μ-loop
 returns c P g = counted-end (c .before .gather .ensures) (c .before .before .before .loop .inv .1) (c .if1 .taken) P g
 
-sub-last : tie.Need-sub-last Inv-loop μ-loop
-sub-last c = omega arith
+sub-words : tie.Need-sub-words Inv-loop μ-loop
+sub-words c = omega arith
 
-mul-last : tie.Need-mul-last Inv-loop μ-loop
-mul-last c = omega arith
+mul-words : tie.Need-mul-words Inv-loop μ-loop
+mul-words c = omega arith
 
-array-copy-out-last : tie.Need-array-copy-out-last Inv-loop μ-loop
-array-copy-out-last c = omega arith
+array-copy-out-words : tie.Need-array-copy-out-words Inv-loop μ-loop
+array-copy-out-words c = omega arith
 
 loop-less : tie.Need-loop-less Inv-loop μ-loop
 loop-less c =
@@ -61,8 +61,8 @@ count-lines-spec =
     gather-requires
     add-count
     returns
-    sub-last
-    mul-last
-    array-copy-out-last
+    sub-words
+    mul-words
+    array-copy-out-words
     loop-less
     loop-again)

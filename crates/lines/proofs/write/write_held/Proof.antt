@@ -21,17 +21,17 @@ loop-holds : tie.Need-loop-holds Inv-loop μ-loop
 loop-holds c = let a = c .args in
     (omega arith, refl, laid-none (a .out .now) (a .at) ∙ sym (laid-none-held (a .n) (a .buf .now) (a .out .now) (a .at)))
 
+mul-words : tie.Need-mul-words Inv-loop μ-loop
+mul-words c = omega arith
+
+element-copy-out-words : tie.Need-element-copy-out-words Inv-loop μ-loop
+element-copy-out-words c = omega arith
+
 mul-write-line : tie.Need-mul-write-line Inv-loop μ-loop
 mul-write-line c = omega arith
 
 add-write-line : tie.Need-add-write-line Inv-loop μ-loop
 add-write-line c = omega arith
-
-mul-write-line-2 : tie.Need-mul-write-line-2 Inv-loop μ-loop
-mul-write-line-2 c = omega arith
-
-element-copy-out-write-line : tie.Need-element-copy-out-write-line Inv-loop μ-loop
-element-copy-out-write-line c = omega arith
 
 write-line-requires : tie.Need-write-line-requires Inv-loop μ-loop
 write-line-requires c κs =
@@ -71,10 +71,10 @@ write-held-spec =
     Inv-loop
     μ-loop
     loop-holds
+    mul-words
+    element-copy-out-words
     mul-write-line
     add-write-line
-    mul-write-line-2
-    element-copy-out-write-line
     write-line-requires
     add-k
     loop-less

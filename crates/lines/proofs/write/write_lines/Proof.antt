@@ -12,7 +12,7 @@ use Rattle.cue.specs.Written.{line-size}
 
 abbrev Inv-loop : tie.InvT-loop
 Inv-loop out₀ marks star lag needs buf₀ last₀ at₀ out buf last at =
-    (length buf ≡ room) × Writing marks star lag needs last out₀ out at
+    (length buf ≡ room) × Writing marks star lag needs (last .at) out₀ out at
 
 abbrev μ-loop : tie.MeasureT-loop
 μ-loop out₀ marks star lag needs buf₀ last₀ at₀ out buf last at = length out₀ - at
@@ -60,14 +60,14 @@ add-at c =
     let at-gather : tie.After-gather Inv-loop μ-loop = search in
     omega (arith, room-left at-gather)
 
-sub-last : tie.Need-sub-last Inv-loop μ-loop
-sub-last c = omega arith
+sub-words : tie.Need-sub-words Inv-loop μ-loop
+sub-words c = omega arith
 
-mul-last : tie.Need-mul-last Inv-loop μ-loop
-mul-last c = omega arith
+mul-words : tie.Need-mul-words Inv-loop μ-loop
+mul-words c = omega arith
 
-array-copy-out-last : tie.Need-array-copy-out-last Inv-loop μ-loop
-array-copy-out-last c = omega arith
+array-copy-out-words : tie.Need-array-copy-out-words Inv-loop μ-loop
+array-copy-out-words c = omega arith
 
 loop-less : tie.Need-loop-less Inv-loop μ-loop
 loop-less c =
@@ -97,8 +97,8 @@ write-lines-spec =
     returns
     mul-at
     add-at
-    sub-last
-    mul-last
-    array-copy-out-last
+    sub-words
+    mul-words
+    array-copy-out-words
     loop-less
     loop-again)

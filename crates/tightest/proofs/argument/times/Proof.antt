@@ -8,7 +8,7 @@ use borrow.Author.Tests.{not-true, not-false}
 use lib.ListN.{length}
 use mir.Syntax.{w64}
 use mir.Val.{toZ, ofZ}
-use Rattle.timing.specs.Times.{far-limit}
+use Rattle.sheet.specs.Times.{far-limit}
 use Rattle.tightest.specs.Times.{clip}
 use Rattle.tightest.specs.Inner.{times-of}
 use Rattle.sheet.specs.Sheet.{item}

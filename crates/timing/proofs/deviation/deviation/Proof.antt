@@ -11,23 +11,25 @@ use Rattle.timing.proofs.deviation.deviation.Tie as tie
 
 overdue-requires : tie.Need-overdue-requires
 overdue-requires c κs =
-    let s = c .pre .0 in
-    (s .few-triggers, closely-moreV (omega arith) (s .dues), closely-moreV (omega arith) (c .pre .1))
+    let p = c .before .pre in
+    let s = p .0 in
+    (s .few-triggers, closely-moreV (omega arith) (s .dues), closely-moreV (omega arith) (p .1))
 
 shortfall-requires : tie.Need-shortfall-requires
 shortfall-requires c κs =
-    let s = c .before .pre .0 in (
+    let p = c .before .before .pre in
+    let s = p .0 in (
       s .few-panels,
       s .few-triggers,
       closely-more (omega arith) (s .lags),
       closely-moreV (omega arith) (s .floors),
-      closely-moreV (omega arith) (c .before .pre .1),
+      closely-moreV (omega arith) (p .1),
     )
 
 plus-requires : tie.Need-plus-requires
 plus-requires c κs =
-    let s = c .before .before .pre .0 in
-    let x = c .before .before .pre .1 in (
+    let start : tie.Start = search in
+    let (s, x) = start .pre in (
       close-more (omega arith) (close-overdue _ (s .dues) x (c .before .overdue .ensures)),
       close-more (omega arith) (close-shortfall _ (s .lags) (s .floors) x (c .shortfall .ensures)),
     )

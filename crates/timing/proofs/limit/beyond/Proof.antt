@@ -4,7 +4,8 @@ use mathlib.Core.Bool.{Bool, false}
 use Prim.Native.Nat.{_≤_, _-_}
 use native.Mathlib.Omega.{arith}
 use lib.IntN.{ℤ}
-use Rattle.timing.specs.Times.{beyond, component, some-beyond}
+use Rattle.sheet.specs.Times.{beyond, some-beyond}
+use Rattle.timing.specs.Times.{component}
 use Rattle.timing.proofs.LimitLaws.{some-none, some-more, some-at, read-again}
 use Rattle.timing.proofs.limit.beyond.Statement.{statement}
 use Rattle.timing.proofs.limit.beyond.Tie as tie

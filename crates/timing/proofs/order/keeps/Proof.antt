@@ -3,24 +3,23 @@ use Prim.Native.Nat.{ℕ, _≤_, _<_, _-_}
 use native.Mathlib.Omega.{arith}
 use borrow.Author.Count.{below-none, below-more}
 use Rattle.maxplus.specs.Entry.{_≼_, _⊗_}
-use Rattle.words.proofs.Laws.{close-more}
+use Rattle.words.proofs.Laws.{within-word, beyond-word, close-more}
 use Rattle.cue.specs.Cue.{Keeps}
 use Rattle.tables.specs.Held.{meant, meantV}
-use Rattle.timing.proofs.OrderLaws.{rule-kept, rule-broken}
 use Rattle.timing.proofs.order.keeps.Statement.{statement}
 use Rattle.timing.proofs.order.keeps.Tie as tie
 
 abbrev Inv-loop2 : tie.InvT-loop2
-Inv-loop2 after n x i j₀ j = (j ≤ n) × ((b : ℕ) → b < j → meant after i b ⊗ meantV x b ≼ meantV x i)
+Inv-loop2 after x n i j₀ j = (j ≤ n) × ((b : ℕ) → b < j → meant after i b ⊗ meantV (x .at) b ≼ meantV (x .at) i)
 
 abbrev μ-loop2 : tie.MeasureT-loop2
-μ-loop2 after n x i j₀ j = n - j
+μ-loop2 after x n i j₀ j = n - j
 
 abbrev Inv-loop : tie.InvT-loop
-Inv-loop after n x i₀ i = (i ≤ n) × ((a : ℕ) → a < i → (b : ℕ) → b < n → meant after a b ⊗ meantV x b ≼ meantV x a)
+Inv-loop after x n i₀ i = (i ≤ n) × ((a : ℕ) → a < i → (b : ℕ) → b < n → meant after a b ⊗ meantV (x .at) b ≼ meantV (x .at) a)
 
 abbrev μ-loop : tie.MeasureT-loop
-μ-loop after n x i₀ i = n - i
+μ-loop after x n i₀ i = n - i
 
 loop-holds : tie.Need-loop-holds Inv-loop2 μ-loop2 Inv-loop μ-loop
 loop-holds c = (omega arith, below-none _)
@@ -31,8 +30,8 @@ loop2-holds c = (omega arith, below-none _)
 mul-if1 : tie.Need-mul-if1 Inv-loop2 μ-loop2 Inv-loop μ-loop
 mul-if1 c = omega arith
 
-array-read-if1 : tie.Need-array-read-if1 Inv-loop2 μ-loop2 Inv-loop μ-loop
-array-read-if1 c = omega arith
+element-copy-out-if1 : tie.Need-element-copy-out-if1 Inv-loop2 μ-loop2 Inv-loop μ-loop
+element-copy-out-if1 c = omega arith
 
 mul-plus : tie.Need-mul-plus Inv-loop2 μ-loop2 Inv-loop μ-loop
 mul-plus c = omega arith
@@ -49,8 +48,8 @@ index-2-plus c = omega arith
 mul-plus-3 : tie.Need-mul-plus-3 Inv-loop2 μ-loop2 Inv-loop μ-loop
 mul-plus-3 c = omega arith
 
-array-read-plus : tie.Need-array-read-plus Inv-loop2 μ-loop2 Inv-loop μ-loop
-array-read-plus c = omega arith
+element-copy-out-plus : tie.Need-element-copy-out-plus Inv-loop2 μ-loop2 Inv-loop μ-loop
+element-copy-out-plus c = omega arith
 
 plus-requires : tie.Need-plus-requires Inv-loop2 μ-loop2 Inv-loop μ-loop
 plus-requires c κs =
@@ -69,7 +68,7 @@ returns c =
     let at-loop : tie.At-loop Inv-loop2 μ-loop2 Inv-loop μ-loop = search in
     let i = at-loop .loop .i in
     let j = at-loop2 .loop2 .j in
-    λ k. rule-broken _ _ _ (c .before .plus .ensures) (c .if1 .taken) (k i j (omega arith) (omega arith))
+    λ k. beyond-word (c .before .plus .ensures) (c .if1 .taken) (k i j (omega arith) (omega arith))
 
 add-j : tie.Need-add-j Inv-loop2 μ-loop2 Inv-loop μ-loop
 add-j c = omega arith
@@ -81,7 +80,7 @@ loop2-again : tie.Need-loop2-again Inv-loop2 μ-loop2 Inv-loop μ-loop
 unfolding meant meantV
 loop2-again c =
     let at-loop2 : tie.At-loop2 Inv-loop2 μ-loop2 Inv-loop μ-loop = search in
-    (omega arith, below-more _ _ (at-loop2 .loop2 .inv .1) (rule-kept _ _ _ (c .before .plus .ensures) (c .if1 .left)))
+    (omega arith, below-more _ _ (at-loop2 .loop2 .inv .1) (within-word (c .before .plus .ensures) (c .if1 .left)))
 
 add-i : tie.Need-add-i Inv-loop2 μ-loop2 Inv-loop μ-loop
 add-i c = omega arith
@@ -108,13 +107,13 @@ keeps-spec =
     loop-holds
     loop2-holds
     mul-if1
-    array-read-if1
+    element-copy-out-if1
     mul-plus
     mul-plus-2
     index-1-plus
     index-2-plus
     mul-plus-3
-    array-read-plus
+    element-copy-out-plus
     plus-requires
     returns
     add-j

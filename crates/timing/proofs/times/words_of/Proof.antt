@@ -1,36 +1,42 @@
 -- `timing::times::words_of` meets its contract. The words of the components passed are written. Assumes nothing.
-use mathlib.Core.Path.{_≡_, ap, _∙_}
+use mathlib.Core.Path.{ap, _∙_}
 use Prim.Native.Nat.{_≤_, _-_}
 use native.Mathlib.Omega.{arith}
 use Rattle.maxplus.specs.Entry.{num}
 use Rattle.words.specs.Words.{word}
-use Rattle.timing.specs.Times.{component, beyond}
+use Rattle.cue.specs.Cue.{timing}
+use Rattle.tables.specs.Lines.{WordsOf}
+use Rattle.tables.proofs.LineLaws.{written-none, written-more, written-all}
+use Rattle.sheet.specs.Times.{far-limit, beyond}
+use Rattle.timing.specs.Times.{component}
 use Rattle.timing.proofs.LimitLaws.{none-at, read-again}
-use Rattle.timing.proofs.TimeLaws.{WordsUpTo, written-none, written-more, written-all}
+use Rattle.timing.proofs.TimeLaws.{near, component-word}
 use Rattle.timing.proofs.times.words_of.Statement.{statement}
 use Rattle.timing.proofs.times.words_of.Tie as tie
 
 abbrev Inv-loop : tie.InvT-loop
-Inv-loop n at r₀ j₀ r j = (j ≤ n) × WordsUpTo (component at) r j
+Inv-loop n at r₀ j₀ r j = (j ≤ n) × WordsOf j far-limit (timing (component at)) r
 
 abbrev μ-loop : tie.MeasureT-loop
 μ-loop n at r₀ j₀ r j = n - j
 
 loop-holds : tie.Need-loop-holds Inv-loop μ-loop
-loop-holds c = (omega arith, written-none _)
+loop-holds c = (omega arith, written-none _ _)
 
-mul-word-of : tie.Need-mul-word-of Inv-loop μ-loop
-mul-word-of c = omega arith
+mul-of-number : tie.Need-mul-of-number Inv-loop μ-loop
+mul-of-number c = omega arith
 
-array-copy-out-word-of : tie.Need-array-copy-out-word-of Inv-loop μ-loop
-array-copy-out-word-of c = omega arith
+array-copy-out-of-number : tie.Need-array-copy-out-of-number Inv-loop μ-loop
+array-copy-out-of-number c = omega arith
 
-word-of-requires : tie.Need-word-of-requires Inv-loop μ-loop
-word-of-requires c κs =
+of-number-requires : tie.Need-of-number-requires Inv-loop μ-loop
+of-number-requires c κs =
     let at-loop : tie.At-loop Inv-loop μ-loop = search in
     let s : tie.Start Inv-loop μ-loop = search in
     let j = at-loop .loop .j in
-    ap beyond (read-again (component (s .args .timing .at) j) (c .word-of-arg .given)) ∙ none-at beyond _ _ j (s .pre .1) (omega arith)
+    let x = component (s .args .timing .at) j in
+    let h = near x (none-at beyond _ _ j (s .pre .1) (omega arith)) in
+    rw (read-again x (c .of-number-arg .given)) (omega (arith, h .0), omega (arith, h .1))
 
 mul-r : tie.Need-mul-r Inv-loop μ-loop
 mul-r c = omega arith
@@ -47,19 +53,15 @@ loop-less c = omega arith
 loop-again : tie.Need-loop-again Inv-loop μ-loop
 loop-again c =
     let at-loop : tie.At-loop Inv-loop μ-loop = search in
-    let start : tie.Start Inv-loop μ-loop = search in
+    let s : tie.Start Inv-loop μ-loop = search in
     let l = at-loop .loop in
-    let x = component (start .args .timing .at) (l .j) in (
-      omega arith,
-      written-more _ (omega arith) (l .inv .1)
-          (c .word-of .ensures ∙ ap (λ z. word (num z)) (read-again x (c .before .word-of-arg .given))),
-    )
+    let x = component (s .args .timing .at) (l .j) in
+    let (e, k) = component-word x (none-at beyond _ _ (l .j) (s .pre .1) (omega arith)) _
+    (c .of-number .ensures ∙ ap (λ z. word (num z)) (read-again x (c .before .of-number-arg .given))) in
+    (omega arith, written-more _ (omega arith) (l .inv .1) e k)
 
 returns : tie.Need-returns Inv-loop μ-loop
-returns c =
-    let s = c .before .before .before in
-    let e : c .before .loop .j ≡ s .args .n = omega arith in
-    written-all _ _ (s .pre .1) (rw e at (c .before .loop .inv .1))
+returns c = written-all (omega arith) (omega arith) (c .before .loop .inv .1)
 
 pub words-of-spec : {M : Type 1} → statement M
 words-of-spec =
@@ -68,9 +70,9 @@ words-of-spec =
     Inv-loop
     μ-loop
     loop-holds
-    mul-word-of
-    array-copy-out-word-of
-    word-of-requires
+    mul-of-number
+    array-copy-out-of-number
+    of-number-requires
     mul-r
     array-write-r
     add-j

@@ -1,15 +1,15 @@
--- `timing::times::word_of` meets its contract. Assumes nothing.
+-- `words::of_number` meets its contract. Assumes nothing.
 use mathlib.Core.Path.{_∙_}
 use native.Mathlib.Omega.{arith}
-use Rattle.timing.proofs.TimeLaws.{Negative, negative, Natural, natural, negative-word, natural-word}
-use Rattle.timing.proofs.times.word_of.Statement.{statement}
-use Rattle.timing.proofs.times.word_of.Tie as tie
+use Rattle.words.proofs.SignedLaws.{Negative, negative, Natural, natural, negative-word, natural-word}
+use Rattle.words.proofs.of_number.Statement.{statement}
+use Rattle.words.proofs.of_number.Tie as tie
 
 below : (c : tie.Then1) → Negative (c .before .args .x)
-below c = negative _ (c .before .fits .x) (c .before .pre) (c .if1 .taken)
+below c = negative _ (c .before .fits .x) (c .before .pre .1) (c .if1 .taken)
 
 above : (c : tie.Else1) → Natural (c .before .args .x)
-above c = natural _ (c .before .fits .x) (c .before .pre) (c .if1 .left)
+above c = natural _ (c .before .fits .x) (c .before .pre .0) (c .if1 .left)
 
 sub-negative : tie.Need-sub-negative
 sub-negative c = below c .turned-fits
@@ -32,8 +32,8 @@ positive-requires c κs = let n = above c in rw (n .read-is) (omega arith)
 returns-2 : tie.Need-returns-2
 returns-2 c = c .positive .ensures ∙ natural-word (above (c .before))
 
-pub word-of-spec : {M : Type 1} → statement M
-word-of-spec =
+pub of-number-spec : {M : Type 1} → statement M
+of-number-spec =
     tie.close
     (tie.spec
     sub-negative
