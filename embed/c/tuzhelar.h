@@ -61,6 +61,9 @@ extern "C" {
  *   through it. The proof does not speak of null pointers.
  * - `space` and `answer` share no memory with one another or with `sheet`. (`sheet` and `times` are only read.)
  * - Nothing else writes there during the call.
+ *
+ * `space` is what document 01 calls the lent space, of which it says that the rest is left and that a refusal changes no word.
+ * The words of `answer` are results, returned through a pointer because there are several, and not lent space.
  */
 
 /*
@@ -91,13 +94,13 @@ uint32_t tuzhelar_plan(const uint8_t *sheet, size_t sheet_length, int32_t *space
 uint32_t tuzhelar_kept(const uint8_t *sheet, size_t sheet_length, int64_t *answer, size_t answer_length);
 
 /*
- * Testing a timing. Returns 100 if the first `count` times are tightest, 101 if they are not, or the refusal: 1 to 7; then
- * 10, `count` is not the sheet's number of triggers; then 11, one of these times is beyond +-1,000,000,000; then 8.
+ * Testing a timing. Returns 100 if the times are tightest, 101 if they are not, or the refusal: 1 to 7; then 10, `times_length`
+ * is not the sheet's number of triggers; then 11, a time is beyond +-1,000,000,000; then 8.
  *
- * It writes nothing. A time that is at or past `times_length` counts as 0. No time past the sixth is looked at, and none
- * past the sheet's number of triggers changes the answer.
+ * It writes nothing. As many times are tested as are lent: none is made up, and of more than six, which are always 10 where
+ * the sheet is not refused before, none is looked at.
  */
-uint32_t tuzhelar_test(const uint8_t *sheet, size_t sheet_length, size_t count, const int64_t *times, size_t times_length);
+uint32_t tuzhelar_test(const uint8_t *sheet, size_t sheet_length, const int64_t *times, size_t times_length);
 
 /*
  * ---- The layer in C, which is not proved
@@ -184,19 +187,17 @@ static inline struct tuzhelar_keeping tuzhelar_kept_table(const void *sheet, siz
     return keeping;
 }
 
-/* Testing a timing of `count` times: TUZHELAR_YES, TUZHELAR_NO or a refusal. More than six times are 10, unread. */
-static inline uint32_t tuzhelar_test_timing(const void *sheet, size_t sheet_length, const int64_t *times, size_t count)
+/* Testing a timing: TUZHELAR_YES, TUZHELAR_NO or a refusal. More than six times are 10, unread. */
+static inline uint32_t tuzhelar_test_timing(const void *sheet, size_t sheet_length, const int64_t *times, size_t times_length)
 {
     uint8_t copy[TUZHELAR_SHEET_BYTES + 1];
     size_t length = tuzhelar_copied(copy, sheet, sheet_length);
     int64_t none = 0;
     if (times == NULL) {
-        count = 0;
+        times = &none;
+        times_length = 0;
     }
-    if (count == 0 || count > TUZHELAR_MOST) {
-        return tuzhelar_test(copy, length, count, &none, 0);
-    }
-    return tuzhelar_test(copy, length, count, times, count);
+    return tuzhelar_test(copy, length, times, times_length);
 }
 
 /* Component j of line i, both from 0, of a list at the front of `space`: a number, or TUZHELAR_ABSENT. */

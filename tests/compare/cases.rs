@@ -352,33 +352,25 @@ fn space_cases(checks: &mut Checks) {
 
 /// Testing a timing.
 fn test_cases(checks: &mut Checks) {
-    let mut check = |name: &str, sheet: &str, count: usize, first: [i64; 2], wanted| {
-        // The times behind the first n hold anything.
-        let times = [first[0], first[1], i64::MIN, i64::MAX, 0, 1];
-        let answer = reference::test(sheet.as_bytes(), count, &times);
-        checks.check(name, answer == wanted);
+    let mut check = |name: &str, sheet: &str, times: &[i64], wanted| {
+        checks.check(name, reference::test(sheet.as_bytes(), times) == wanted);
     };
     let limit = reference::LONGEST_TIME;
-    check("P: times 0,0", WHOLE, 2, [0, 0], Ok(true));
-    check("P: times 0,1", WHOLE, 2, [0, 1], Ok(true));
-    check("P: times 0,2", WHOLE, 2, [0, 2], Ok(false));
-    check("times at the limit", WHOLE, 2, [limit, limit], Ok(true));
-    check(
-        "times at the lower limit",
-        WHOLE,
-        2,
-        [-limit, -limit],
-        Ok(true),
-    );
-    check("times beyond", WHOLE, 2, [limit + 1, limit], Err(11));
-    check("times below", WHOLE, 2, [0, -limit - 1], Err(11));
-    check("too few", WHOLE, 1, [0, 0], Err(10));
-    check("too many", WHOLE, 3, [0, 0], Err(10));
-    check("far too many", WHOLE, 7, [limit + 1, 0], Err(10));
-    check("reading first", "", 7, [limit + 1, 0], Err(2));
-    check("10 before 8", &one_by_one("1"), 2, [0, 0], Err(10));
-    check("11 before 8", &one_by_one("1"), 1, [limit + 1, 0], Err(11));
-    check("8", &one_by_one("1"), 1, [0, limit + 1], Err(8));
-    check("an order broken", TWO_SELECTIONS, 2, [0, 0], Ok(false));
-    check("an order kept", TWO_SELECTIONS, 2, [0, 1], Ok(true));
+    check("P: times 0,0", WHOLE, &[0, 0], Ok(true));
+    check("P: times 0,1", WHOLE, &[0, 1], Ok(true));
+    check("P: times 0,2", WHOLE, &[0, 2], Ok(false));
+    check("times at the limit", WHOLE, &[limit, limit], Ok(true));
+    check("times at the lower limit", WHOLE, &[-limit; 2], Ok(true));
+    check("times beyond", WHOLE, &[limit + 1, limit], Err(11));
+    check("times below", WHOLE, &[0, -limit - 1], Err(11));
+    check("none", WHOLE, &[], Err(10));
+    check("too few", WHOLE, &[0], Err(10));
+    check("too many", WHOLE, &[0, 0, 0], Err(10));
+    check("far too many", WHOLE, &[limit + 1; 7], Err(10));
+    check("reading first", "", &[limit + 1; 7], Err(2));
+    check("10 before 8", &one_by_one("1"), &[0, 0], Err(10));
+    check("11 before 8", &one_by_one("1"), &[limit + 1], Err(11));
+    check("8", &one_by_one("1"), &[0], Err(8));
+    check("an order broken", TWO_SELECTIONS, &[0, 0], Ok(false));
+    check("an order kept", TWO_SELECTIONS, &[0, 1], Ok(true));
 }

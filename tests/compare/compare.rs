@@ -178,10 +178,10 @@ fn compare_test(
     seen: &mut Seen,
 ) -> Result<(), String> {
     let triggers = reference::read(sheet).map(|sheet| sheet.triggers);
-    let (count, times) = timing_to_test(triggers.unwrap_or(2), lines, random);
-    let wanted = test_answer(reference::test(sheet, count, &times));
-    let got = (tried.test)(sheet, count, times);
-    same(&format!("test of {count} times {times:?}"), &wanted, &got)?;
+    let times = timing_to_test(triggers.unwrap_or(2), lines, random);
+    let wanted = test_answer(reference::test(sheet, &times));
+    let got = (tried.test)(sheet, &times);
+    same(&format!("test of times {times:?}"), &wanted, &got)?;
     match wanted {
         YES => seen.tests[0] += 1,
         NO => seen.tests[1] += 1,
@@ -192,9 +192,9 @@ fn compare_test(
     Ok(())
 }
 
-/// A timing near the tightest ones, sometimes moved to the limits, with a wrong count or a word
-/// beyond the limit. The times behind the count may hold anything.
-fn timing_to_test(n: usize, lines: &[Line], random: &mut Random) -> (usize, [i64; 6]) {
+/// A timing near the tightest ones, sometimes moved to the limits, with a word beyond the limit, or
+/// with another number of times.
+fn timing_to_test(n: usize, lines: &[Line], random: &mut Random) -> Vec<i64> {
     let strange = [
         i64::MIN,
         i64::MAX,
@@ -202,23 +202,22 @@ fn timing_to_test(n: usize, lines: &[Line], random: &mut Random) -> (usize, [i64
         1_000_000_001,
         1 << 32,
     ];
-    let mut times = [0; 6].map(|_| *random.pick(&strange));
-    times[..n].copy_from_slice(&near_tightest(n, lines, random));
+    let mut times = near_tightest(n, lines, random);
     if random.chance(40) {
         times[random.below(n)] += random.between(-2, 2);
     }
     if random.chance(20) {
-        move_to_limit(&mut times[..n], random);
+        move_to_limit(&mut times, random);
     }
     if random.chance(5) {
         times[random.below(n)] = *random.pick(&strange);
     }
-    let count = if random.chance(5) {
-        *random.pick(&[0, 1, 2, 5, 6, 7, 8, usize::MAX])
-    } else {
-        n
-    };
-    (count, times)
+    // What would stand behind the times: zeros above all, which must not be made up.
+    if random.chance(5) {
+        let count = *random.pick(&[0, 1, 2, 5, 6, 7, 8, 100]);
+        times.resize(count, *random.pick(&[0, 0, i64::MIN]));
+    }
+    times
 }
 
 /// A combination of the lines with random weights; random times where no line has a component.
@@ -321,9 +320,7 @@ fn components(draft: &Draft, words: &[i32]) -> Result<Vec<Option<i64>>, String> 
 }
 
 fn tested_tightest(tried: &Operations, sheet: &[u8], x: &[i64]) -> bool {
-    let mut times = [0; 6];
-    times[..x.len()].copy_from_slice(x);
-    (tried.test)(sheet, x.len(), times) == YES
+    (tried.test)(sheet, x) == YES
 }
 
 // ---------------------------------------------------------------- Which sheets

@@ -20,7 +20,6 @@ unsafe extern "C" {
     fn tuzhelar_test(
         sheet: *const u8,
         sheet_len: usize,
-        count: usize,
         times: *const i64,
         times_len: usize,
     ) -> u32;
@@ -51,15 +50,7 @@ pub fn kept(sheet: &[u8]) -> KeptAnswer {
     KeptAnswer { code, words }
 }
 
-pub fn test(sheet: &[u8], count: usize, times: [i64; 6]) -> u32 {
+pub fn test(sheet: &[u8], times: &[i64]) -> u32 {
     // SAFETY: as in `plan`.
-    unsafe {
-        tuzhelar_test(
-            sheet.as_ptr(),
-            sheet.len(),
-            count,
-            times.as_ptr(),
-            times.len(),
-        )
-    }
+    unsafe { tuzhelar_test(sheet.as_ptr(), sheet.len(), times.as_ptr(), times.len()) }
 }

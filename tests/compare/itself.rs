@@ -14,6 +14,6 @@ pub fn kept(sheet: &[u8]) -> KeptAnswer {
     kept_answer(&reference::survey(sheet))
 }
 
-pub fn test(sheet: &[u8], count: usize, times: [i64; 6]) -> u32 {
-    test_answer(reference::test(sheet, count, &times))
+pub fn test(sheet: &[u8], times: &[i64]) -> u32 {
+    test_answer(reference::test(sheet, times))
 }

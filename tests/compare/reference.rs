@@ -511,12 +511,11 @@ fn line_words(triggers: usize, line: &Line) -> [i32; LINE_WORDS] {
 
 /// "Testing a timing": "Reading's, then 10: not n components; 11: one beyond ±1,000,000,000; then 8.
 /// Otherwise yes exactly when the timing is tightest, else no."
-pub fn test(sheet: &[u8], count: usize, times: &[i64; SIZE]) -> Result<bool, Refusal> {
+pub fn test(sheet: &[u8], times: &[i64]) -> Result<bool, Refusal> {
     let sheet = read(sheet)?;
-    if count != sheet.triggers {
+    if times.len() != sheet.triggers {
         return Err(10);
     }
-    let times = &times[..count];
     if times
         .iter()
         .any(|t| !(-LONGEST_TIME..=LONGEST_TIME).contains(t))

@@ -1,7 +1,7 @@
 //! The implementation under test, behind three safe functions:
 //! - `plan(sheet: &[u8], space: &mut [i32]) -> PlanAnswer`
 //! - `kept(sheet: &[u8]) -> KeptAnswer`
-//! - `test(sheet: &[u8], count: usize, times: [i64; 6]) -> u32`
+//! - `test(sheet: &[u8], times: &[i64]) -> u32`
 //!
 //! Built with `--cfg linked` they call the static library, otherwise the reference itself.
 
@@ -14,7 +14,7 @@ pub use crate::itself::{kept, plan, test};
 pub struct Operations {
     pub plan: fn(&[u8], &mut [i32]) -> PlanAnswer,
     pub kept: fn(&[u8]) -> KeptAnswer,
-    pub test: fn(&[u8], usize, [i64; 6]) -> u32,
+    pub test: fn(&[u8], &[i64]) -> u32,
 }
 
 /// The implementation under test.

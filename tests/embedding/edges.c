@@ -77,6 +77,11 @@ static size_t least(size_t a, size_t b)
     return a < b ? a : b;
 }
 
+static uint32_t tested(const char *sheet, const int64_t *times, size_t length)
+{
+    return tuzhelar_test(bytes(sheet), strlen(sheet), times, length);
+}
+
 /* The proved functions, for every length of the space, the answer and the times. */
 static void lengths(void)
 {
@@ -109,31 +114,26 @@ static void lengths(void)
         check("kept, 8", length, tuzhelar_kept(bytes(CIRCLE), strlen(CIRCLE), answer, length) == TUZHELAR_ORDER);
         check("kept, 8, the answer", length, answer_holds(answer, KEPT, 0));
     }
-    /* Times that are not lent count as 0: 0,0 is tightest, 0,2 is not. */
+    /* As many times are tested as are lent: 0,2 is not tightest, and any other number of times is 10, though 0 or 0,0 could be made of them. */
     for (length = 0; length <= ANSWER; length++) {
         size_t i;
         for (i = 0; i < ANSWER; i++) {
             times[i] = i < 2 ? (int64_t)(2 * i) : INT64_MAX;
         }
-        check("test, times lent", length,
-              tuzhelar_test(bytes(WHOLE), strlen(WHOLE), 2, times, length) == (length < 2 ? TUZHELAR_YES : TUZHELAR_NO));
-        check("test, count", length,
-              tuzhelar_test(bytes(WHOLE), strlen(WHOLE), length, times, ANSWER) ==
-                  (length == 2 ? TUZHELAR_NO : TUZHELAR_COMPONENTS));
+        check("test, times lent", length, tested(WHOLE, times, length) == (length == 2 ? TUZHELAR_NO : TUZHELAR_COMPONENTS));
+        times[1] = 0;
+        check("test, zeros lent", length, tested(WHOLE, times, length) == (length == 2 ? TUZHELAR_YES : TUZHELAR_COMPONENTS));
+        check("test, times lent for one trigger", length, tested(CIRCLE, times, length) == (length == 1 ? TUZHELAR_ORDER : TUZHELAR_COMPONENTS));
     }
-    check("test, the largest count", 0,
-          tuzhelar_test(bytes(WHOLE), strlen(WHOLE), SIZE_MAX, times, ANSWER) == TUZHELAR_COMPONENTS);
     times[1] = TUZHELAR_LAST_TIME;
-    check("test, a time at the limit", 0, tuzhelar_test(bytes(WHOLE), strlen(WHOLE), 2, times, 2) == TUZHELAR_NO);
+    check("test, a time at the limit", 0, tested(WHOLE, times, 2) == TUZHELAR_NO);
     times[1] = (int64_t)TUZHELAR_LAST_TIME + 1;
-    check("test, a time beyond it", 0, tuzhelar_test(bytes(WHOLE), strlen(WHOLE), 2, times, 2) == TUZHELAR_TIME);
+    check("test, a time beyond it", 0, tested(WHOLE, times, 2) == TUZHELAR_TIME);
     times[1] = INT64_MIN;
-    check("test, the least time", 0, tuzhelar_test(bytes(WHOLE), strlen(WHOLE), 2, times, 2) == TUZHELAR_TIME);
-    check("test, 10 before 11", 0, tuzhelar_test(bytes(WHOLE), strlen(WHOLE), 3, times, 2) == TUZHELAR_COMPONENTS);
-    times[0] = 0;
-    check("test, 8", 0, tuzhelar_test(bytes(CIRCLE), strlen(CIRCLE), 1, times, 1) == TUZHELAR_ORDER);
+    check("test, the least time", 0, tested(WHOLE, times, 2) == TUZHELAR_TIME);
+    check("test, 10 before 11", 0, tested(WHOLE, times, 3) == TUZHELAR_COMPONENTS);
     times[0] = INT64_MIN;
-    check("test, 11 before 8", 0, tuzhelar_test(bytes(CIRCLE), strlen(CIRCLE), 1, times, 1) == TUZHELAR_TIME);
+    check("test, 11 before 8", 0, tested(CIRCLE, times, 1) == TUZHELAR_TIME);
 }
 
 /* Sheets of every length up to some past the limit, in memory of just that size. */

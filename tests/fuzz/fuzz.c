@@ -136,7 +136,7 @@ static struct answered try_plan(struct random *random, size_t words, size_t leng
     return answered;
 }
 
-static uint32_t try_test(struct random *random, size_t count, const int64_t *times, size_t length)
+static uint32_t try_test(struct random *random, const int64_t *times, size_t length)
 {
     int at_end = chance(random, 50);
     int64_t *lent = (int64_t *)lend(&times_area, length * sizeof *lent, at_end);
@@ -144,13 +144,21 @@ static uint32_t try_test(struct random *random, size_t count, const int64_t *tim
     if (length > 0) {
         memcpy(lent, times, length * sizeof *lent);
     }
-    number = tuzhelar_test(sheet, text.length, count, lent, length);
+    number = tuzhelar_test(sheet, text.length, lent, length);
     expect(marks_stay(&times_area, length * sizeof *lent, at_end), "words beside the times were written");
     expect(length == 0 || memcmp(lent, times, length * sizeof *lent) == 0, "the times were written");
     sheet_stays();
     if (number < sizeof met.tested / sizeof met.tested[0]) {
         met.tested[number]++;
     }
+    return number;
+}
+
+/* More times than a sheet can have, none of which is there to be read. */
+static uint32_t try_many(size_t length)
+{
+    uint32_t number = tuzhelar_test(sheet, text.length, (const int64_t *)lend(&times_area, 0, 1), length);
+    sheet_stays();
     return number;
 }
 
@@ -250,27 +258,31 @@ static void check_refused(struct random *random, uint32_t refusal)
     expect(plan.number == refusal, "planning's refusal is not the reader's");
     expect(all_untouched(&kept, 0) && all_untouched(&plan, 0), "a refusal wrote to the answer");
     times[below(random, MOST_TIMES)] = (int64_t)next_random(random);
-    expect(try_test(random, (size_t)below(random, 9), times, times_length) == refusal, "testing's refusal is not the reader's");
+    expect(try_test(random, times, times_length) == refusal, "testing's refusal is not the reader's");
+    expect(try_many(SIZE_MAX - times_length) == refusal, "testing's refusal with many times is not the reader's");
 }
 
 /* Times that testing refuses: 10 before 11, and both before 8. */
 static void check_times_refused(struct random *random, int n)
 {
     int64_t times[MOST_TIMES] = {0}, beyond = TUZHELAR_LAST_TIME + between(random, 1, 1000);
-    size_t count = (size_t)below(random, 9);
-    times[below(random, n)] = chance(random, 30) ? INT64_MIN : chance(random, 50) ? beyond : -beyond;
-    expect(try_test(random, (size_t)n, times, MOST_TIMES) == TUZHELAR_TIME, "a time beyond the limit is not 11");
+    size_t count = (size_t)below(random, MOST_TIMES + 1);
+    /* Zeros that are not lent must not be made up. */
     if (count != (size_t)n) {
-        expect(try_test(random, count, times, (size_t)below(random, MOST_TIMES + 1)) == TUZHELAR_COMPONENTS,
-               "a wrong number of times is not 10");
+        expect(try_test(random, times, count) == TUZHELAR_COMPONENTS, "a wrong number of times is not 10");
     }
-    expect(try_test(random, SIZE_MAX - count, times, MOST_TIMES) == TUZHELAR_COMPONENTS, "a large number of times is not 10");
+    times[below(random, n)] = chance(random, 30) ? INT64_MIN : chance(random, 50) ? beyond : -beyond;
+    expect(try_test(random, times, (size_t)n) == TUZHELAR_TIME, "a time beyond the limit is not 11");
+    if (count != (size_t)n) {
+        expect(try_test(random, times, count) == TUZHELAR_COMPONENTS, "a wrong number of times, with one beyond the limit, is not 10");
+    }
+    expect(try_many(count > MOST ? count : SIZE_MAX - count) == TUZHELAR_COMPONENTS, "more times than triggers can be are not 10");
 }
 
 /* A good sheet whose order no times keep. */
 static void check_no_order(struct random *random, const struct tables *tables)
 {
-    int64_t times[MOST_TIMES];
+    int64_t times[MOST];
     size_t length = (size_t)below(random, ANSWER_WORDS + 1);
     const int32_t *space;
     struct answered plan = try_plan(random, (size_t)below(random, 100), length, &space);
@@ -278,10 +290,10 @@ static void check_no_order(struct random *random, const struct tables *tables)
     expect(circle_above_0(tables), "8 without a circle above 0");
     expect(plan.number == TUZHELAR_ORDER, "the kept table is 8 and planning is not");
     expect(all_untouched(&plan, 0), "8 wrote to the answer");
-    for (j = 0; j < MOST_TIMES; j++) {
+    for (j = 0; j < MOST; j++) {
         times[j] = between(random, -TUZHELAR_LAST_TIME, TUZHELAR_LAST_TIME);
     }
-    expect(try_test(random, (size_t)tables->triggers, times, MOST_TIMES) == TUZHELAR_ORDER, "the kept table is 8 and testing is not");
+    expect(try_test(random, times, (size_t)tables->triggers) == TUZHELAR_ORDER, "the kept table is 8 and testing is not");
 }
 
 /* The kept table's words: sizes and bits fit the sheet. */
@@ -323,15 +335,7 @@ static void check_lines(const int32_t *lines, size_t count, int n)
 
 static void check_time(struct random *random, const struct tables *tables, const int64_t *times, int64_t least, const char *what)
 {
-    int64_t lent[MOST_TIMES];
-    int j;
-    for (j = 0; j < MOST_TIMES; j++) {
-        /* What stands behind the sheet's triggers must not matter. */
-        lent[j] = j < tables->triggers ? times[j] : (int64_t)next_random(random);
-    }
-    expect(try_test(random, (size_t)tables->triggers, lent, (size_t)between(random, tables->triggers, MOST_TIMES)) ==
-               meant(tables, times, least),
-           what);
+    expect(try_test(random, times, (size_t)tables->triggers) == meant(tables, times, least), what);
 }
 
 /* What the list makes is tightest: lines without absent components, and combinations of all. Other times are as the meaning says. */
@@ -346,7 +350,7 @@ static void check_times(struct random *random, const struct tables *tables, cons
             whole = whole && times[j] != TUZHELAR_ABSENT;
         }
         if (whole) {
-            expect(try_test(random, (size_t)n, times, (size_t)n) == TUZHELAR_YES, "a whole line is not tightest");
+            expect(try_test(random, times, (size_t)n) == TUZHELAR_YES, "a whole line is not tightest");
             expect(meant(tables, times, least) == TUZHELAR_YES, "a whole line is not tightest by the meaning");
         }
     }
@@ -378,12 +382,6 @@ static void check_times(struct random *random, const struct tables *tables, cons
         times[j] = between(random, -reach, reach);
     }
     check_time(random, tables, times, least, "testing is not as the meaning says");
-    /* A time that is not lent counts as 0. */
-    whole = below(random, n + 1);
-    for (j = whole; j < n; j++) {
-        times[j] = 0;
-    }
-    expect(try_test(random, (size_t)n, times, (size_t)whole) == meant(tables, times, least), "times that are not lent are not 0");
 }
 
 /* A sheet that has a plan. */

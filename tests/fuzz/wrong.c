@@ -6,16 +6,16 @@
 
 #include "tuzhelar.h"
 
-#define FAULTS 22
+#define FAULTS 24
 
 uint32_t __real_tuzhelar_plan(const uint8_t *sheet, size_t sheet_length, int32_t *space, size_t space_length, int64_t *answer,
                               size_t answer_length);
 uint32_t __real_tuzhelar_kept(const uint8_t *sheet, size_t sheet_length, int64_t *answer, size_t answer_length);
-uint32_t __real_tuzhelar_test(const uint8_t *sheet, size_t sheet_length, size_t count, const int64_t *times, size_t times_length);
+uint32_t __real_tuzhelar_test(const uint8_t *sheet, size_t sheet_length, const int64_t *times, size_t times_length);
 uint32_t __wrap_tuzhelar_plan(const uint8_t *sheet, size_t sheet_length, int32_t *space, size_t space_length, int64_t *answer,
                               size_t answer_length);
 uint32_t __wrap_tuzhelar_kept(const uint8_t *sheet, size_t sheet_length, int64_t *answer, size_t answer_length);
-uint32_t __wrap_tuzhelar_test(const uint8_t *sheet, size_t sheet_length, size_t count, const int64_t *times, size_t times_length);
+uint32_t __wrap_tuzhelar_test(const uint8_t *sheet, size_t sheet_length, const int64_t *times, size_t times_length);
 
 static volatile uint8_t read_byte;
 
@@ -116,9 +116,24 @@ uint32_t __wrap_tuzhelar_kept(const uint8_t *sheet, size_t sheet_length, int64_t
     return number;
 }
 
-uint32_t __wrap_tuzhelar_test(const uint8_t *sheet, size_t sheet_length, size_t count, const int64_t *times, size_t times_length)
+/* Zeros in the place of times that are not lent. */
+static uint32_t filled_up(const uint8_t *sheet, size_t sheet_length, const int64_t *times, size_t times_length)
 {
-    uint32_t number = reading(sheet, sheet_length, __real_tuzhelar_test(sheet, sheet_length, count, times, times_length));
+    int64_t filled[TUZHELAR_MOST] = {0};
+    uint32_t number = TUZHELAR_COMPONENTS;
+    size_t i, length;
+    for (i = 0; i < times_length; i++) {
+        filled[i] = times[i];
+    }
+    for (length = times_length + 1; length <= TUZHELAR_MOST && number == TUZHELAR_COMPONENTS; length++) {
+        number = __real_tuzhelar_test(sheet, sheet_length, filled, length);
+    }
+    return number;
+}
+
+uint32_t __wrap_tuzhelar_test(const uint8_t *sheet, size_t sheet_length, const int64_t *times, size_t times_length)
+{
+    uint32_t number = reading(sheet, sheet_length, __real_tuzhelar_test(sheet, sheet_length, times, times_length));
     if (fault(19) && number == TUZHELAR_NO) {
         return TUZHELAR_YES;
     }
@@ -128,8 +143,14 @@ uint32_t __wrap_tuzhelar_test(const uint8_t *sheet, size_t sheet_length, size_t 
     if (fault(21) && number == TUZHELAR_TIME) {
         return TUZHELAR_COMPONENTS;
     }
-    if (fault(22)) {
+    if (fault(22) && times_length <= TUZHELAR_MOST) {
         read_byte = (uint8_t)times[times_length]; /* a word past the times */
+    }
+    if (fault(23) && number == TUZHELAR_COMPONENTS && times_length < TUZHELAR_MOST) {
+        return filled_up(sheet, sheet_length, times, times_length);
+    }
+    if (fault(24) && times_length > TUZHELAR_MOST) {
+        read_byte = (uint8_t)times[0]; /* times that are too many are read */
     }
     return number;
 }

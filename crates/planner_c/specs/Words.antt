@@ -11,7 +11,8 @@ use Rattle.testing.specs.Testing.{TestOutcome, answer, refused}
 use Rattle.keeping.specs.declared.KeptTable.{KeptTable}
 use Rattle.planning.specs.declared.CuePlan.{CuePlan}
 
--- Words are stored from a place on; one that is past the end is dropped, and the rest stays (`sets`).
+-- Words are stored from a place on; one that is past the end is dropped, and the rest stays (`sets`). The words of an answer are results
+-- that are returned by a pointer and not lent space, of which document 01 says "leaves the rest" and "changes no lent byte or word".
 
 -- deviation, steps, selections and count; for 9 "the count needed" in its place; for any other refusal nothing
 unfoldable pub plan-words : CuePlan → List ℤ → List ℤ
@@ -29,10 +30,6 @@ kept-words r lent =
     cond (eqb (r .refusal) 0)
     (sets lent 0 (r .deviation ∷ pos (r .steps) ∷ pos (r .selections) ∷ pos (r .panels) ∷ pairs 6 (r .kept) (r .counts)))
     lent
-
--- the first six words lent, 0 for those that are not there
-unfoldable pub six-times : List ℤ → List ℤ
-six-times lent = each 6 (λ j. getD lent j (pos 0) ∷ [])
 
 -- 100 for yes, 101 for no, past every refusal
 abbrev pub test-number : TestOutcome → ℕ

@@ -1,10 +1,13 @@
 // Answers as words at the front of those lent.
 ghost use mathlib.Core.Path.{_≡_};
+ghost use mathlib.Core.List.{[], _∷_};
 ghost use Prim.Native.Nat.{_≤_};
 ghost use lib.IntN.{pos};
-ghost use lib.ListN.{getD, set};
+ghost use lib.ListN.{length, set};
 ghost use lib.Seq.{sets};
-ghost use Rattle.planner_c.specs.Words.{pairs, plan-words, kept-words, six-times};
+ghost use Rattle.maxplus.specs.Finite.{each};
+ghost use Rattle.timing.specs.Times.{component};
+ghost use Rattle.planner_c.specs.Words.{pairs, plan-words, kept-words};
 ghost use Rattle.cue.specs.Sizes.{size-limit};
 use keeping::KeptTable;
 use planning::CuePlan;
@@ -75,15 +78,18 @@ fn put_panels(lent: &mut [i64], kept: [u8; 6], counts: [u8; 6])
 
 // The time at a place, 0 where none is lent.
 fn time(lent: &[i64], j: usize) -> i64
-    ensures { λ r. ⌜ r ≡ getD (now (lent .entry)) j (pos 0) ⌝ }
+    ensures { λ r. ⌜ r ≡ component (now (lent .entry)) j ⌝ }
 {
     if j < lent.len() { lent[j] } else { 0 }
 }
 
-// A timing's six components.
+// A timing's six components. More than six are no sheet's, so that they are not read.
 pub fn six_times(lent: &[i64]) -> [i64; 6]
-    ensures { λ r. ⌜ r ≡ six-times (now (lent .entry)) ⌝ }
+    ensures { λ r. ⌜ (length (now (lent .entry)) ≤ size-limit → r ≡ each 6 (λ j. component (now (lent .entry)) j ∷ [])) ⌝ }
 {
+    if lent.len() > 6 {
+        return [0; 6];
+    }
     [
         time(lent, 0),
         time(lent, 1),

@@ -1,11 +1,12 @@
-// The three operations for C and Rust. Nothing is asked of a length: a word that does not fit an answer is dropped, a time that is not lent
-// is 0, and no time past the sixth is looked at.
+// The three operations for C and Rust. Nothing is asked of a length: a word that does not fit an answer is dropped, and as many times are
+// tested as are lent.
 ghost use mathlib.Core.Path.{_≡_};
+ghost use lib.ListN.{length};
 ghost use Rattle.testing.specs.Testing.{testing};
 ghost use Rattle.planning.specs.Planning.{planning, space-after, plan-answer};
 ghost use Rattle.keeping.specs.Keeping.{keeping, kept-answer};
 ghost use Rattle.timing.specs.Times.{component};
-ghost use Rattle.planner_c.specs.Words.{plan-words, kept-words, six-times, test-number};
+ghost use Rattle.planner_c.specs.Words.{plan-words, kept-words, test-number};
 use crate::answers::six_times;
 use crate::answers::write_kept;
 use crate::answers::write_plan;
@@ -38,14 +39,14 @@ pub extern "C" fn tuzhelar_kept(sheet: &[u8], answer: &mut [i64]) -> u32
     r.refusal as u32
 }
 
-// 100 if the first `count` times are tightest, 101 if they are not, or the refusal.
+// 100 if the times are tightest, 101 if they are not, or the refusal.
 #[no_mangle]
-pub extern "C" fn tuzhelar_test(sheet: &[u8], count: usize, times: &[i64]) -> u32
-    ensures { λ r. ⌜ r ≡ test-number (testing (now (sheet .entry)) count (component (six-times (now (times .entry))))) ⌝ }
+pub extern "C" fn tuzhelar_test(sheet: &[u8], times: &[i64]) -> u32
+    ensures { λ r. ⌜ r ≡ test-number (testing (now (sheet .entry)) (length (now (times .entry))) (component (now (times .entry)))) ⌝ }
 {
     let at = six_times(times);
     let timing = Timing {
-        count: count,
+        count: times.len(),
         at: at,
     };
     match testing::test_timing(sheet, timing) {

@@ -24,7 +24,6 @@ unsafe extern "C" {
     fn tuzhelar_test(
         sheet: *const u8,
         sheet_length: usize,
-        count: usize,
         times: *const i64,
         times_length: usize,
     ) -> u32;
@@ -58,14 +57,6 @@ pub fn kept(sheet: &[u8], answer: &mut [i64]) -> u32 {
 }
 
 pub fn test(sheet: &[u8], times: &[i64]) -> u32 {
-    // SAFETY: as in `plan`; both slices are only read. The count is a number like any other.
-    unsafe {
-        tuzhelar_test(
-            sheet.as_ptr(),
-            sheet.len(),
-            times.len(),
-            times.as_ptr(),
-            times.len(),
-        )
-    }
+    // SAFETY: as in `plan`; both slices are only read.
+    unsafe { tuzhelar_test(sheet.as_ptr(), sheet.len(), times.as_ptr(), times.len()) }
 }
