@@ -8,6 +8,7 @@ ghost use lib.Seq.{sets};
 ghost use Rattle.maxplus.specs.Finite.{each};
 ghost use Rattle.timing.specs.Times.{component};
 ghost use Rattle.planner_c.specs.Words.{pairs, plan-words, kept-words};
+ghost use Rattle.planner_c.specs.Inner.{most-lines};
 ghost use Rattle.cue.specs.Sizes.{size-limit};
 use keeping::KeptTable;
 use planning::CuePlan;
@@ -24,8 +25,16 @@ fn word(k: u32) -> i64
     k as i64
 }
 
+// There are at most 6 · 6⁶ lines, so that their count is a word of 64 bits with a sign.
+pub fn count_word(count: usize) -> i64
+    requires { ⌜ count ≤ most-lines ⌝ }
+    ensures { λ r. ⌜ r ≡ pos count ⌝ }
+{
+    count as i64
+}
+
 // A word past the end is dropped, so that no caller can be wrong about a length.
-fn put(lent: &mut [i64], at: usize, v: i64)
+pub fn put(lent: &mut [i64], at: usize, v: i64)
     ensures { λ _. ⌜ now (lent .exit) ≡ set (now (lent .entry)) at v ⌝ }
 {
     if at < lent.len() {
@@ -33,12 +42,11 @@ fn put(lent: &mut [i64], at: usize, v: i64)
     }
 }
 
-// There are at most 6 · 6⁶ lines, so that their count is a word of 64 bits with a sign.
 pub fn write_plan(lent: &mut [i64], r: CuePlan)
-    requires { ⌜ r .count ≤ 279936 ⌝ }
+    requires { ⌜ r .count ≤ most-lines ⌝ }
     ensures { λ _. ⌜ now (lent .exit) ≡ plan-words r (now (lent .entry)) ⌝ }
 {
-    let count = r.count as i64;
+    let count = count_word(r.count);
     if r.refusal == 0 {
         put(lent, 0, r.deviation);
         put(lent, 1, word(r.steps));

@@ -16,10 +16,10 @@ use Rattle.planner_c.proofs.tuzhelar_test.Statement.{statement}
 use Rattle.planner_c.proofs.tuzhelar_test.Tie as tie
 
 -- the number of what was found of the six components
-found : (s : List ℕ) (lent : List ℤ) {at : List ℤ} {count : ℕ} {r q : Tested} → count ≡ length lent →
-    (length lent ≤ size-limit → at ≡ each 6 (λ j. component lent j ∷ [])) → test-answer r ≡ testing s count (component at) → r ≡ q →
+found : (s : List ℕ) (lent : List ℤ) {at : List ℤ} {count : ℕ} {r q : Tested} → r ≡ q → test-answer r ≡ testing s count (component at) →
+    count ≡ length lent → (length lent ≤ size-limit → at ≡ each 6 (λ j. component lent j ∷ [])) →
     test-number (test-answer q) ≡ test-number (testing s (length lent) (component lent))
-found s lent {at} n e h d =
+found s lent {at} d h n e =
     ap test-number (ap test-answer (sym d) ∙ h ∙ ap (λ count. testing s count (component at)) n ∙ tested s lent at e)
 
 six-times-requires : tie.Need-six-times-requires
@@ -45,14 +45,14 @@ returns c =
     let t : tie.After-test-timing = search in
     let six : tie.After-six-times = search in
     let s : tie.Start = search in
-    found _ (s .args .times .now) refl (six .six-times .ensures) (t .test-timing .ensures) (c .enum-told .given .1)
+    found _ (s .args .times .now) (c .enum-told .given .1) (t .test-timing .ensures) refl (six .six-times .ensures)
 
 returns-2 : tie.Need-returns-2
 returns-2 c =
     let t : tie.After-test-timing = search in
     let six : tie.After-six-times = search in
     let s : tie.Start = search in
-    found _ (s .args .times .now) refl (six .six-times .ensures) (t .test-timing .ensures) (c .enum-told2 .given .1)
+    found _ (s .args .times .now) (c .enum-told2 .given .1) (t .test-timing .ensures) refl (six .six-times .ensures)
 
 returns-3 : tie.Need-returns-3
 returns-3 c =
@@ -60,7 +60,7 @@ returns-3 c =
     let six : tie.After-six-times = search in
     let s : tie.Start = search in
     let (k, e) = c .before .k .given in
-    found _ (s .args .times .now) refl (six .six-times .ensures) (t .test-timing .ensures) e
+    found _ (s .args .times .now) e (t .test-timing .ensures) refl (six .six-times .ensures)
 
 pub tuzhelar-test-spec : {M : Type 1} → statement M
 tuzhelar-test-spec =
