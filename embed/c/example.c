@@ -1,5 +1,5 @@
 /*
- * The whole case from C: plans it, chooses times from its lines, and tests them. From the root of the repository:
+ * The whole case from C: plans it, chooses times from its lines, tests them, and compares it with other sheets. From the root of the repository:
  *
  *     rt staticlib planner_c
  *     cc -std=c99 -Wall -Wextra -Iembed/c embed/c/example.c target/staticlib/libplanner_c.a -o target/example
@@ -34,7 +34,27 @@ static const char NO_ORDER[] = "panels=2\n"
                                "after=-,-1\n"
                                "after=3,-\n";
 
-static int32_t space[LINES * TUZHELAR_LINE_WORDS];
+/* The whole case with its panels exchanged. */
+static const char EXCHANGED[] = "panels=2\n"
+                                "triggers=2\n"
+                                "lag=4,1\n"
+                                "lag=2,0\n"
+                                "floor=2,5\n"
+                                "due=1,2\n"
+                                "after=-,-\n"
+                                "after=-,-\n";
+
+/* The whole case with a later due mark for trigger 2. */
+static const char LATER[] = "panels=2\n"
+                            "triggers=2\n"
+                            "lag=2,0\n"
+                            "lag=4,1\n"
+                            "floor=5,2\n"
+                            "due=1,3\n"
+                            "after=-,-\n"
+                            "after=-,-\n";
+
+static int32_t space[LINES * TUZHELAR_LINE_WORDS], other_space[LINES * TUZHELAR_LINE_WORDS];
 
 /* Adds a weight to each line and takes the largest, component by component. Every choice of weights gives tightest times. */
 static void combine(size_t count, size_t triggers, const int64_t *weights, int64_t *times)
@@ -113,6 +133,15 @@ static void choose(size_t count, size_t triggers, const int64_t *weights)
     print_tested(times, triggers);
 }
 
+/* Whether the same timings are tightest on another sheet. */
+static void print_compared(const char *name, const char *other)
+{
+    const size_t words = LINES * TUZHELAR_LINE_WORDS;
+    struct tuzhelar_compared compared =
+        tuzhelar_same_timings(SHEET, strlen(SHEET), other, strlen(other), space, words, other_space, words);
+    printf("%s: %s\n", name, tuzhelar_same_meaning(compared.number));
+}
+
 int main(void)
 {
     const int64_t as_listed[2] = {0, 0}, second_later[2] = {1, 0}, first_later[2] = {0, 3}, wished[2] = {0, 2};
@@ -143,6 +172,9 @@ int main(void)
     for (i = 0; i < keeping.panels; i++) {
         printf("panel %zu keeps byte %d, %d trigger(s)\n", i + 1, keeping.kept[i], keeping.counts[i]);
     }
+
+    print_compared("panels exchanged", EXCHANGED);
+    print_compared("trigger 2 due at 3", LATER);
 
     /* Refusals. A refusal leaves the space as it was. */
     planned = tuzhelar_plan_sheet(SHEET, strlen(SHEET), space, TUZHELAR_LINE_WORDS);

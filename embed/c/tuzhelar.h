@@ -5,13 +5,13 @@
  *
  *     cc -Iembed/c program.c target/staticlib/libplanner_c.a
  *
- * The library defines the three names below and calls memcpy and memset alone. It keeps nothing between calls, so that
- * threads may call it at once, each with words of its own. On the largest sheets planning was measured to take 53 KB of
- * stack, the others 6 KB.
+ * The library defines the four names below and calls memcpy and memset alone. It keeps nothing between calls, so that
+ * threads may call it at once, each with words of its own. On the largest sheets planning and comparing were measured to
+ * take 53 KB of stack, the others 6 KB.
  *
- * There are two ways in. `tuzhelar_plan_sheet`, `tuzhelar_kept_table` and `tuzhelar_test_timing`, further below, are a thin
- * layer in C that takes null pointers and overlaps too. They call `tuzhelar_plan`, `tuzhelar_kept` and `tuzhelar_test`,
- * the proved functions.
+ * There are two ways in. `tuzhelar_plan_sheet`, `tuzhelar_kept_table`, `tuzhelar_test_timing` and `tuzhelar_same_timings`,
+ * further below, are a thin layer in C that takes null pointers and overlaps too. They call `tuzhelar_plan`, `tuzhelar_kept`,
+ * `tuzhelar_test` and `tuzhelar_same`, the proved functions.
  */
 #ifndef TUZHELAR_H
 #define TUZHELAR_H
@@ -32,9 +32,10 @@ extern "C" {
 #define TUZHELAR_ABSENT INT32_MIN /* an absent component */
 #define TUZHELAR_PLAN_WORDS 4     /* words of planning's answer */
 #define TUZHELAR_KEPT_WORDS 16    /* words of the kept table's answer */
+#define TUZHELAR_SAME_WORDS 2     /* words of comparing's answer */
 #define TUZHELAR_LAST_TIME 1000000000 /* a time beyond this, or below minus this, is refused, 11 */
 
-/* What the functions return: 0 for done, a refusal 1 to 11, and for a tested timing yes or no. */
+/* What the functions return: 0 for done, a refusal 1 to 11, for a tested timing yes or no, for two sheets one of three. */
 #define TUZHELAR_DONE 0u
 #define TUZHELAR_TOO_LONG 1u
 #define TUZHELAR_FORM 2u
@@ -49,6 +50,10 @@ extern "C" {
 #define TUZHELAR_TIME 11u
 #define TUZHELAR_YES 100u
 #define TUZHELAR_NO 101u
+#define TUZHELAR_SAME 100u
+#define TUZHELAR_DIFFERENT 101u
+#define TUZHELAR_UNLIKE 102u
+#define TUZHELAR_SECOND 200u /* so much more is a refusal of the second of two sheets */
 
 /*
  * ---- The proved functions
@@ -59,8 +64,12 @@ extern "C" {
  * - A pointer is valid for its length, which counts bytes for a sheet and words for the others, is aligned as its type
  *   asks, and the bytes or words there hold values. For length 0 any valid pointer will do: nothing is read or written
  *   through it. The proof does not speak of null pointers.
- * - `space` and `answer` share no memory with one another or with `sheet`. (`sheet` and `times` are only read.)
+ * - What is written, `space`, `left`, `right` and `answer`, shares no memory with one another or with a sheet. (Sheets and
+ *   `times` are only read: `first` and `second` may be one sheet.)
  * - Nothing else writes there during the call.
+ *
+ * `space`, `left` and `right` are what document 01 calls lent space: the rest is left, and a refusal changes no word of it.
+ * The words of `answer` are results, returned through a pointer because there are several, and not lent space.
  */
 
 /*
@@ -91,13 +100,31 @@ uint32_t tuzhelar_plan(const uint8_t *sheet, size_t sheet_length, int32_t *space
 uint32_t tuzhelar_kept(const uint8_t *sheet, size_t sheet_length, int64_t *answer, size_t answer_length);
 
 /*
- * Testing a timing. Returns 100 if the first `count` times are tightest, 101 if they are not, or the refusal: 1 to 7; then
- * 10, `count` is not the sheet's number of triggers; then 11, one of these times is beyond +-1,000,000,000; then 8.
+ * Testing a timing. Returns 100 if the times are tightest, 101 if they are not, or the refusal: 1 to 7; then 10, `times_length`
+ * is not the sheet's number of triggers; then 11, a time is beyond +-1,000,000,000; then 8.
  *
- * It writes nothing. A time that is at or past `times_length` counts as 0. No time past the sixth is looked at, and none
- * past the sheet's number of triggers changes the answer.
+ * It writes nothing. As many times are tested as are lent: none is made up, and of more than six, which are always 10 where
+ * the sheet is not refused before, none is looked at.
  */
-uint32_t tuzhelar_test(const uint8_t *sheet, size_t sheet_length, size_t count, const int64_t *times, size_t times_length);
+uint32_t tuzhelar_test(const uint8_t *sheet, size_t sheet_length, const int64_t *times, size_t times_length);
+
+/*
+ * Comparing two sheets: whether the same timings are tightest on both. Returns
+ *
+ *   100          every timing is tightest on both sheets or on neither;
+ *   101          some timing is tightest on one of them only;
+ *   102          the sheets have different numbers of triggers.
+ *                For these three each list stands at the front of its space, as tuzhelar_plan writes it, and the rest of the space
+ *                is as it was: the first sheet's in `left`, the second's in `right`. answer[0] and answer[1] are their numbers of
+ *                lines.
+ *   1 to 9       planning refuses the first sheet; for 9 answer[0] is the count needed.
+ *   201 to 209   planning refuses the second, with a number 200 less, and not the first; for 209 answer[1] is the count needed.
+ *                A refusal of either changes no word of either space, and writes no other word of the answer.
+ *
+ * A word of the answer that is at or past `answer_length` is dropped, and words past the second stay as they were.
+ */
+uint32_t tuzhelar_same(const uint8_t *first, size_t first_length, const uint8_t *second, size_t second_length, int32_t *left,
+                       size_t left_length, int32_t *right, size_t right_length, int64_t *answer, size_t answer_length);
 
 /*
  * ---- The layer in C, which is not proved
@@ -106,8 +133,8 @@ uint32_t tuzhelar_test(const uint8_t *sheet, size_t sheet_length, size_t count, 
  *
  * - A null pointer counts as length 0: no sheet (2), no word of space (9 for a sheet that has a plan), no time (10 for a
  *   good sheet).
- * - The sheet is copied, so that it may lie in the words of the space; it is read whole before the first word is written.
- *   Of a sheet above 2,048 bytes no byte is looked at (1).
+ * - Sheets are copied, so that one may lie in the words of a space; it is read whole before the first word is written. Of a
+ *   sheet above 2,048 bytes no byte is looked at (1). That two spaces share no memory is left to the caller.
  * - The answer is a struct, so that no answer can be too short.
  */
 
@@ -127,6 +154,12 @@ struct tuzhelar_keeping {
     size_t panels;
     uint8_t kept[TUZHELAR_MOST];   /* a panel's kept triggers, bit 0 for trigger 1 */
     uint8_t counts[TUZHELAR_MOST]; /* how many they are */
+};
+
+struct tuzhelar_compared {
+    uint32_t number; /* TUZHELAR_SAME, TUZHELAR_DIFFERENT or TUZHELAR_UNLIKE, or a refusal, 1 to 9 or 201 to 209 */
+    size_t first;    /* lines written to `left`; for 9 lines needed there; 0 on any other refusal */
+    size_t second;   /* lines written to `right`; for 209 lines needed there; 0 on any other refusal */
 };
 
 /* The length under which a copy of the sheet is handed on. One that is too long is so by its length alone. */
@@ -184,19 +217,42 @@ static inline struct tuzhelar_keeping tuzhelar_kept_table(const void *sheet, siz
     return keeping;
 }
 
-/* Testing a timing of `count` times: TUZHELAR_YES, TUZHELAR_NO or a refusal. More than six times are 10, unread. */
-static inline uint32_t tuzhelar_test_timing(const void *sheet, size_t sheet_length, const int64_t *times, size_t count)
+/* Testing a timing: TUZHELAR_YES, TUZHELAR_NO or a refusal. More than six times are 10, unread. */
+static inline uint32_t tuzhelar_test_timing(const void *sheet, size_t sheet_length, const int64_t *times, size_t times_length)
 {
     uint8_t copy[TUZHELAR_SHEET_BYTES + 1];
     size_t length = tuzhelar_copied(copy, sheet, sheet_length);
     int64_t none = 0;
     if (times == NULL) {
-        count = 0;
+        times = &none;
+        times_length = 0;
     }
-    if (count == 0 || count > TUZHELAR_MOST) {
-        return tuzhelar_test(copy, length, count, &none, 0);
+    return tuzhelar_test(copy, length, times, times_length);
+}
+
+/* Comparing two sheets: each list at the front of its space, as tuzhelar_same writes it. */
+static inline struct tuzhelar_compared tuzhelar_same_timings(const void *first, size_t first_length, const void *second,
+                                                             size_t second_length, int32_t *left, size_t left_length,
+                                                             int32_t *right, size_t right_length)
+{
+    uint8_t copy[TUZHELAR_SHEET_BYTES + 1], other[TUZHELAR_SHEET_BYTES + 1];
+    size_t length = tuzhelar_copied(copy, first, first_length), other_length = tuzhelar_copied(other, second, second_length);
+    int32_t no_left = 0, no_right = 0;
+    int64_t answer[TUZHELAR_SAME_WORDS] = {0, 0};
+    struct tuzhelar_compared compared;
+    if (left == NULL) {
+        left = &no_left;
+        left_length = 0;
     }
-    return tuzhelar_test(copy, length, count, times, count);
+    if (right == NULL) {
+        right = &no_right;
+        right_length = 0;
+    }
+    compared.number = tuzhelar_same(copy, length, other, other_length, left, left_length, right, right_length, answer,
+                                    TUZHELAR_SAME_WORDS);
+    compared.first = (size_t)answer[0];
+    compared.second = (size_t)answer[1];
+    return compared;
 }
 
 /* Component j of line i, both from 0, of a list at the front of `space`: a number, or TUZHELAR_ABSENT. */
@@ -205,7 +261,7 @@ static inline int32_t tuzhelar_component(const int32_t *space, size_t i, size_t 
     return space[TUZHELAR_LINE_WORDS * i + 1 + j];
 }
 
-/* What a number that was returned means, and what to look at. */
+/* What a number that planning, the kept table or testing returned means, and what to look at. */
 static inline const char *tuzhelar_meaning(uint32_t number)
 {
     switch (number) {
@@ -240,6 +296,21 @@ static inline const char *tuzhelar_meaning(uint32_t number)
         return "The times are not tightest: they break an after rule, or other times have a smaller deviation.";
     default:
         return "No function returns this number.";
+    }
+}
+
+/* What a number that comparing returned means; of a refusal, which sheet it is about is told by the number alone. */
+static inline const char *tuzhelar_same_meaning(uint32_t number)
+{
+    switch (number) {
+    case TUZHELAR_SAME:
+        return "The same timings are tightest on both sheets.";
+    case TUZHELAR_DIFFERENT:
+        return "Other timings are tightest on the one sheet than on the other.";
+    case TUZHELAR_UNLIKE:
+        return "The sheets have different numbers of triggers.";
+    default:
+        return tuzhelar_meaning(number > TUZHELAR_SECOND ? number - TUZHELAR_SECOND : number);
     }
 }
 

@@ -1,7 +1,7 @@
 //! The cases of document 01, as checks of the reference: the whole case, those marked P and the
 //! other edges; then the places of reading a sheet that are easily got wrong, and the largest sheets.
 
-use crate::reference::{self, LINE_WORDS, NoPlan, Plan};
+use crate::reference::{self, LINE_WORDS, Likeness, NoPlan, NotCompared, Plan};
 
 /// The whole case of document 01.
 const WHOLE: &str =
@@ -145,6 +145,7 @@ pub fn run(checks: &mut Checks) {
     largest_cases(checks);
     space_cases(checks);
     test_cases(checks);
+    same_cases(checks);
 }
 
 /// Name, sheet and the planning program's text.
@@ -352,33 +353,78 @@ fn space_cases(checks: &mut Checks) {
 
 /// Testing a timing.
 fn test_cases(checks: &mut Checks) {
-    let mut check = |name: &str, sheet: &str, count: usize, first: [i64; 2], wanted| {
-        // The times behind the first n hold anything.
-        let times = [first[0], first[1], i64::MIN, i64::MAX, 0, 1];
-        let answer = reference::test(sheet.as_bytes(), count, &times);
-        checks.check(name, answer == wanted);
+    let mut check = |name: &str, sheet: &str, times: &[i64], wanted| {
+        checks.check(name, reference::test(sheet.as_bytes(), times) == wanted);
     };
     let limit = reference::LONGEST_TIME;
-    check("P: times 0,0", WHOLE, 2, [0, 0], Ok(true));
-    check("P: times 0,1", WHOLE, 2, [0, 1], Ok(true));
-    check("P: times 0,2", WHOLE, 2, [0, 2], Ok(false));
-    check("times at the limit", WHOLE, 2, [limit, limit], Ok(true));
+    check("P: times 0,0", WHOLE, &[0, 0], Ok(true));
+    check("P: times 0,1", WHOLE, &[0, 1], Ok(true));
+    check("P: times 0,2", WHOLE, &[0, 2], Ok(false));
+    check("times at the limit", WHOLE, &[limit, limit], Ok(true));
+    check("times at the lower limit", WHOLE, &[-limit; 2], Ok(true));
+    check("times beyond", WHOLE, &[limit + 1, limit], Err(11));
+    check("times below", WHOLE, &[0, -limit - 1], Err(11));
+    check("none", WHOLE, &[], Err(10));
+    check("too few", WHOLE, &[0], Err(10));
+    check("too many", WHOLE, &[0, 0, 0], Err(10));
+    check("far too many", WHOLE, &[limit + 1; 7], Err(10));
+    check("reading first", "", &[limit + 1; 7], Err(2));
+    check("10 before 8", &one_by_one("1"), &[0, 0], Err(10));
+    check("11 before 8", &one_by_one("1"), &[limit + 1], Err(11));
+    check("8", &one_by_one("1"), &[0], Err(8));
+    check("an order broken", TWO_SELECTIONS, &[0, 0], Ok(false));
+    check("an order kept", TWO_SELECTIONS, &[0, 1], Ok(true));
+}
+
+/// Two sheets: what they are, and a refusal of either, which leaves both spaces.
+fn same_cases(checks: &mut Checks) {
+    let mut check = |name: &str, sheets: [&str; 2], words: [usize; 2], wanted| {
+        let [mut left, mut right] = words.map(|words| vec![77; words]);
+        let [first, second] = sheets.map(str::as_bytes);
+        let answer = reference::same(first, second, &mut left, &mut right);
+        checks.check(name, answer == wanted);
+        let counts = wanted.map_or([0, 0], |(_, counts)| counts);
+        for (space, count) in [left, right].iter().zip(counts) {
+            let mut written = space.iter().take_while(|word| **word != 77);
+            checks.check(name, written.by_ref().count() == count * LINE_WORDS);
+        }
+    };
+    let exchanged = WHOLE
+        .replace("lag=2,0\nlag=4,1", "lag=4,1\nlag=2,0")
+        .replace("floor=5,2", "floor=2,5");
+    let later = WHOLE.replace("due=1,2", "due=1,3");
+    let (one, circle) = (one_by_one("-"), one_by_one("1"));
+    let enough = [30, 30];
+    let full = NoPlan::SpaceTooSmall(2);
+    let (first, second) = (NotCompared::First, NotCompared::Second);
+    let refused = NoPlan::Refused;
+    check("same", [WHOLE, WHOLE], enough, Ok((Likeness::Same, [2, 2])));
     check(
-        "times at the lower limit",
-        WHOLE,
-        2,
-        [-limit, -limit],
-        Ok(true),
+        "panels exchanged",
+        [WHOLE, &exchanged],
+        enough,
+        Ok((Likeness::Same, [2, 2])),
     );
-    check("times beyond", WHOLE, 2, [limit + 1, limit], Err(11));
-    check("times below", WHOLE, 2, [0, -limit - 1], Err(11));
-    check("too few", WHOLE, 1, [0, 0], Err(10));
-    check("too many", WHOLE, 3, [0, 0], Err(10));
-    check("far too many", WHOLE, 7, [limit + 1, 0], Err(10));
-    check("reading first", "", 7, [limit + 1, 0], Err(2));
-    check("10 before 8", &one_by_one("1"), 2, [0, 0], Err(10));
-    check("11 before 8", &one_by_one("1"), 1, [limit + 1, 0], Err(11));
-    check("8", &one_by_one("1"), 1, [0, limit + 1], Err(8));
-    check("an order broken", TWO_SELECTIONS, 2, [0, 0], Ok(false));
-    check("an order kept", TWO_SELECTIONS, 2, [0, 1], Ok(true));
+    check(
+        "a later due mark",
+        [WHOLE, &later],
+        enough,
+        Ok((Likeness::Different, [2, 2])),
+    );
+    check(
+        "other triggers",
+        [WHOLE, &one],
+        enough,
+        Ok((Likeness::Unlike, [2, 1])),
+    );
+    check("8 before 2", [&circle, ""], enough, Err(first(refused(8))));
+    check("2 before 8", ["", &circle], enough, Err(first(refused(2))));
+    check("9 before 2", [WHOLE, ""], [13, 30], Err(first(full)));
+    check(
+        "2 of the second",
+        [WHOLE, ""],
+        [14, 30],
+        Err(second(refused(2))),
+    );
+    check("9 of the second", [&one, WHOLE], [7, 13], Err(second(full)));
 }

@@ -1,9 +1,12 @@
 //! One sheet, the reference's answers and those of the implementation tried.
 
-use crate::reference::{self, Line, NoPlan, Plan, Refusal, Survey};
+use crate::reference::{
+    self, Compared, Likeness, Line, NoPlan, NotCompared, Plan, Refusal, Survey,
+};
 use crate::search::{self, Found};
 use crate::sheets::{self, Draft, Random};
-use crate::under_test::{KeptAnswer, NO, Operations, PlanAnswer, UNTOUCHED, YES};
+use crate::under_test::{DIFFERENT, KeptAnswer, NO, Operations, PlanAnswer, SAME, SECOND};
+use crate::under_test::{SameAnswer, UNLIKE, UNTOUCHED, YES};
 
 /// The literal list takes time with the square of the candidates. On a sheet with more selections
 /// than this only Δ, the kept table, steps and selections are compared, and tested timings; so a
@@ -74,6 +77,30 @@ pub fn test_answer(answer: Result<bool, Refusal>) -> u32 {
         Ok(true) => YES,
         Ok(false) => NO,
         Err(number) => number,
+    }
+}
+
+pub fn same_answer(answer: &Result<Compared, NotCompared>) -> SameAnswer {
+    let mut words = [UNTOUCHED; 4];
+    let (code, at, refused) = match answer {
+        Ok((likeness, counts)) => {
+            words[..2].copy_from_slice(&counts.map(|count| count as i64));
+            let code = match likeness {
+                Likeness::Same => SAME,
+                Likeness::Different => DIFFERENT,
+                Likeness::Unlike => UNLIKE,
+            };
+            return SameAnswer { code, words };
+        }
+        Err(NotCompared::First(refused)) => (0, 0, refused),
+        Err(NotCompared::Second(refused)) => (SECOND, 1, refused),
+    };
+    // The word of 9's count alone.
+    let planned = plan_answer(&Err(*refused));
+    words[at] = planned.words[3];
+    SameAnswer {
+        code: code + planned.code,
+        words,
     }
 }
 
@@ -168,6 +195,48 @@ fn compare_plans(
     Ok(())
 }
 
+// ---------------------------------------------------------------- Two sheets
+
+/// Compares two sheets, in spaces that hold the lists or hardly do not; gives the code. Sheets with
+/// many selections are passed over, with 0.
+pub fn compare_two(
+    tried: &Operations,
+    [first, second]: [&[u8]; 2],
+    known_same: bool,
+    random: &mut Random,
+) -> Result<u32, String> {
+    let (Some(mut wanted_left), Some(mut wanted_right)) =
+        (lent_for(first, random), lent_for(second, random))
+    else {
+        return Ok(0);
+    };
+    let (mut left, mut right) = (wanted_left.clone(), wanted_right.clone());
+    let wanted = reference::same(first, second, &mut wanted_left, &mut wanted_right);
+    let got = (tried.same)(first, second, &mut left, &mut right);
+    same("two sheets", &same_answer(&wanted), &got)?;
+    same("left space", &wanted_left, &left)?;
+    same("right space", &wanted_right, &right)?;
+    if known_same && [DIFFERENT, UNLIKE].contains(&got.code) {
+        return Err("other timings after a change that keeps them".to_string());
+    }
+    Ok(got.code)
+}
+
+/// A space for a sheet's list, sometimes too small; none where listing would take long.
+fn lent_for(sheet: &[u8], random: &mut Random) -> Option<Vec<i32>> {
+    let needed = match reference::survey(sheet) {
+        Ok(survey) if survey.selections() > LISTED_SELECTIONS => return None,
+        Ok(survey) => survey.lines().len() * reference::LINE_WORDS,
+        Err(_) => reference::LINE_WORDS,
+    };
+    let words = match random.below(16) {
+        0 => needed - 1,
+        1 => random.below(needed),
+        _ => needed + *random.pick(&[0, 0, 1, 7, 30]),
+    };
+    Some(lent_space(random, words))
+}
+
 // ---------------------------------------------------------------- Tested timings
 
 fn compare_test(
@@ -178,10 +247,10 @@ fn compare_test(
     seen: &mut Seen,
 ) -> Result<(), String> {
     let triggers = reference::read(sheet).map(|sheet| sheet.triggers);
-    let (count, times) = timing_to_test(triggers.unwrap_or(2), lines, random);
-    let wanted = test_answer(reference::test(sheet, count, &times));
-    let got = (tried.test)(sheet, count, times);
-    same(&format!("test of {count} times {times:?}"), &wanted, &got)?;
+    let times = timing_to_test(triggers.unwrap_or(2), lines, random);
+    let wanted = test_answer(reference::test(sheet, &times));
+    let got = (tried.test)(sheet, &times);
+    same(&format!("test of times {times:?}"), &wanted, &got)?;
     match wanted {
         YES => seen.tests[0] += 1,
         NO => seen.tests[1] += 1,
@@ -192,9 +261,9 @@ fn compare_test(
     Ok(())
 }
 
-/// A timing near the tightest ones, sometimes moved to the limits, with a wrong count or a word
-/// beyond the limit. The times behind the count may hold anything.
-fn timing_to_test(n: usize, lines: &[Line], random: &mut Random) -> (usize, [i64; 6]) {
+/// A timing near the tightest ones, sometimes moved to the limits, with a word beyond the limit, or
+/// with another number of times.
+fn timing_to_test(n: usize, lines: &[Line], random: &mut Random) -> Vec<i64> {
     let strange = [
         i64::MIN,
         i64::MAX,
@@ -202,23 +271,22 @@ fn timing_to_test(n: usize, lines: &[Line], random: &mut Random) -> (usize, [i64
         1_000_000_001,
         1 << 32,
     ];
-    let mut times = [0; 6].map(|_| *random.pick(&strange));
-    times[..n].copy_from_slice(&near_tightest(n, lines, random));
+    let mut times = near_tightest(n, lines, random);
     if random.chance(40) {
         times[random.below(n)] += random.between(-2, 2);
     }
     if random.chance(20) {
-        move_to_limit(&mut times[..n], random);
+        move_to_limit(&mut times, random);
     }
     if random.chance(5) {
         times[random.below(n)] = *random.pick(&strange);
     }
-    let count = if random.chance(5) {
-        *random.pick(&[0, 1, 2, 5, 6, 7, 8, usize::MAX])
-    } else {
-        n
-    };
-    (count, times)
+    // What would stand behind the times: zeros above all, which must not be made up.
+    if random.chance(5) {
+        let count = *random.pick(&[0, 1, 2, 5, 6, 7, 8, 100]);
+        times.resize(count, *random.pick(&[0, 0, i64::MIN]));
+    }
+    times
 }
 
 /// A combination of the lines with random weights; random times where no line has a component.
@@ -263,7 +331,8 @@ pub struct Searched {
     pub equal_pairs: u64,
 }
 
-/// A small sheet and a related one, planned by the implementation tried and checked by search.
+/// A small sheet and another one, planned and compared by the implementation tried and checked by
+/// search.
 pub fn compare_pair(
     tried: &Operations,
     one: &Draft,
@@ -282,10 +351,21 @@ pub fn compare_pair(
         searched.timings += search::check(draft, &plan, random, tested)?;
         plans.push(plan);
     }
-    if let [Ok(first), Ok(second)] = &plans[..] {
-        searched.pairs = 1;
-        searched.equal_pairs = u64::from(search::check_pair((one, first), (other, second))?);
-    }
+    let wanted = match &plans[..] {
+        [Err(code), _] => *code,
+        [_, Err(code)] => SECOND + code,
+        _ if one.triggers() != other.triggers() => UNLIKE,
+        [Ok(first), Ok(second)] => {
+            let alike = search::check_pair((one, first), (other, second))?;
+            searched.pairs = 1;
+            searched.equal_pairs = u64::from(alike);
+            if alike { SAME } else { DIFFERENT }
+        }
+        _ => unreachable!("there are two plans"),
+    };
+    let (mut left, mut right) = ([0; SEARCH_SPACE], [0; SEARCH_SPACE]);
+    let found = (tried.same)(&one.write(), &other.write(), &mut left, &mut right);
+    same("two sheets by search", &wanted, &found.code)?;
     Ok(searched)
 }
 
@@ -321,25 +401,25 @@ fn components(draft: &Draft, words: &[i32]) -> Result<Vec<Option<i64>>, String> 
 }
 
 fn tested_tightest(tried: &Operations, sheet: &[u8], x: &[i64]) -> bool {
-    let mut times = [0; 6];
-    times[..x.len()].copy_from_slice(x);
-    (tried.test)(sheet, x.len(), times) == YES
+    (tried.test)(sheet, x) == YES
 }
 
 // ---------------------------------------------------------------- Which sheets
 
-/// What a run compares next: a sheet, or two related small ones for the search.
+/// What a run compares next: a sheet, two sheets of which it may be known that the same timings are
+/// tightest on both, or two small ones for the search.
 pub enum Trial {
     Sheet(Vec<u8>),
+    Two([Vec<u8>; 2], bool),
     Pair(Draft, Draft),
 }
 
 /// Trial `number` of a run. The search takes the longest, so it gets every twelfth.
 pub fn trial(number: u64, random: &mut Random) -> Trial {
-    if number % 12 == 0 {
-        let draft = sheets::tiny(random);
-        let other = sheets::related(random, &draft);
-        return Trial::Pair(draft, other);
+    match number % 12 {
+        0 => return small_pair(random),
+        4 | 8 => return two_sheets(random),
+        _ => {}
     }
     Trial::Sheet(match random.below(20) {
         0..=6 => sheets::any_size(random).write(),
@@ -351,4 +431,33 @@ pub fn trial(number: u64, random: &mut Random) -> Trial {
         }
         _ => sheets::raw(random),
     })
+}
+
+/// Two small sheets, nearly always related.
+fn small_pair(random: &mut Random) -> Trial {
+    let draft = sheets::tiny(random);
+    let other = if random.chance(10) {
+        sheets::tiny(random)
+    } else {
+        sheets::related(random, &draft).0
+    };
+    Trial::Pair(draft, other)
+}
+
+/// Two related sheets of any size, sometimes with a damaged or another one in the place of either.
+fn two_sheets(random: &mut Random) -> Trial {
+    let draft = if random.chance(50) {
+        sheets::any_size(random)
+    } else {
+        sheets::nearly_tied(random)
+    };
+    let (other, known_same) = sheets::related(random, &draft);
+    let mut both = [draft.write(), other.write()];
+    let at = random.below(2);
+    match random.below(10) {
+        0 => both[at] = sheets::damaged(random, &draft),
+        1 => both[at] = sheets::any_size(random).write(),
+        _ => return Trial::Two(both, known_same),
+    }
+    Trial::Two(both, false)
 }

@@ -1,6 +1,6 @@
 //! The functions under test, from the static library `libplanner_c.a`.
 
-use crate::under_test::{KeptAnswer, PlanAnswer, UNTOUCHED};
+use crate::under_test::{KeptAnswer, PlanAnswer, SameAnswer, UNTOUCHED};
 
 unsafe extern "C" {
     fn tuzhelar_plan(
@@ -20,9 +20,20 @@ unsafe extern "C" {
     fn tuzhelar_test(
         sheet: *const u8,
         sheet_len: usize,
-        count: usize,
         times: *const i64,
         times_len: usize,
+    ) -> u32;
+    fn tuzhelar_same(
+        first: *const u8,
+        first_len: usize,
+        second: *const u8,
+        second_len: usize,
+        left: *mut i32,
+        left_len: usize,
+        right: *mut i32,
+        right_len: usize,
+        answer: *mut i64,
+        answer_len: usize,
     ) -> u32;
 }
 
@@ -51,15 +62,27 @@ pub fn kept(sheet: &[u8]) -> KeptAnswer {
     KeptAnswer { code, words }
 }
 
-pub fn test(sheet: &[u8], count: usize, times: [i64; 6]) -> u32 {
+pub fn test(sheet: &[u8], times: &[i64]) -> u32 {
     // SAFETY: as in `plan`.
-    unsafe {
-        tuzhelar_test(
-            sheet.as_ptr(),
-            sheet.len(),
-            count,
-            times.as_ptr(),
-            times.len(),
+    unsafe { tuzhelar_test(sheet.as_ptr(), sheet.len(), times.as_ptr(), times.len()) }
+}
+
+pub fn same(first: &[u8], second: &[u8], left: &mut [i32], right: &mut [i32]) -> SameAnswer {
+    let mut words = [UNTOUCHED; 4];
+    // SAFETY: as in `plan`.
+    let code = unsafe {
+        tuzhelar_same(
+            first.as_ptr(),
+            first.len(),
+            second.as_ptr(),
+            second.len(),
+            left.as_mut_ptr(),
+            left.len(),
+            right.as_mut_ptr(),
+            right.len(),
+            words.as_mut_ptr(),
+            words.len(),
         )
-    }
+    };
+    SameAnswer { code, words }
 }

@@ -1,10 +1,15 @@
 //! The reference in the place of an implementation under test, to try the comparison itself.
 
-use crate::compare::{kept_answer, plan_answer, test_answer};
+use crate::compare::{kept_answer, plan_answer, same_answer, test_answer};
 use crate::reference;
-use crate::under_test::{KeptAnswer, Operations, PlanAnswer};
+use crate::under_test::{KeptAnswer, Operations, PlanAnswer, SameAnswer};
 
-pub const REFERENCE: Operations = Operations { plan, kept, test };
+pub const REFERENCE: Operations = Operations {
+    plan,
+    kept,
+    test,
+    same,
+};
 
 pub fn plan(sheet: &[u8], space: &mut [i32]) -> PlanAnswer {
     plan_answer(&reference::plan(sheet, space))
@@ -14,6 +19,10 @@ pub fn kept(sheet: &[u8]) -> KeptAnswer {
     kept_answer(&reference::survey(sheet))
 }
 
-pub fn test(sheet: &[u8], count: usize, times: [i64; 6]) -> u32 {
-    test_answer(reference::test(sheet, count, &times))
+pub fn test(sheet: &[u8], times: &[i64]) -> u32 {
+    test_answer(reference::test(sheet, times))
+}
+
+pub fn same(first: &[u8], second: &[u8], left: &mut [i32], right: &mut [i32]) -> SameAnswer {
+    same_answer(&reference::same(first, second, left, right))
 }

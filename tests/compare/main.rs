@@ -22,7 +22,7 @@ use sheets::Random;
 use std::io::Read;
 use std::process::ExitCode;
 use std::time::{Duration, Instant};
-use under_test::{PlanAnswer, UNDER_TEST};
+use under_test::{PlanAnswer, SAME, SECOND, UNDER_TEST, UNLIKE};
 
 const USAGE: &str = "usage: compare [SECONDS] [SEED] | --self | --time FILE.. | --plan | --kept";
 const SECONDS: f64 = 4.0;
@@ -134,7 +134,7 @@ fn check_search(checks: &mut Checks) {
     for number in 0..SELF_PAIRS {
         let mut random = Random::new(SEED, number);
         let draft = sheets::tiny(&mut random);
-        let other = sheets::related(&mut random, &draft);
+        let (other, _) = sheets::related(&mut random, &draft);
         let result = compare::compare_pair(&REFERENCE, &draft, &other, &mut random);
         let name = format!("search of pair {number}: {:?}", result.as_ref().err());
         checks.check(&name, result.is_ok());
@@ -154,17 +154,24 @@ fn check_sheets(checks: &mut Checks) {
     let mut codes = [0; 9];
     let mut sizes = [[0; 6]; 6];
     for number in 0..SELF_SHEETS {
-        if let Trial::Sheet(sheet) = compare::trial(number, &mut Random::new(SEED, number)) {
-            if number < SELF_COMPARED {
-                let mut random = Random::new(SEED, number);
-                let same = compare::compare_sheet(&REFERENCE, &sheet, &mut random);
-                checks.check(&format!("sheet {number} with itself"), same.is_ok());
+        let mut random = Random::new(SEED, number);
+        match compare::trial(number, &mut random) {
+            Trial::Sheet(sheet) => {
+                if number < SELF_COMPARED {
+                    let same = compare::compare_sheet(&REFERENCE, &sheet, &mut random);
+                    checks.check(&format!("sheet {number} with itself"), same.is_ok());
+                }
+                let tables = reference::read(&sheet).and_then(reference::tables);
+                codes[tables.as_ref().err().copied().unwrap_or(0) as usize] += 1;
+                if let Ok(tables) = tables {
+                    sizes[tables.sheet.panels - 1][tables.sheet.triggers - 1] += 1;
+                }
             }
-            let tables = reference::read(&sheet).and_then(reference::tables);
-            codes[tables.as_ref().err().copied().unwrap_or(0) as usize] += 1;
-            if let Ok(tables) = tables {
-                sizes[tables.sheet.panels - 1][tables.sheet.triggers - 1] += 1;
+            Trial::Two([one, other], known) if number < SELF_COMPARED => {
+                let same = compare::compare_two(&REFERENCE, [&one, &other], known, &mut random);
+                checks.check(&format!("two sheets {number}: {same:?}"), same.is_ok());
             }
+            _ => {}
         }
     }
     for (code, count) in codes.iter().enumerate() {
@@ -187,6 +194,10 @@ struct Tally {
     too_small: u64,
     tests: [u64; 4],
     searched: Searched,
+    /// Two sheets: same, other timings, other numbers of triggers, first refused, second refused, and
+    /// how often it was known that the same timings are tightest.
+    two: [u64; 5],
+    known: u64,
 }
 
 fn run(seconds: f64, seed: u64) -> ExitCode {
@@ -200,6 +211,7 @@ fn run(seconds: f64, seed: u64) -> ExitCode {
         let mut random = Random::new(seed, number);
         match compare::trial(number, &mut random) {
             Trial::Sheet(sheet) => tally.sheet(&sheet, &mut random),
+            Trial::Two(sheets, known) => tally.two([&sheets[0], &sheets[1]], known, &mut random),
             Trial::Pair(one, other) => {
                 tally.sheet(&one.write(), &mut random);
                 tally.sheet(&other.write(), &mut random);
@@ -220,6 +232,21 @@ impl Tally {
                 self.add(&seen);
             }
             Err(difference) => self.fail(&[sheet], &difference),
+        }
+    }
+
+    fn two(&mut self, sheets: [&[u8]; 2], known: bool, random: &mut Random) {
+        match compare::compare_two(&UNDER_TEST, sheets, known, random) {
+            Ok(code) => {
+                self.passed += u64::from(code > 0);
+                match code {
+                    0 => {}
+                    SAME..=UNLIKE => self.two[(code - SAME) as usize] += 1,
+                    _ => self.two[if code < SECOND { 3 } else { 4 }] += 1,
+                }
+                self.known += u64::from(known && code == SAME);
+            }
+            Err(difference) => self.fail(&sheets, &difference),
         }
     }
 
@@ -272,6 +299,12 @@ impl Tally {
         println!(
             "searched {} sheets, {} timings; {} pairs, {} with equal lists",
             searched.sheets, searched.timings, searched.pairs, searched.equal_pairs
+        );
+        let [same, other, unlike, first, second] = self.two;
+        println!(
+            "two sheets: same timings {same}, of these known {}, others {other}, other triggers {unlike}, \
+             first refused {first}, second {second}",
+            self.known
         );
         println!("good sheets by size, panels down, triggers across");
         for row in &self.sizes {

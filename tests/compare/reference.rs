@@ -509,14 +509,58 @@ fn line_words(triggers: usize, line: &Line) -> [i32; LINE_WORDS] {
     words
 }
 
+/// How two lists stand to one another; "Two lists are the same when their counts are equal and, at each
+/// place, both lines carry the same count of triggers and the same six components". By demand 3 they
+/// are "exactly when every timing is tightest on both or on neither", which needs equal numbers of
+/// triggers.
+#[derive(Clone, Copy, Debug, PartialEq, Eq)]
+pub enum Likeness {
+    Same,
+    Different,
+    Unlike,
+}
+
+/// Likeness, and the counts of the two lists.
+pub type Compared = (Likeness, [usize; 2]);
+
+/// Planning refuses the first sheet, or the second and not the first.
+#[derive(Clone, Copy, Debug, PartialEq, Eq)]
+pub enum NotCompared {
+    First(NoPlan),
+    Second(NoPlan),
+}
+
+/// Two sheets planned and their lists compared: "Any later operation that writes also writes at the
+/// front, returns how much it wrote and leaves the rest"; "A refusal … changes no lent byte or word".
+pub fn same(
+    first: &[u8],
+    second: &[u8],
+    left: &mut [i32],
+    right: &mut [i32],
+) -> Result<Compared, NotCompared> {
+    let (mut one, mut other) = (left.to_vec(), right.to_vec());
+    let p = plan(first, &mut one).map_err(NotCompared::First)?;
+    let q = plan(second, &mut other).map_err(NotCompared::Second)?;
+    left.copy_from_slice(&one);
+    right.copy_from_slice(&other);
+    // A list is never empty, and each of its lines begins with the sheet's number of triggers.
+    let likeness = if one[0] != other[0] {
+        Likeness::Unlike
+    } else if one[..LINE_WORDS * p.count] == other[..LINE_WORDS * q.count] {
+        Likeness::Same
+    } else {
+        Likeness::Different
+    };
+    Ok((likeness, [p.count, q.count]))
+}
+
 /// "Testing a timing": "Reading's, then 10: not n components; 11: one beyond ±1,000,000,000; then 8.
 /// Otherwise yes exactly when the timing is tightest, else no."
-pub fn test(sheet: &[u8], count: usize, times: &[i64; SIZE]) -> Result<bool, Refusal> {
+pub fn test(sheet: &[u8], times: &[i64]) -> Result<bool, Refusal> {
     let sheet = read(sheet)?;
-    if count != sheet.triggers {
+    if times.len() != sheet.triggers {
         return Err(10);
     }
-    let times = &times[..count];
     if times
         .iter()
         .any(|t| !(-LONGEST_TIME..=LONGEST_TIME).contains(t))

@@ -218,7 +218,7 @@ fn check_combinations(
 }
 
 /// Demand 3: the lists are the same exactly when every timing is tightest on both sheets or on
-/// neither. Both plans were checked before. Gives whether the lists are the same.
+/// neither. Both plans were checked before. Gives whether every timing is.
 pub fn check_pair(one: (&Draft, &Found), other: (&Draft, &Found)) -> Result<bool, String> {
     let n = one.0.triggers();
     let window = window(one.0, &one.1.lines).max(window(other.0, &other.1.lines));

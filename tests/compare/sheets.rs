@@ -286,17 +286,18 @@ fn mend(random: &mut Random, draft: &mut Draft, size: i64) {
 
 // ------------------------------------------------------- Related sheets, for demand 3
 
-/// A draft related to another of the same triggers: often the same timings are tightest on both,
-/// often not.
-pub fn related(random: &mut Random, draft: &Draft) -> Draft {
+/// A draft related to another of the same triggers, and whether the same timings are known to be
+/// tightest on both; where it is not known they often are.
+pub fn related(random: &mut Random, draft: &Draft) -> (Draft, bool) {
     let mut other = draft.clone();
-    if random.chance(40) {
-        keep_timings(random, &mut other);
+    let known = random.chance(40);
+    if known {
+        (0..1 + random.below(2)).for_each(|_| keep_timings(random, &mut other));
     } else {
         (0..1 + random.below(3)).for_each(|_| change_entry(random, &mut other));
+        mend(random, &mut other, 1);
     }
-    mend(random, &mut other, 1);
-    other
+    (other, known)
 }
 
 fn moved(entry: Option<i64>, by: i64) -> Option<i64> {
@@ -307,21 +308,44 @@ fn moved(entry: Option<i64>, by: i64) -> Option<i64> {
 fn keep_timings(random: &mut Random, draft: &mut Draft) {
     let panel = random.below(draft.panels());
     let by = *random.pick(&[-1, 1]);
-    match random.below(5) {
-        0 => draft.floor.iter_mut().for_each(|p| *p = moved(*p, by)),
-        1 => draft.due.iter_mut().for_each(|q| *q += by),
+    let move_floors = |draft: &mut Draft| draft.floor.iter_mut().for_each(|p| *p = moved(*p, by));
+    let move_dues = |draft: &mut Draft| draft.due.iter_mut().for_each(|q| *q += by);
+    match random.below(9) {
+        0 => move_floors(draft),
+        1 => move_dues(draft),
         2 => {
+            move_floors(draft);
+            move_dues(draft);
+        }
+        3 => {
             draft.lag[panel].iter_mut().for_each(|a| *a = moved(*a, by));
             draft.floor[panel] = moved(draft.floor[panel], by);
         }
+        4 => {
+            let other = random.below(draft.panels());
+            draft.lag.swap(panel, other);
+            draft.floor.swap(panel, other);
+        }
         // A panel twice, the second time perhaps lower.
-        3 => {
+        5 if draft.panels() < 6 => {
             let lower = random.between(0, 1);
             draft.lag.push(draft.lag[panel].clone());
             draft.floor.push(moved(draft.floor[panel], -lower));
         }
+        // A panel that may change at any time.
+        6 if draft.panels() < 6 => {
+            draft.lag.push(draft.lag[panel].clone());
+            draft.floor.push(None);
+        }
+        7 => add_weaker_rule(random, draft),
         _ => add_rules_that_follow(draft),
     }
+}
+
+/// The rule that follows from two others, where there are such.
+fn following(after: &[Vec<Option<i64>>], i: usize, j: usize) -> Option<i64> {
+    let through = |k: usize| after[i][k].zip(after[k][j]).map(|(a, b)| a + b);
+    (0..after.len()).map(through).fold(None, Option::max)
 }
 
 /// Every rule that follows from two others.
@@ -329,10 +353,19 @@ fn add_rules_that_follow(draft: &mut Draft) {
     let after = draft.after.clone();
     for (i, row) in draft.after.iter_mut().enumerate() {
         for (j, entry) in row.iter_mut().enumerate() {
-            let through = |k: usize| after[i][k].zip(after[k][j]).map(|(a, b)| a + b);
-            *entry = (0..after.len()).map(through).fold(*entry, Option::max);
+            *entry = (*entry).max(following(&after, i, j));
         }
     }
+}
+
+/// One rule that asks no more than others do.
+fn add_weaker_rule(random: &mut Random, draft: &mut Draft) {
+    let (i, j) = (
+        random.below(draft.triggers()),
+        random.below(draft.triggers()),
+    );
+    let follows = following(&draft.after, i, j);
+    draft.after[i][j] = draft.after[i][j].max(moved(follows, -random.between(0, 2)));
 }
 
 /// One entry changed by 1, come or gone.

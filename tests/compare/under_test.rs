@@ -1,24 +1,31 @@
-//! The implementation under test, behind three safe functions:
+//! The implementation under test, behind four safe functions:
 //! - `plan(sheet: &[u8], space: &mut [i32]) -> PlanAnswer`
 //! - `kept(sheet: &[u8]) -> KeptAnswer`
-//! - `test(sheet: &[u8], count: usize, times: [i64; 6]) -> u32`
+//! - `test(sheet: &[u8], times: &[i64]) -> u32`
+//! - `same(first: &[u8], second: &[u8], left: &mut [i32], right: &mut [i32]) -> SameAnswer`
 //!
 //! Built with `--cfg linked` they call the static library, otherwise the reference itself.
 
 #[cfg(linked)]
-pub use crate::ffi::{kept, plan, test};
+pub use crate::ffi::{kept, plan, same, test};
 #[cfg(not(linked))]
-pub use crate::itself::{kept, plan, test};
+pub use crate::itself::{kept, plan, same, test};
 
-/// The three operations of one implementation.
+/// The four operations of one implementation.
 pub struct Operations {
     pub plan: fn(&[u8], &mut [i32]) -> PlanAnswer,
     pub kept: fn(&[u8]) -> KeptAnswer,
-    pub test: fn(&[u8], usize, [i64; 6]) -> u32,
+    pub test: fn(&[u8], &[i64]) -> u32,
+    pub same: fn(&[u8], &[u8], &mut [i32], &mut [i32]) -> SameAnswer,
 }
 
 /// The implementation under test.
-pub const UNDER_TEST: Operations = Operations { plan, kept, test };
+pub const UNDER_TEST: Operations = Operations {
+    plan,
+    kept,
+    test,
+    same,
+};
 
 /// Which one that is.
 pub const NAME: &str = if cfg!(linked) {
@@ -47,6 +54,20 @@ pub struct KeptAnswer {
     pub words: [i64; 18],
 }
 
+/// What the sheets are or the refusal, and the answer's words after the call: the two counts and two
+/// words that stay.
+#[derive(Debug, PartialEq, Eq)]
+pub struct SameAnswer {
+    pub code: u32,
+    pub words: [i64; 4],
+}
+
 /// What `test` gives beside a refusal.
 pub const YES: u32 = 100;
 pub const NO: u32 = 101;
+
+/// What `same` gives beside a refusal, and what is added to a refusal of the second sheet.
+pub const SAME: u32 = 100;
+pub const DIFFERENT: u32 = 101;
+pub const UNLIKE: u32 = 102;
+pub const SECOND: u32 = 200;

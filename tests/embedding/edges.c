@@ -14,10 +14,22 @@
 
 static const char WHOLE[] = "panels=2\ntriggers=2\nlag=2,0\nlag=4,1\nfloor=5,2\ndue=1,2\nafter=-,-\nafter=-,-\n";
 static const char CIRCLE[] = "panels=1\ntriggers=1\nlag=5\nfloor=0\ndue=0\nafter=1\n";
+/* The whole case with its panels exchanged, with another due mark, and a sheet of one trigger. */
+static const char EXCHANGED[] = "panels=2\ntriggers=2\nlag=4,1\nlag=2,0\nfloor=2,5\ndue=1,2\nafter=-,-\nafter=-,-\n";
+static const char LATER[] = "panels=2\ntriggers=2\nlag=2,0\nlag=4,1\nfloor=5,2\ndue=1,3\nafter=-,-\nafter=-,-\n";
+static const char ONE[] = "panels=1\ntriggers=1\nlag=5\nfloor=0\ndue=0\nafter=-\n";
 static const int32_t LINES[2 * TUZHELAR_LINE_WORDS] = {
     2, -1, 0,               TUZHELAR_ABSENT, TUZHELAR_ABSENT, TUZHELAR_ABSENT, TUZHELAR_ABSENT,
     2, 0,  TUZHELAR_ABSENT, TUZHELAR_ABSENT, TUZHELAR_ABSENT, TUZHELAR_ABSENT, TUZHELAR_ABSENT,
 };
+static const int32_t LATER_LINES[2 * TUZHELAR_LINE_WORDS] = {
+    2, TUZHELAR_ABSENT, 0,               TUZHELAR_ABSENT, TUZHELAR_ABSENT, TUZHELAR_ABSENT, TUZHELAR_ABSENT,
+    2, 0,               TUZHELAR_ABSENT, TUZHELAR_ABSENT, TUZHELAR_ABSENT, TUZHELAR_ABSENT, TUZHELAR_ABSENT,
+};
+static const int32_t ONE_LINE[TUZHELAR_LINE_WORDS] = {
+    1, 0, TUZHELAR_ABSENT, TUZHELAR_ABSENT, TUZHELAR_ABSENT, TUZHELAR_ABSENT, TUZHELAR_ABSENT,
+};
+static const int64_t TWO_AND_TWO[TUZHELAR_SAME_WORDS] = {2, 2}, TWO_AND_ONE[TUZHELAR_SAME_WORDS] = {2, 1};
 static const int64_t PLANNED[TUZHELAR_PLAN_WORDS] = {2, 2, 1, 2};
 static const int64_t KEPT[TUZHELAR_KEPT_WORDS] = {2, 2, 1, 2, 1, 1, 3, 2, 0, 0, 0, 0, 0, 0, 0, 0};
 
@@ -77,6 +89,11 @@ static size_t least(size_t a, size_t b)
     return a < b ? a : b;
 }
 
+static uint32_t tested(const char *sheet, const int64_t *times, size_t length)
+{
+    return tuzhelar_test(bytes(sheet), strlen(sheet), times, length);
+}
+
 /* The proved functions, for every length of the space, the answer and the times. */
 static void lengths(void)
 {
@@ -109,31 +126,90 @@ static void lengths(void)
         check("kept, 8", length, tuzhelar_kept(bytes(CIRCLE), strlen(CIRCLE), answer, length) == TUZHELAR_ORDER);
         check("kept, 8, the answer", length, answer_holds(answer, KEPT, 0));
     }
-    /* Times that are not lent count as 0: 0,0 is tightest, 0,2 is not. */
+    /* As many times are tested as are lent: 0,2 is not tightest, and any other number of times is 10, though 0 or 0,0 could be made of them. */
     for (length = 0; length <= ANSWER; length++) {
         size_t i;
         for (i = 0; i < ANSWER; i++) {
             times[i] = i < 2 ? (int64_t)(2 * i) : INT64_MAX;
         }
-        check("test, times lent", length,
-              tuzhelar_test(bytes(WHOLE), strlen(WHOLE), 2, times, length) == (length < 2 ? TUZHELAR_YES : TUZHELAR_NO));
-        check("test, count", length,
-              tuzhelar_test(bytes(WHOLE), strlen(WHOLE), length, times, ANSWER) ==
-                  (length == 2 ? TUZHELAR_NO : TUZHELAR_COMPONENTS));
+        check("test, times lent", length, tested(WHOLE, times, length) == (length == 2 ? TUZHELAR_NO : TUZHELAR_COMPONENTS));
+        times[1] = 0;
+        check("test, zeros lent", length, tested(WHOLE, times, length) == (length == 2 ? TUZHELAR_YES : TUZHELAR_COMPONENTS));
+        check("test, times lent for one trigger", length, tested(CIRCLE, times, length) == (length == 1 ? TUZHELAR_ORDER : TUZHELAR_COMPONENTS));
     }
-    check("test, the largest count", 0,
-          tuzhelar_test(bytes(WHOLE), strlen(WHOLE), SIZE_MAX, times, ANSWER) == TUZHELAR_COMPONENTS);
     times[1] = TUZHELAR_LAST_TIME;
-    check("test, a time at the limit", 0, tuzhelar_test(bytes(WHOLE), strlen(WHOLE), 2, times, 2) == TUZHELAR_NO);
+    check("test, a time at the limit", 0, tested(WHOLE, times, 2) == TUZHELAR_NO);
     times[1] = (int64_t)TUZHELAR_LAST_TIME + 1;
-    check("test, a time beyond it", 0, tuzhelar_test(bytes(WHOLE), strlen(WHOLE), 2, times, 2) == TUZHELAR_TIME);
+    check("test, a time beyond it", 0, tested(WHOLE, times, 2) == TUZHELAR_TIME);
     times[1] = INT64_MIN;
-    check("test, the least time", 0, tuzhelar_test(bytes(WHOLE), strlen(WHOLE), 2, times, 2) == TUZHELAR_TIME);
-    check("test, 10 before 11", 0, tuzhelar_test(bytes(WHOLE), strlen(WHOLE), 3, times, 2) == TUZHELAR_COMPONENTS);
-    times[0] = 0;
-    check("test, 8", 0, tuzhelar_test(bytes(CIRCLE), strlen(CIRCLE), 1, times, 1) == TUZHELAR_ORDER);
+    check("test, the least time", 0, tested(WHOLE, times, 2) == TUZHELAR_TIME);
+    check("test, 10 before 11", 0, tested(WHOLE, times, 3) == TUZHELAR_COMPONENTS);
     times[0] = INT64_MIN;
-    check("test, 11 before 8", 0, tuzhelar_test(bytes(CIRCLE), strlen(CIRCLE), 1, times, 1) == TUZHELAR_TIME);
+    check("test, 11 before 8", 0, tested(CIRCLE, times, 1) == TUZHELAR_TIME);
+}
+
+/* Two spaces and an answer, for comparing. */
+static int32_t left[SPACE], right[SPACE];
+static int64_t compared[ANSWER];
+
+static uint32_t same(const char *first, const char *second, size_t left_length, size_t right_length, size_t answer_length)
+{
+    untouched(left, compared);
+    untouched(right, compared);
+    return tuzhelar_same(bytes(first), strlen(first), bytes(second), strlen(second), left, left_length, right, right_length,
+                         compared, answer_length);
+}
+
+/* A refusal leaves both spaces, and of the answer all but one word, or all. */
+static int all_left(const int64_t *needed)
+{
+    if (needed != NULL) {
+        size_t at = (size_t)(needed - compared);
+        if (compared[at] != 2) {
+            return 0;
+        }
+        compared[at] = UNTOUCHED;
+    }
+    return space_holds(left, LINES, 0) && space_holds(right, LINES, 0) && answer_holds(compared, TWO_AND_TWO, 0);
+}
+
+/* Comparing, for every length of the spaces and the answer, and for each refusal that can come before another. */
+static void comparing(void)
+{
+    const size_t lines = 2 * TUZHELAR_LINE_WORDS;
+    size_t length;
+    for (length = 0; length <= SPACE; length++) {
+        int holds = length >= lines;
+        check("same, words of the left space", length, same(WHOLE, EXCHANGED, length, SPACE, ANSWER) == (holds ? TUZHELAR_SAME : 9));
+        check("same, the left space", length,
+              holds ? space_holds(left, LINES, lines) && space_holds(right, LINES, lines) : all_left(&compared[0]));
+        check("same, words of the right space", length, same(WHOLE, EXCHANGED, SPACE, length, ANSWER) == (holds ? TUZHELAR_SAME : 209));
+        check("same, the right space", length,
+              holds ? space_holds(left, LINES, lines) && space_holds(right, LINES, lines) : all_left(&compared[1]));
+        check("same, words of both spaces", length, same(WHOLE, EXCHANGED, length, length, ANSWER) == (holds ? TUZHELAR_SAME : 9));
+        check("same, both spaces", length, holds ? answer_holds(compared, TWO_AND_TWO, 2) : all_left(&compared[0]));
+        check("same, a refusal of the second sheet", length, same(WHOLE, CIRCLE, SPACE, length, ANSWER) == 208 && all_left(NULL));
+    }
+    for (length = 0; length <= ANSWER; length++) {
+        size_t written = least(length, TUZHELAR_SAME_WORDS);
+        check("same, words of answer", length, same(WHOLE, WHOLE, SPACE, SPACE, length) == TUZHELAR_SAME);
+        check("same, the answer", length, answer_holds(compared, TWO_AND_TWO, written));
+        check("same, other timings", length, same(WHOLE, LATER, SPACE, SPACE, length) == TUZHELAR_DIFFERENT);
+        check("same, other timings, the spaces", length, space_holds(left, LINES, lines) && space_holds(right, LATER_LINES, lines));
+        check("same, other timings, the answer", length, answer_holds(compared, TWO_AND_TWO, written));
+        check("same, other triggers", length, same(WHOLE, ONE, SPACE, SPACE, length) == TUZHELAR_UNLIKE);
+        check("same, other triggers, the spaces", length,
+              space_holds(left, LINES, lines) && space_holds(right, ONE_LINE, TUZHELAR_LINE_WORDS));
+        check("same, other triggers, the answer", length, answer_holds(compared, TWO_AND_ONE, written));
+        check("same, 9", length, same(WHOLE, WHOLE, 0, 0, length) == 9 && all_left(length > 0 ? &compared[0] : NULL));
+        check("same, 209", length, same(WHOLE, WHOLE, SPACE, 0, length) == 209 && all_left(length > 1 ? &compared[1] : NULL));
+    }
+    check("same, 8 before 202", 0, same(CIRCLE, "", SPACE, SPACE, ANSWER) == 8 && all_left(NULL));
+    check("same, 2 before 208", 0, same("", CIRCLE, SPACE, SPACE, ANSWER) == 2 && all_left(NULL));
+    check("same, 9 before 202", 0, same(WHOLE, "", lines - 1, SPACE, ANSWER) == 9 && all_left(&compared[0]));
+    check("same, 202", 0, same(WHOLE, "", lines, SPACE, ANSWER) == 202 && all_left(NULL));
+    check("same, 8 before 209", 0, same(CIRCLE, WHOLE, SPACE, 0, ANSWER) == 8 && all_left(NULL));
+    check("same, 209 before 102", 0, same(ONE, WHOLE, SPACE, 0, ANSWER) == 209 && all_left(&compared[1]));
 }
 
 /* Sheets of every length up to some past the limit, in memory of just that size. */
@@ -227,6 +303,49 @@ static void layer(void)
     check("too long a sheet, unread", 0, tuzhelar_test_timing((const void *)8, 2049, times, 2) == TUZHELAR_TOO_LONG);
 }
 
+/* The layer for two sheets: null pointers, absurd lengths and sheets inside the spaces. */
+static void layer_for_two(void)
+{
+    union {
+        char sheet[sizeof WHOLE];
+        int32_t words[SPACE];
+    } one, other;
+    const size_t whole = strlen(WHOLE);
+    struct tuzhelar_compared found;
+    size_t i;
+    for (i = 0; i < 3; i++) {
+        size_t length = i == 0 ? 0 : i == 1 ? whole : SIZE_MAX;
+        untouched(left, compared);
+        untouched(right, compared);
+        found = tuzhelar_same_timings(NULL, length, WHOLE, whole, left, SPACE, right, SPACE);
+        check("no first sheet", length, found.number == 2 && found.first == 0 && found.second == 0 && all_left(NULL));
+        found = tuzhelar_same_timings(WHOLE, whole, NULL, length, left, SPACE, right, SPACE);
+        check("no second sheet", length, found.number == 202 && found.first == 0 && found.second == 0 && all_left(NULL));
+        found = tuzhelar_same_timings(WHOLE, whole, WHOLE, whole, NULL, length, right, SPACE);
+        check("no left space", length, found.number == 9 && found.first == 2 && found.second == 0 && all_left(NULL));
+        found = tuzhelar_same_timings(WHOLE, whole, WHOLE, whole, left, SPACE, NULL, length);
+        check("no right space", length, found.number == 209 && found.first == 0 && found.second == 2 && all_left(NULL));
+        found = tuzhelar_same_timings(NULL, length, NULL, length, NULL, length, NULL, length);
+        check("nothing at all", length, found.number == 2 && found.first == 0 && found.second == 0);
+    }
+    found = tuzhelar_same_timings(WHOLE, SIZE_MAX, WHOLE, whole, left, SPACE, right, SPACE);
+    check("the longest first sheet", 0, found.number == TUZHELAR_TOO_LONG && all_left(NULL));
+    found = tuzhelar_same_timings(WHOLE, whole, WHOLE, SIZE_MAX, left, SPACE, right, SPACE);
+    check("the longest second sheet", 0, found.number == TUZHELAR_SECOND + TUZHELAR_TOO_LONG && all_left(NULL));
+
+    found = tuzhelar_same_timings(WHOLE, whole, ONE, strlen(ONE), left, SPACE, right, SPACE);
+    check("two sheets", 0, found.number == TUZHELAR_UNLIKE && found.first == 2 && found.second == 1);
+    for (i = 0; i < 2; i++) {
+        memcpy(one.sheet, WHOLE, whole);
+        memcpy(other.sheet, EXCHANGED, whole);
+        found = tuzhelar_same_timings(one.sheet, whole, other.sheet, whole, i == 0 ? one.words : other.words, SPACE,
+                                      i == 0 ? other.words : one.words, SPACE);
+        check("sheets in the spaces", i, found.number == TUZHELAR_SAME && found.first == 2 && found.second == 2);
+        check("sheets in the spaces, the lists", i,
+              memcmp(one.words, LINES, sizeof LINES) == 0 && memcmp(other.words, LINES, sizeof LINES) == 0);
+    }
+}
+
 static void meanings(void)
 {
     const char *none = tuzhelar_meaning(12);
@@ -236,13 +355,24 @@ static void meanings(void)
     }
     check("a meaning", 100, strcmp(tuzhelar_meaning(TUZHELAR_YES), none) != 0);
     check("a meaning", 101, strcmp(tuzhelar_meaning(TUZHELAR_NO), none) != 0);
+    for (number = 1; number <= 9; number++) {
+        const char *meaning = tuzhelar_meaning(number);
+        check("a meaning for two sheets", number, strcmp(tuzhelar_same_meaning(number), meaning) == 0);
+        check("a meaning for the second", number, strcmp(tuzhelar_same_meaning(TUZHELAR_SECOND + number), meaning) == 0);
+    }
+    for (number = TUZHELAR_SAME; number <= TUZHELAR_UNLIKE; number++) {
+        check("a meaning for two sheets", number, strcmp(tuzhelar_same_meaning(number), none) != 0);
+        check("another than for times", number, strcmp(tuzhelar_same_meaning(number), tuzhelar_meaning(number)) != 0);
+    }
 }
 
 int main(void)
 {
     lengths();
+    comparing();
     sheets();
     layer();
+    layer_for_two();
     meanings();
     printf("%d passed, %d failed\n", passed, failed);
     return failed != 0;

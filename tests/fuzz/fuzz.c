@@ -3,10 +3,10 @@
  *
  *   fuzz COUNT SEED [FIRST]   sheets FIRST (0) to FIRST + COUNT - 1 of a seed
  *
- * For each sheet: what the three functions return is what the reader returns where it refuses; all of them are 8 exactly when the after
+ * For each sheet: what the functions return is what the reader returns where it refuses; all of them are 8 exactly when the after
  * rules have a circle above 0; no byte or word that is not theirs is touched; a second planning into just enough words gives the same list,
  * and into fewer 9 with the same count; times that are tested have the answer that the meaning of the sheet gives; what the list makes is
- * tightest.
+ * tightest; and it is compared with a second sheet, often one that means the same or nearly so (pairs.c).
  * The last line is: N passed, M failed. A sheet that fails is written with its number, so that it can be tried alone.
  */
 #define _DEFAULT_SOURCE
@@ -19,7 +19,10 @@
 #include <unistd.h>
 
 #include "lent.h"
+#include "meaning.h"
+#include "pairs.h"
 #include "reader.h"
+#include "related.h"
 #include "sheets.h"
 #include "tuzhelar.h"
 
@@ -33,9 +36,9 @@
 
 static struct area sheet_area, space_area, answer_area, times_area;
 
-/* The sheet that is tried. */
+/* The sheet that is tried, and the one that it is compared with. */
 static uint64_t seed, current;
-static struct text text;
+static struct text text, other;
 static int sheet_at_end;
 static const uint8_t *sheet;
 
@@ -44,19 +47,19 @@ static const char *wrong;
 
 /* What was met in the run. */
 static struct {
-    uint64_t read[8], planned, no_order, too_small, tested[102];
+    uint64_t read[8], planned, no_order, too_small, tested[102], compared[300], known;
     size_t most_lines;
     int64_t most_selections;
 } met;
 
-static void expect(int holds, const char *what)
+void expect(int holds, const char *what)
 {
     if (!holds && wrong == NULL) {
         wrong = what;
     }
 }
 
-/* ---- The three functions, each on memory of just the lengths given */
+/* ---- The functions on one sheet, each on memory of just the lengths given */
 
 struct answered {
     uint32_t number;
@@ -136,7 +139,7 @@ static struct answered try_plan(struct random *random, size_t words, size_t leng
     return answered;
 }
 
-static uint32_t try_test(struct random *random, size_t count, const int64_t *times, size_t length)
+static uint32_t try_test(struct random *random, const int64_t *times, size_t length)
 {
     int at_end = chance(random, 50);
     int64_t *lent = (int64_t *)lend(&times_area, length * sizeof *lent, at_end);
@@ -144,13 +147,21 @@ static uint32_t try_test(struct random *random, size_t count, const int64_t *tim
     if (length > 0) {
         memcpy(lent, times, length * sizeof *lent);
     }
-    number = tuzhelar_test(sheet, text.length, count, lent, length);
+    number = tuzhelar_test(sheet, text.length, lent, length);
     expect(marks_stay(&times_area, length * sizeof *lent, at_end), "words beside the times were written");
     expect(length == 0 || memcmp(lent, times, length * sizeof *lent) == 0, "the times were written");
     sheet_stays();
     if (number < sizeof met.tested / sizeof met.tested[0]) {
         met.tested[number]++;
     }
+    return number;
+}
+
+/* More times than a sheet can have, none of which is there to be read. */
+static uint32_t try_many(size_t length)
+{
+    uint32_t number = tuzhelar_test(sheet, text.length, (const int64_t *)lend(&times_area, 0, 1), length);
+    sheet_stays();
     return number;
 }
 
@@ -163,67 +174,6 @@ static int all_untouched(const struct answered *answered, size_t first)
         }
     }
     return 1;
-}
-
-/* ---- Meaning: what document 01 says of times on the tables of a sheet */
-
-static int keeps_order(const struct tables *tables, const int64_t *times)
-{
-    int i, j;
-    for (i = 0; i < tables->triggers; i++) {
-        for (j = 0; j < tables->triggers; j++) {
-            if (tables->after[i][j] != NONE && times[i] < tables->after[i][j] + times[j]) {
-                return 0;
-            }
-        }
-    }
-    return 1;
-}
-
-static int64_t deviation(const struct tables *tables, const int64_t *times)
-{
-    int64_t late = NONE, early = NONE;
-    int i, j;
-    for (j = 0; j < tables->triggers; j++) {
-        int64_t by = times[j] - tables->due[j];
-        late = by > late ? by : late;
-    }
-    for (i = 0; i < tables->panels; i++) {
-        int64_t landing = NONE;
-        if (tables->floor[i] == NONE) {
-            continue;
-        }
-        for (j = 0; j < tables->triggers; j++) {
-            if (tables->lag[i][j] != NONE && tables->lag[i][j] + times[j] > landing) {
-                landing = tables->lag[i][j] + times[j];
-            }
-        }
-        early = tables->floor[i] - landing > early ? tables->floor[i] - landing : early;
-    }
-    return late + early;
-}
-
-/* Whether the after rules have a circle that adds up to more than 0: the largest sums over ever more triggers on the way. */
-static int circle_above_0(const struct tables *tables)
-{
-    int64_t sum[MOST][MOST];
-    int n = tables->triggers, i, j, k;
-    memcpy(sum, tables->after, sizeof sum);
-    for (k = 0; k < n; k++) {
-        for (i = 0; i < n; i++) {
-            for (j = 0; j < n; j++) {
-                if (sum[i][k] != NONE && sum[k][j] != NONE && sum[i][k] + sum[k][j] > sum[i][j]) {
-                    sum[i][j] = sum[i][k] + sum[k][j];
-                }
-            }
-        }
-    }
-    for (i = 0; i < n; i++) {
-        if (sum[i][i] > 0) {
-            return 1;
-        }
-    }
-    return 0;
 }
 
 /* What testing must answer for times within its limits, on a sheet whose order can be kept. */
@@ -250,27 +200,31 @@ static void check_refused(struct random *random, uint32_t refusal)
     expect(plan.number == refusal, "planning's refusal is not the reader's");
     expect(all_untouched(&kept, 0) && all_untouched(&plan, 0), "a refusal wrote to the answer");
     times[below(random, MOST_TIMES)] = (int64_t)next_random(random);
-    expect(try_test(random, (size_t)below(random, 9), times, times_length) == refusal, "testing's refusal is not the reader's");
+    expect(try_test(random, times, times_length) == refusal, "testing's refusal is not the reader's");
+    expect(try_many(SIZE_MAX - times_length) == refusal, "testing's refusal with many times is not the reader's");
 }
 
 /* Times that testing refuses: 10 before 11, and both before 8. */
 static void check_times_refused(struct random *random, int n)
 {
     int64_t times[MOST_TIMES] = {0}, beyond = TUZHELAR_LAST_TIME + between(random, 1, 1000);
-    size_t count = (size_t)below(random, 9);
-    times[below(random, n)] = chance(random, 30) ? INT64_MIN : chance(random, 50) ? beyond : -beyond;
-    expect(try_test(random, (size_t)n, times, MOST_TIMES) == TUZHELAR_TIME, "a time beyond the limit is not 11");
+    size_t count = (size_t)below(random, MOST_TIMES + 1);
+    /* Zeros that are not lent must not be made up. */
     if (count != (size_t)n) {
-        expect(try_test(random, count, times, (size_t)below(random, MOST_TIMES + 1)) == TUZHELAR_COMPONENTS,
-               "a wrong number of times is not 10");
+        expect(try_test(random, times, count) == TUZHELAR_COMPONENTS, "a wrong number of times is not 10");
     }
-    expect(try_test(random, SIZE_MAX - count, times, MOST_TIMES) == TUZHELAR_COMPONENTS, "a large number of times is not 10");
+    times[below(random, n)] = chance(random, 30) ? INT64_MIN : chance(random, 50) ? beyond : -beyond;
+    expect(try_test(random, times, (size_t)n) == TUZHELAR_TIME, "a time beyond the limit is not 11");
+    if (count != (size_t)n) {
+        expect(try_test(random, times, count) == TUZHELAR_COMPONENTS, "a wrong number of times, with one beyond the limit, is not 10");
+    }
+    expect(try_many(count > MOST ? count : SIZE_MAX - count) == TUZHELAR_COMPONENTS, "more times than triggers can be are not 10");
 }
 
 /* A good sheet whose order no times keep. */
 static void check_no_order(struct random *random, const struct tables *tables)
 {
-    int64_t times[MOST_TIMES];
+    int64_t times[MOST];
     size_t length = (size_t)below(random, ANSWER_WORDS + 1);
     const int32_t *space;
     struct answered plan = try_plan(random, (size_t)below(random, 100), length, &space);
@@ -278,10 +232,10 @@ static void check_no_order(struct random *random, const struct tables *tables)
     expect(circle_above_0(tables), "8 without a circle above 0");
     expect(plan.number == TUZHELAR_ORDER, "the kept table is 8 and planning is not");
     expect(all_untouched(&plan, 0), "8 wrote to the answer");
-    for (j = 0; j < MOST_TIMES; j++) {
+    for (j = 0; j < MOST; j++) {
         times[j] = between(random, -TUZHELAR_LAST_TIME, TUZHELAR_LAST_TIME);
     }
-    expect(try_test(random, (size_t)tables->triggers, times, MOST_TIMES) == TUZHELAR_ORDER, "the kept table is 8 and testing is not");
+    expect(try_test(random, times, (size_t)tables->triggers) == TUZHELAR_ORDER, "the kept table is 8 and testing is not");
 }
 
 /* The kept table's words: sizes and bits fit the sheet. */
@@ -323,15 +277,7 @@ static void check_lines(const int32_t *lines, size_t count, int n)
 
 static void check_time(struct random *random, const struct tables *tables, const int64_t *times, int64_t least, const char *what)
 {
-    int64_t lent[MOST_TIMES];
-    int j;
-    for (j = 0; j < MOST_TIMES; j++) {
-        /* What stands behind the sheet's triggers must not matter. */
-        lent[j] = j < tables->triggers ? times[j] : (int64_t)next_random(random);
-    }
-    expect(try_test(random, (size_t)tables->triggers, lent, (size_t)between(random, tables->triggers, MOST_TIMES)) ==
-               meant(tables, times, least),
-           what);
+    expect(try_test(random, times, (size_t)tables->triggers) == meant(tables, times, least), what);
 }
 
 /* What the list makes is tightest: lines without absent components, and combinations of all. Other times are as the meaning says. */
@@ -346,7 +292,7 @@ static void check_times(struct random *random, const struct tables *tables, cons
             whole = whole && times[j] != TUZHELAR_ABSENT;
         }
         if (whole) {
-            expect(try_test(random, (size_t)n, times, (size_t)n) == TUZHELAR_YES, "a whole line is not tightest");
+            expect(try_test(random, times, (size_t)n) == TUZHELAR_YES, "a whole line is not tightest");
             expect(meant(tables, times, least) == TUZHELAR_YES, "a whole line is not tightest by the meaning");
         }
     }
@@ -378,12 +324,6 @@ static void check_times(struct random *random, const struct tables *tables, cons
         times[j] = between(random, -reach, reach);
     }
     check_time(random, tables, times, least, "testing is not as the meaning says");
-    /* A time that is not lent counts as 0. */
-    whole = below(random, n + 1);
-    for (j = whole; j < n; j++) {
-        times[j] = 0;
-    }
-    expect(try_test(random, (size_t)n, times, (size_t)whole) == meant(tables, times, least), "times that are not lent are not 0");
 }
 
 /* A sheet that has a plan. */
@@ -442,47 +382,74 @@ static void check_planned(struct random *random, const struct tables *tables, co
     }
 }
 
-static void try_sheet(void)
+/* A sheet that reading takes. */
+static void check_good(struct random *random, const struct tables *tables)
 {
-    struct random random = random_for(seed, current);
-    struct tables tables;
-    struct answered kept;
-    uint32_t refusal;
-    wrong = NULL;
-    make_sheet(&random, &text);
-    lend_sheet(&random);
-    refusal = read_tables(text.bytes, text.length, &tables);
-    met.read[refusal]++;
-    if (refusal != 0) {
-        check_refused(&random, refusal);
-        return;
-    }
-    kept = try_kept(&random, ANSWER_WORDS);
-    check_times_refused(&random, tables.triggers);
+    struct answered kept = try_kept(random, ANSWER_WORDS);
+    check_times_refused(random, tables->triggers);
     if (kept.number == TUZHELAR_ORDER) {
         met.no_order++;
         expect(all_untouched(&kept, 0), "8 wrote to the kept table's answer");
-        check_no_order(&random, &tables);
+        check_no_order(random, tables);
     } else if (kept.number == TUZHELAR_DONE) {
         met.planned++;
-        expect(!circle_above_0(&tables), "no 8 with a circle above 0");
-        check_kept_words(&tables, &kept);
+        expect(!circle_above_0(tables), "no 8 with a circle above 0");
+        check_kept_words(tables, &kept);
         if (wrong == NULL) {
-            check_planned(&random, &tables, &kept);
+            check_planned(random, tables, &kept);
         }
     } else {
         expect(0, "the reader takes the sheet and the kept table refuses it");
     }
 }
 
+/* The sheet and another one, in either order. A good one is compared with several, most of them related to it. */
+static void check_pairs(struct random *random, const struct tables *tables, int good)
+{
+    int pairs = good ? 2 : 1;
+    for (; wrong == NULL && pairs > 0; pairs--) {
+        int known = 0, turned = chance(random, 30);
+        uint32_t number;
+        if (good && chance(random, 85)) {
+            known = make_related(random, tables, &other);
+        } else {
+            make_sheet(random, &other);
+        }
+        number = turned ? check_pair(random, &other, &text, known) : check_pair(random, &text, &other, known);
+        if (number < sizeof met.compared / sizeof met.compared[0]) {
+            met.compared[number]++;
+        }
+        met.known += known && number == TUZHELAR_SAME;
+    }
+}
+
+static void try_sheet(void)
+{
+    struct random random = random_for(seed, current);
+    struct tables tables;
+    uint32_t refusal;
+    wrong = NULL;
+    other.length = 0;
+    make_sheet(&random, &text);
+    lend_sheet(&random);
+    refusal = read_tables(text.bytes, text.length, &tables);
+    met.read[refusal]++;
+    if (refusal != 0) {
+        check_refused(&random, refusal);
+    } else {
+        check_good(&random, &tables);
+    }
+    check_pairs(&random, &tables, refusal == 0);
+}
+
 /* ---- The run */
 
-static void write_sheet(void)
+static void write_text(const struct text *text)
 {
     size_t i;
     printf("    \"");
-    for (i = 0; i < text.length; i++) {
-        uint8_t byte = text.bytes[i];
+    for (i = 0; i < text->length; i++) {
+        uint8_t byte = text->bytes[i];
         if (byte == '\n') {
             printf("\\n");
         } else if (byte < 0x20 || byte >= 0x7f || byte == '"' || byte == '\\') {
@@ -492,6 +459,15 @@ static void write_sheet(void)
         }
     }
     printf("\"\n");
+}
+
+/* The sheet and, if there is one, the other. */
+static void write_sheet(void)
+{
+    write_text(&text);
+    if (other.length > 0) {
+        write_text(&other);
+    }
 }
 
 /* A page was touched that was not lent: nothing can be said after that. */
@@ -504,6 +480,28 @@ static void touched(int number)
     _exit(3);
 }
 
+static void print_met(void)
+{
+    uint64_t refused_first = 0, refused_second = 0;
+    int i;
+    printf("reading:");
+    for (i = 1; i <= 7; i++) {
+        printf(" %d: %" PRIu64 ",", i, met.read[i]);
+    }
+    printf(" good: %" PRIu64 "; of these 8: %" PRIu64 ", planned: %" PRIu64 ", of these first 9: %" PRIu64 "\n", met.read[0], met.no_order,
+           met.planned, met.too_small);
+    printf("times: yes: %" PRIu64 ", no: %" PRIu64 ", 8: %" PRIu64 ", 10: %" PRIu64 ", 11: %" PRIu64 "\n", met.tested[TUZHELAR_YES],
+           met.tested[TUZHELAR_NO], met.tested[TUZHELAR_ORDER], met.tested[TUZHELAR_COMPONENTS], met.tested[TUZHELAR_TIME]);
+    for (i = 0; i < 10; i++) {
+        refused_first += met.compared[i];
+        refused_second += met.compared[TUZHELAR_SECOND + i];
+    }
+    printf("two sheets: same timings: %" PRIu64 ", of these known: %" PRIu64 ", others: %" PRIu64 ", other triggers: %" PRIu64
+           ", first refused: %" PRIu64 ", second: %" PRIu64 "\n", met.compared[TUZHELAR_SAME], met.known,
+           met.compared[TUZHELAR_DIFFERENT], met.compared[TUZHELAR_UNLIKE], refused_first, refused_second);
+    printf("the longest list: %zu lines; the most selections: %" PRId64 "\n", met.most_lines, met.most_selections);
+}
+
 static uint64_t argument(int count, char **values, int at, uint64_t otherwise)
 {
     return at < count ? strtoull(values[at], NULL, 10) : otherwise;
@@ -513,7 +511,6 @@ int main(int argc, char **argv)
 {
     uint64_t count = argument(argc, argv, 1, 0), first = argument(argc, argv, 3, 0), failed = 0;
     clock_t start = clock();
-    int i;
     if (argc < 3 || argc > 4) {
         fprintf(stderr, "usage: fuzz COUNT SEED [FIRST]\n");
         return 2;
@@ -523,7 +520,7 @@ int main(int argc, char **argv)
     space_area = make_area(PROGRAM_WORDS * sizeof(int32_t));
     answer_area = make_area(ANSWER_WORDS * sizeof(int64_t));
     times_area = make_area(MOST_TIMES * sizeof(int64_t));
-    if (!guarded(&sheet_area) || !guarded(&space_area) || !guarded(&answer_area) || !guarded(&times_area)) {
+    if (!guarded(&sheet_area) || !guarded(&space_area) || !guarded(&answer_area) || !guarded(&times_area) || !make_pairs()) {
         fprintf(stderr, "fuzz: the pages around the memory lent are not guarded\n");
         return 2;
     }
@@ -537,15 +534,7 @@ int main(int argc, char **argv)
         }
     }
     printf("%" PRIu64 " sheets of seed %" PRIu64 ", %.1f s of processor time\n", count, seed, (double)(clock() - start) / CLOCKS_PER_SEC);
-    printf("reading:");
-    for (i = 1; i <= 7; i++) {
-        printf(" %d: %" PRIu64 ",", i, met.read[i]);
-    }
-    printf(" good: %" PRIu64 "; of these 8: %" PRIu64 ", planned: %" PRIu64 ", of these first 9: %" PRIu64 "\n", met.read[0], met.no_order,
-           met.planned, met.too_small);
-    printf("times: yes: %" PRIu64 ", no: %" PRIu64 ", 8: %" PRIu64 ", 10: %" PRIu64 ", 11: %" PRIu64 "\n", met.tested[TUZHELAR_YES],
-           met.tested[TUZHELAR_NO], met.tested[TUZHELAR_ORDER], met.tested[TUZHELAR_COMPONENTS], met.tested[TUZHELAR_TIME]);
-    printf("the longest list: %zu lines; the most selections: %" PRId64 "\n", met.most_lines, met.most_selections);
+    print_met();
     printf("%" PRIu64 " passed, %" PRIu64 " failed\n", count - failed, failed);
     return failed != 0;
 }

@@ -6,16 +6,21 @@
 
 #include "tuzhelar.h"
 
-#define FAULTS 22
+#define FAULTS 33
 
 uint32_t __real_tuzhelar_plan(const uint8_t *sheet, size_t sheet_length, int32_t *space, size_t space_length, int64_t *answer,
                               size_t answer_length);
 uint32_t __real_tuzhelar_kept(const uint8_t *sheet, size_t sheet_length, int64_t *answer, size_t answer_length);
-uint32_t __real_tuzhelar_test(const uint8_t *sheet, size_t sheet_length, size_t count, const int64_t *times, size_t times_length);
+uint32_t __real_tuzhelar_test(const uint8_t *sheet, size_t sheet_length, const int64_t *times, size_t times_length);
 uint32_t __wrap_tuzhelar_plan(const uint8_t *sheet, size_t sheet_length, int32_t *space, size_t space_length, int64_t *answer,
                               size_t answer_length);
 uint32_t __wrap_tuzhelar_kept(const uint8_t *sheet, size_t sheet_length, int64_t *answer, size_t answer_length);
-uint32_t __wrap_tuzhelar_test(const uint8_t *sheet, size_t sheet_length, size_t count, const int64_t *times, size_t times_length);
+uint32_t __wrap_tuzhelar_test(const uint8_t *sheet, size_t sheet_length, const int64_t *times, size_t times_length);
+
+uint32_t __real_tuzhelar_same(const uint8_t *first, size_t first_length, const uint8_t *second, size_t second_length, int32_t *left,
+                              size_t left_length, int32_t *right, size_t right_length, int64_t *answer, size_t answer_length);
+uint32_t __wrap_tuzhelar_same(const uint8_t *first, size_t first_length, const uint8_t *second, size_t second_length, int32_t *left,
+                              size_t left_length, int32_t *right, size_t right_length, int64_t *answer, size_t answer_length);
 
 static volatile uint8_t read_byte;
 
@@ -33,7 +38,7 @@ static int fault(int number)
     return named == number;
 }
 
-/* Faults of reading, in all three functions. */
+/* Faults of reading, in the functions on one sheet. */
 static uint32_t reading(const uint8_t *sheet, size_t length, uint32_t number)
 {
     if (fault(1) && length > 0) {
@@ -116,9 +121,24 @@ uint32_t __wrap_tuzhelar_kept(const uint8_t *sheet, size_t sheet_length, int64_t
     return number;
 }
 
-uint32_t __wrap_tuzhelar_test(const uint8_t *sheet, size_t sheet_length, size_t count, const int64_t *times, size_t times_length)
+/* Zeros in the place of times that are not lent. */
+static uint32_t filled_up(const uint8_t *sheet, size_t sheet_length, const int64_t *times, size_t times_length)
 {
-    uint32_t number = reading(sheet, sheet_length, __real_tuzhelar_test(sheet, sheet_length, count, times, times_length));
+    int64_t filled[TUZHELAR_MOST] = {0};
+    uint32_t number = TUZHELAR_COMPONENTS;
+    size_t i, length;
+    for (i = 0; i < times_length; i++) {
+        filled[i] = times[i];
+    }
+    for (length = times_length + 1; length <= TUZHELAR_MOST && number == TUZHELAR_COMPONENTS; length++) {
+        number = __real_tuzhelar_test(sheet, sheet_length, filled, length);
+    }
+    return number;
+}
+
+uint32_t __wrap_tuzhelar_test(const uint8_t *sheet, size_t sheet_length, const int64_t *times, size_t times_length)
+{
+    uint32_t number = reading(sheet, sheet_length, __real_tuzhelar_test(sheet, sheet_length, times, times_length));
     if (fault(19) && number == TUZHELAR_NO) {
         return TUZHELAR_YES;
     }
@@ -128,8 +148,54 @@ uint32_t __wrap_tuzhelar_test(const uint8_t *sheet, size_t sheet_length, size_t 
     if (fault(21) && number == TUZHELAR_TIME) {
         return TUZHELAR_COMPONENTS;
     }
-    if (fault(22)) {
+    if (fault(22) && times_length <= TUZHELAR_MOST) {
         read_byte = (uint8_t)times[times_length]; /* a word past the times */
+    }
+    if (fault(23) && number == TUZHELAR_COMPONENTS && times_length < TUZHELAR_MOST) {
+        return filled_up(sheet, sheet_length, times, times_length);
+    }
+    if (fault(24) && times_length > TUZHELAR_MOST) {
+        read_byte = (uint8_t)times[0]; /* times that are too many are read */
+    }
+    return number;
+}
+
+uint32_t __wrap_tuzhelar_same(const uint8_t *first, size_t first_length, const uint8_t *second, size_t second_length, int32_t *left,
+                              size_t left_length, int32_t *right, size_t right_length, int64_t *answer, size_t answer_length)
+{
+    uint32_t number = __real_tuzhelar_same(first, first_length, second, second_length, left, left_length, right, right_length, answer,
+                                           answer_length);
+    int written = number >= TUZHELAR_SAME && number <= TUZHELAR_UNLIKE;
+    int32_t no_left = 0, no_right = 0;
+    if (fault(25) && number == TUZHELAR_DIFFERENT && answer_length > 1 && answer[0] == answer[1]) {
+        return TUZHELAR_SAME; /* the counts alone compared */
+    }
+    if (fault(26) && number == TUZHELAR_SAME && (first_length != second_length)) {
+        return TUZHELAR_DIFFERENT; /* the sheets compared and not what they mean */
+    }
+    if (fault(27) && number == TUZHELAR_UNLIKE) {
+        return TUZHELAR_DIFFERENT;
+    }
+    if (fault(28) && number < TUZHELAR_SAME) { /* the second sheet's refusal first */
+        uint32_t other = __real_tuzhelar_same(second, second_length, first, first_length, &no_right, 0, &no_left, 0, answer, 0);
+        return other == TUZHELAR_SPACE ? number : TUZHELAR_SECOND + other;
+    }
+    if (fault(29) && number > TUZHELAR_SECOND && left_length > 0) {
+        left[0] = 0; /* a refusal of the second sheet writes */
+    }
+    if (fault(30) && written && answer_length > 1) {
+        int64_t count = answer[0]; /* the counts exchanged */
+        answer[0] = answer[1];
+        answer[1] = count;
+    }
+    if (fault(31) && number == TUZHELAR_SECOND + TUZHELAR_SPACE && answer_length > 1) {
+        answer[0] = answer[1]; /* the count needed in the first sheet's place too */
+    }
+    if (fault(32) && written) {
+        right[right_length] = 0; /* a word past the right space */
+    }
+    if (fault(33) && second_length > 0) {
+        read_byte = second[second_length]; /* a byte past the second sheet */
     }
     return number;
 }

@@ -15,7 +15,7 @@ use Rattle.maxplus.specs.Finite.{each}
 use borrow.Author.Tests.{eq-eqb, ne-eqb}
 use Rattle.keeping.specs.declared.KeptTable.{KeptTable}
 use Rattle.planning.specs.declared.CuePlan.{CuePlan}
-use Rattle.planner_c.specs.Words.{pairs, plan-words, kept-words, six-times}
+use Rattle.planner_c.specs.Words.{pairs, plan-words, kept-words}
 
 -- a word comes back as it was
 pub back : {z t : ℤ} → mag z < 2 ^ hbits w64 → z ≡ t → toZ w64 (ofZ w64 z) ≡ t
@@ -70,9 +70,3 @@ module _ (r : KeptTable) (lent : List ℤ) where
   pub no-table : ¬ (r .refusal ≡ 0) → lent ≡ kept-words r lent
   unfolding kept-words
   no-table f = rw (ne-eqb (r .refusal) 0 f) refl
-
--- ---- six times
-pub six-listed : (lent : List ℤ) {a b c d e f : ℤ} → a ≡ getD lent 0 (pos 0) → b ≡ getD lent 1 (pos 0) → c ≡ getD lent 2 (pos 0) →
-    d ≡ getD lent 3 (pos 0) → e ≡ getD lent 4 (pos 0) → f ≡ getD lent 5 (pos 0) → a ∷ b ∷ c ∷ d ∷ e ∷ f ∷ [] ≡ six-times lent
-unfolding six-times each
-six-listed lent ea eb ec ed ee ef = rw (ea, eb, ec, ed, ee, ef) refl

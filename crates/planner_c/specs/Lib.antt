@@ -1,2 +1,3 @@
 -- The words that C is given.
 pub mod Words
+pub mod Inner

@@ -1,7 +1,7 @@
--- The words that C is given: each answer at the front of the words lent for it, and the number returned.
+-- The words that C is given: each answer at the front of the words that the caller has for it, and the number returned.
 use mathlib.Core.List.{List, [], _∷_}
 use mathlib.Core.Bool.{true, false, cond}
-use Prim.Native.Nat.{ℕ}
+use Prim.Native.Nat.{ℕ, _+_}
 use lib.Dec.{eqb}
 use lib.IntN.{ℤ, pos}
 use lib.ListN.{getD}
@@ -10,8 +10,11 @@ use Rattle.maxplus.specs.Finite.{each}
 use Rattle.testing.specs.Testing.{TestOutcome, answer, refused}
 use Rattle.keeping.specs.declared.KeptTable.{KeptTable}
 use Rattle.planning.specs.declared.CuePlan.{CuePlan}
+use Rattle.comparing.specs.Comparing.{Comparison, unlike, first-refused, second-refused}
+use Rattle.comparing.specs.Comparing as comparison
 
--- Words are stored from a place on; one that is past the end is dropped, and the rest stays (`sets`).
+-- Words are stored from a place on; one that is past the end is dropped, and the rest stays (`sets`). The words of an answer are results,
+-- which C can return by a pointer only, and not lent space: document 01's "leaves the rest" and "changes no lent byte or word" are about that.
 
 -- deviation, steps, selections and count; for 9 "the count needed" in its place; for any other refusal nothing
 unfoldable pub plan-words : CuePlan → List ℤ → List ℤ
@@ -30,12 +33,27 @@ kept-words r lent =
     (sets lent 0 (r .deviation ∷ pos (r .steps) ∷ pos (r .selections) ∷ pos (r .panels) ∷ pairs 6 (r .kept) (r .counts)))
     lent
 
--- the first six words lent, 0 for those that are not there
-unfoldable pub six-times : List ℤ → List ℤ
-six-times lent = each 6 (λ j. getD lent j (pos 0) ∷ [])
-
 -- 100 for yes, 101 for no, past every refusal
 abbrev pub test-number : TestOutcome → ℕ
 test-number (answer true) = 100
 test-number (answer false) = 101
 test-number (refused k) = k
+
+-- 100 for the same timings, 101 for others, 102 for different numbers of triggers; the first sheet's refusal, or 200 more than the second's
+abbrev pub compare-number : Comparison → ℕ
+compare-number (comparison.answer true c d) = 100
+compare-number (comparison.answer false c d) = 101
+compare-number (unlike c d) = 102
+compare-number (first-refused k c) = k
+compare-number (second-refused k c) = 200 + k
+
+-- for 9 "the count needed" at a place; for any other refusal nothing
+unfoldable pub needed-words : (at number count : ℕ) → List ℤ → List ℤ
+needed-words at k c lent = cond (eqb k 9) (sets lent at (pos c ∷ [])) lent
+
+-- the numbers of lines written, the first sheet's and the second's; for a sheet that is refused the count needed, in its place
+abbrev pub compare-words : Comparison → List ℤ → List ℤ
+compare-words (comparison.answer b c d) lent = sets lent 0 (pos c ∷ pos d ∷ [])
+compare-words (unlike c d) lent = sets lent 0 (pos c ∷ pos d ∷ [])
+compare-words (first-refused k c) lent = needed-words 0 k c lent
+compare-words (second-refused k c) lent = needed-words 1 k c lent

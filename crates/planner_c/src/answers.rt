@@ -1,10 +1,14 @@
 // Answers as words at the front of those lent.
 ghost use mathlib.Core.Path.{_≡_};
+ghost use mathlib.Core.List.{[], _∷_};
 ghost use Prim.Native.Nat.{_≤_};
 ghost use lib.IntN.{pos};
-ghost use lib.ListN.{getD, set};
+ghost use lib.ListN.{length, set};
 ghost use lib.Seq.{sets};
-ghost use Rattle.planner_c.specs.Words.{pairs, plan-words, kept-words, six-times};
+ghost use Rattle.maxplus.specs.Finite.{each};
+ghost use Rattle.timing.specs.Times.{component};
+ghost use Rattle.planner_c.specs.Words.{pairs, plan-words, kept-words};
+ghost use Rattle.planner_c.specs.Inner.{most-lines};
 ghost use Rattle.cue.specs.Sizes.{size-limit};
 use keeping::KeptTable;
 use planning::CuePlan;
@@ -21,8 +25,16 @@ fn word(k: u32) -> i64
     k as i64
 }
 
+// There are at most 6 · 6⁶ lines, so that their count is a word of 64 bits with a sign.
+pub fn count_word(count: usize) -> i64
+    requires { ⌜ count ≤ most-lines ⌝ }
+    ensures { λ r. ⌜ r ≡ pos count ⌝ }
+{
+    count as i64
+}
+
 // A word past the end is dropped, so that no caller can be wrong about a length.
-fn put(lent: &mut [i64], at: usize, v: i64)
+pub fn put(lent: &mut [i64], at: usize, v: i64)
     ensures { λ _. ⌜ now (lent .exit) ≡ set (now (lent .entry)) at v ⌝ }
 {
     if at < lent.len() {
@@ -30,12 +42,11 @@ fn put(lent: &mut [i64], at: usize, v: i64)
     }
 }
 
-// There are at most 6 · 6⁶ lines, so that their count is a word of 64 bits with a sign.
 pub fn write_plan(lent: &mut [i64], r: CuePlan)
-    requires { ⌜ r .count ≤ 279936 ⌝ }
+    requires { ⌜ r .count ≤ most-lines ⌝ }
     ensures { λ _. ⌜ now (lent .exit) ≡ plan-words r (now (lent .entry)) ⌝ }
 {
-    let count = r.count as i64;
+    let count = count_word(r.count);
     if r.refusal == 0 {
         put(lent, 0, r.deviation);
         put(lent, 1, word(r.steps));
@@ -75,15 +86,18 @@ fn put_panels(lent: &mut [i64], kept: [u8; 6], counts: [u8; 6])
 
 // The time at a place, 0 where none is lent.
 fn time(lent: &[i64], j: usize) -> i64
-    ensures { λ r. ⌜ r ≡ getD (now (lent .entry)) j (pos 0) ⌝ }
+    ensures { λ r. ⌜ r ≡ component (now (lent .entry)) j ⌝ }
 {
     if j < lent.len() { lent[j] } else { 0 }
 }
 
-// A timing's six components.
+// A timing's six components. More than six are no sheet's, so that they are not read.
 pub fn six_times(lent: &[i64]) -> [i64; 6]
-    ensures { λ r. ⌜ r ≡ six-times (now (lent .entry)) ⌝ }
+    ensures { λ r. ⌜ (length (now (lent .entry)) ≤ size-limit → r ≡ each 6 (λ j. component (now (lent .entry)) j ∷ [])) ⌝ }
 {
+    if lent.len() > 6 {
+        return [0; 6];
+    }
     [
         time(lent, 0),
         time(lent, 1),

@@ -1,18 +1,22 @@
-// The three operations for C and Rust. Nothing is asked of a length: a word that does not fit an answer is dropped, a time that is not lent
-// is 0, and no time past the sixth is looked at.
+// The operations for C and Rust. Nothing is asked of a length: a word that does not fit an answer is dropped, and as many times are
+// tested as are lent.
 ghost use mathlib.Core.Path.{_≡_};
+ghost use lib.ListN.{length};
 ghost use Rattle.testing.specs.Testing.{testing};
 ghost use Rattle.planning.specs.Planning.{planning, space-after, plan-answer};
 ghost use Rattle.keeping.specs.Keeping.{keeping, kept-answer};
+ghost use Rattle.comparing.specs.Comparing.{comparing, compared-space};
 ghost use Rattle.timing.specs.Times.{component};
-ghost use Rattle.planner_c.specs.Words.{plan-words, kept-words, six-times, test-number};
+ghost use Rattle.planner_c.specs.Words.{plan-words, kept-words, test-number, compare-number, compare-words};
 use crate::answers::six_times;
 use crate::answers::write_kept;
 use crate::answers::write_plan;
+use crate::compared::answer_compared;
 use testing::Tested;
 use timing::Timing;
 
 mod answers;
+mod compared;
 
 // 0 or the refusal. The list goes to the front of the space, deviation, steps, selections and count to the answer; for 9 the count alone.
 #[no_mangle]
@@ -38,14 +42,14 @@ pub extern "C" fn tuzhelar_kept(sheet: &[u8], answer: &mut [i64]) -> u32
     r.refusal as u32
 }
 
-// 100 if the first `count` times are tightest, 101 if they are not, or the refusal.
+// 100 if the times are tightest, 101 if they are not, or the refusal.
 #[no_mangle]
-pub extern "C" fn tuzhelar_test(sheet: &[u8], count: usize, times: &[i64]) -> u32
-    ensures { λ r. ⌜ r ≡ test-number (testing (now (sheet .entry)) count (component (six-times (now (times .entry))))) ⌝ }
+pub extern "C" fn tuzhelar_test(sheet: &[u8], times: &[i64]) -> u32
+    ensures { λ r. ⌜ r ≡ test-number (testing (now (sheet .entry)) (length (now (times .entry))) (component (now (times .entry)))) ⌝ }
 {
     let at = six_times(times);
     let timing = Timing {
-        count: count,
+        count: times.len(),
         at: at,
     };
     match testing::test_timing(sheet, timing) {
@@ -53,4 +57,28 @@ pub extern "C" fn tuzhelar_test(sheet: &[u8], count: usize, times: &[i64]) -> u3
         Tested::No => 101,
         Tested::Refused(k) => k as u32,
     }
+}
+
+// 100 if the same timings are tightest on both sheets, 101 if they are not, 102 if the numbers of triggers differ; or the first sheet's
+// refusal, or 200 more than the second's. The lists go to the fronts of the spaces, their numbers of lines to the answer; for 9 the count
+// needed alone.
+#[no_mangle]
+pub extern "C" fn tuzhelar_same(
+    first: &[u8],
+    second: &[u8],
+    left: &mut [i32],
+    right: &mut [i32],
+    answer: &mut [i64],
+) -> u32
+    ensures returned { λ r. ⌜ r ≡
+        compare-number (comparing (now (first .entry)) (now (second .entry)) (now (left .entry)) (now (right .entry))) ⌝ }
+    ensures left { λ r. ⌜ now (left .exit) ≡ compared-space (planning (now (first .entry)) (now (left .entry)))
+        (planning (now (second .entry)) (now (right .entry))) (now (left .entry)) ⌝ }
+    ensures right { λ r. ⌜ now (right .exit) ≡ compared-space (planning (now (second .entry)) (now (right .entry)))
+        (planning (now (first .entry)) (now (left .entry))) (now (right .entry)) ⌝ }
+    ensures answered { λ r. ⌜ now (answer .exit) ≡
+        compare-words (comparing (now (first .entry)) (now (second .entry)) (now (left .entry)) (now (right .entry))) (now (answer .entry)) ⌝ }
+{
+    let r = comparing::same_timings(first, second, left, right);
+    answer_compared(answer, r)
 }

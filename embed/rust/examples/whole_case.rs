@@ -1,9 +1,11 @@
-//! The whole case from Rust: plans it, chooses times from its lines, and tests them.
+//! The whole case from Rust: plans it, chooses times from its lines, tests them, and compares it with
+//! another sheet.
 //!
 //!     rt staticlib planner_c
 //!     cargo run --offline --manifest-path embed/rust/Cargo.toml --example whole_case
 
-use tuzhelar::{LINE_WORDS, Refusal, kept, plan, test};
+use std::error::Error;
+use tuzhelar::{LINE_WORDS, Refusal, kept, plan, same, test};
 
 const SHEET: &[u8] = b"panels=2
 triggers=2
@@ -26,7 +28,18 @@ after=-,-1
 after=3,-
 ";
 
-fn main() -> Result<(), Refusal> {
+/// The whole case with its panels exchanged.
+const EXCHANGED: &[u8] = b"panels=2
+triggers=2
+lag=4,1
+lag=2,0
+floor=2,5
+due=1,2
+after=-,-
+after=-,-
+";
+
+fn main() -> Result<(), Box<dyn Error>> {
     // Space for one line is too little; the refusal says how many there are.
     let mut space = vec![0; LINE_WORDS];
     if let Err(refusal) = plan(SHEET, &mut space) {
@@ -64,6 +77,10 @@ fn main() -> Result<(), Refusal> {
             panel.count
         );
     }
+    let mut other_space = space.clone();
+    let compared = same(SHEET, EXCHANGED, &mut space, &mut other_space)?;
+    println!("panels exchanged: {:?} timings", compared.likeness);
+
     if let Err(refusal) = plan(NO_ORDER, &mut space) {
         println!("refused={}: {refusal}", refusal.number());
     }

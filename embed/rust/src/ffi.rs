@@ -24,9 +24,20 @@ unsafe extern "C" {
     fn tuzhelar_test(
         sheet: *const u8,
         sheet_length: usize,
-        count: usize,
         times: *const i64,
         times_length: usize,
+    ) -> u32;
+    fn tuzhelar_same(
+        first: *const u8,
+        first_length: usize,
+        second: *const u8,
+        second_length: usize,
+        left: *mut i32,
+        left_length: usize,
+        right: *mut i32,
+        right_length: usize,
+        answer: *mut i64,
+        answer_length: usize,
     ) -> u32;
 }
 
@@ -58,14 +69,30 @@ pub fn kept(sheet: &[u8], answer: &mut [i64]) -> u32 {
 }
 
 pub fn test(sheet: &[u8], times: &[i64]) -> u32 {
-    // SAFETY: as in `plan`; both slices are only read. The count is a number like any other.
+    // SAFETY: as in `plan`; both slices are only read.
+    unsafe { tuzhelar_test(sheet.as_ptr(), sheet.len(), times.as_ptr(), times.len()) }
+}
+
+pub fn same(
+    first: &[u8],
+    second: &[u8],
+    left: &mut [i32],
+    right: &mut [i32],
+    answer: &mut [i64],
+) -> u32 {
+    // SAFETY: as in `plan`; both sheets are only read.
     unsafe {
-        tuzhelar_test(
-            sheet.as_ptr(),
-            sheet.len(),
-            times.len(),
-            times.as_ptr(),
-            times.len(),
+        tuzhelar_same(
+            first.as_ptr(),
+            first.len(),
+            second.as_ptr(),
+            second.len(),
+            left.as_mut_ptr(),
+            left.len(),
+            right.as_mut_ptr(),
+            right.len(),
+            answer.as_mut_ptr(),
+            answer.len(),
         )
     }
 }

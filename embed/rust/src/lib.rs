@@ -1,6 +1,6 @@
 //! Tuzhelar, the proved planner for surtitle cues, behind safe functions.
 //!
-//! The three operations are proved, from the bytes of a sheet to the words written; this crate only calls
+//! The four operations are proved, from the bytes of a sheet to the words written; this crate only calls
 //! them (`ffi`) and gives names to the words. Slices of any length and content have an answer.
 //!
 //! `rt staticlib planner_c` writes the library that is linked; `build.rs` says where it is looked for.
@@ -19,16 +19,23 @@
 //! // Times that were wished, and the latest tightest ones that are not later.
 //! assert_eq!(tuzhelar::test(sheet, &[0, 2]), Ok(false));
 //! assert_eq!(plan.latest(&[0, 2]), Some(vec![0, 1]));
-//! # Ok::<(), tuzhelar::Refusal>(())
+//!
+//! // Whether the same times are tightest on another sheet, here the same with its panels exchanged.
+//! let other = b"panels=2\ntriggers=2\nlag=4,1\nlag=2,0\nfloor=2,5\ndue=1,2\nafter=-,-\nafter=-,-\n";
+//! let (mut left, mut right) = ([0; 20 * tuzhelar::LINE_WORDS], [0; 20 * tuzhelar::LINE_WORDS]);
+//! assert!(tuzhelar::same(sheet, other, &mut left, &mut right)?.same());
+//! # Ok::<(), Box<dyn std::error::Error>>(())
 //! ```
 #![deny(missing_docs, unsafe_code)]
 
 mod ffi;
 mod plan;
 mod refusal;
+mod same;
 
 pub use plan::{Line, Plan};
 pub use refusal::Refusal;
+pub use same::{Compared, Likeness, SheetRefusal};
 
 /// The most bytes of a sheet.
 pub const SHEET_BYTES: usize = 2048;
@@ -37,10 +44,13 @@ pub const MOST: usize = 6;
 /// Words of the lent space that a line takes: its count of triggers and six components.
 pub const LINE_WORDS: usize = 7;
 
-/// The number that an operation returns for a result, and a test for yes and no.
+/// The number that an operation returns for a result, a test for yes and no, a comparison for each likeness.
 const DONE: u32 = 0;
 const YES: u32 = 100;
 const NO: u32 = 101;
+const SAME: u32 = 100;
+const DIFFERENT: u32 = 101;
+const UNLIKE: u32 = 102;
 
 /// Reads the sheet, works out the least deviation and lists the lines at the front of the space. The rest of
 /// the space stays as it was.
@@ -133,4 +143,32 @@ pub fn test(sheet: &[u8], times: &[i64]) -> Result<bool, Refusal> {
         NO => Ok(false),
         number => Err(Refusal::of(number, 0)),
     }
+}
+
+/// Whether the same timings are tightest on two sheets. Each sheet's list is written at the front of its
+/// space, the first's in `left`, the second's in `right`; the rest of each space stays as it was.
+///
+/// # Errors
+/// [`SheetRefusal`]: [`Refusal`] 1 to 9 of the first sheet, as [`plan`] has it with the space `left`, or else
+/// of the second with the space `right`; both spaces are then as they were.
+pub fn same<'a>(
+    first: &[u8],
+    second: &[u8],
+    left: &'a mut [i32],
+    right: &'a mut [i32],
+) -> Result<Compared<'a>, SheetRefusal> {
+    let mut answer = [0; 2];
+    let number = ffi::same(first, second, left, right, &mut answer);
+    let counts = answer.map(|count| count as usize);
+    let likeness = match number {
+        SAME => Likeness::Same,
+        DIFFERENT => Likeness::Different,
+        UNLIKE => Likeness::Unlike,
+        number => return Err(SheetRefusal::of(number, counts)),
+    };
+    Ok(Compared {
+        likeness,
+        left: &left[..LINE_WORDS * counts[0]],
+        right: &right[..LINE_WORDS * counts[1]],
+    })
 }

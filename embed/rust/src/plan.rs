@@ -67,10 +67,17 @@ impl fmt::Display for Line {
     }
 }
 
+/// The lines of a list at the front of a lent space, from their words.
+pub(crate) fn lines<'a>(
+    words: &'a [i32],
+) -> impl ExactSizeIterator<Item = Line> + DoubleEndedIterator + use<'a> {
+    words.chunks_exact(LINE_WORDS).map(Line::of)
+}
+
 impl<'a> Plan<'a> {
     /// The lines, in their order.
     pub fn lines(&self) -> impl ExactSizeIterator<Item = Line> + DoubleEndedIterator + use<'a> {
-        self.words.chunks_exact(LINE_WORDS).map(Line::of)
+        lines(self.words)
     }
 
     /// The sheet's number of triggers.

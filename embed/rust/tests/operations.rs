@@ -1,10 +1,18 @@
 //! The operations on document 01's cases, and on slices of every length.
 
-use tuzhelar::{KeptPanel, LINE_WORDS, Refusal, SHEET_BYTES, kept, plan, test};
+use tuzhelar::{KeptPanel, LINE_WORDS, Likeness, Refusal, SHEET_BYTES, SheetRefusal};
+use tuzhelar::{kept, plan, same, test};
 
 const WHOLE: &[u8] =
     b"panels=2\ntriggers=2\nlag=2,0\nlag=4,1\nfloor=5,2\ndue=1,2\nafter=-,-\nafter=-,-\n";
 const UNTOUCHED: i32 = 7777;
+
+/// The whole case with another line in the place of one.
+fn changed(old: &str, new: &str) -> Vec<u8> {
+    let sheet = std::str::from_utf8(WHOLE).unwrap();
+    assert!(sheet.contains(old));
+    sheet.replacen(old, new, 1).into_bytes()
+}
 
 /// A sheet of one panel and one trigger, lag 5, floor 0, due 0.
 fn one(after: &str) -> Vec<u8> {
@@ -46,11 +54,6 @@ fn the_cases_of_the_document() {
 
 #[test]
 fn every_refusal() {
-    let changed = |old: &str, new: &str| {
-        let sheet = std::str::from_utf8(WHOLE).unwrap();
-        assert!(sheet.contains(old));
-        sheet.replacen(old, new, 1).into_bytes()
-    };
     assert_eq!(refusal(&[b'\n'; SHEET_BYTES + 1]), 1);
     assert_eq!(refusal(&[b'\n'; SHEET_BYTES]), 2);
     assert_eq!(refusal(b""), 2);
@@ -102,6 +105,12 @@ fn a_sheet_of_any_length() {
         assert_eq!(kept(sheet).err(), wanted);
         assert_eq!(test(sheet, &[0, 0]).err(), wanted);
         assert!(wanted.is_none() || space == [UNTOUCHED; 14]);
+        let (first, second) = (
+            wanted.map(SheetRefusal::First),
+            wanted.map(SheetRefusal::Second),
+        );
+        assert_eq!(same(sheet, WHOLE, &mut [0; 14], &mut [0; 14]).err(), first);
+        assert_eq!(same(WHOLE, sheet, &mut [0; 14], &mut [0; 14]).err(), second);
     }
 }
 
@@ -144,6 +153,77 @@ fn the_kept_table() {
         [KeptPanel { byte: 1, count: 1 }, KeptPanel::default()]
     );
     assert_eq!(kept(&one("1")), Err(Refusal::Order));
+}
+
+#[test]
+fn two_sheets() {
+    let exchanged =
+        b"panels=2\ntriggers=2\nlag=4,1\nlag=2,0\nfloor=2,5\ndue=1,2\nafter=-,-\nafter=-,-\n";
+    let later = changed("due=1,2", "due=1,3");
+    let one = one("-");
+    let cases: [(&[u8], &[u8], Likeness); 6] = [
+        (WHOLE, WHOLE, Likeness::Same),
+        (WHOLE, exchanged, Likeness::Same),
+        (WHOLE, &later, Likeness::Different),
+        (&later, exchanged, Likeness::Different),
+        (WHOLE, &one, Likeness::Unlike),
+        (&one, WHOLE, Likeness::Unlike),
+    ];
+    for (first, second, likeness) in cases {
+        let (mut left, mut right) = ([UNTOUCHED; 30], [UNTOUCHED; 30]);
+        let compared = same(first, second, &mut left, &mut right).unwrap();
+        assert_eq!(compared.likeness, likeness);
+        assert_eq!(compared.same(), likeness == Likeness::Same);
+        let (mut first_space, mut second_space) = ([0; 30], [0; 30]);
+        let first = plan(first, &mut first_space).unwrap();
+        let second = plan(second, &mut second_space).unwrap();
+        assert!(compared.first_lines().eq(first.lines()));
+        assert!(compared.second_lines().eq(second.lines()));
+        assert_eq!(first.lines().eq(second.lines()), likeness == Likeness::Same);
+        assert!(
+            left[LINE_WORDS * first.count..]
+                .iter()
+                .all(|&w| w == UNTOUCHED)
+        );
+        assert!(
+            right[LINE_WORDS * second.count..]
+                .iter()
+                .all(|&w| w == UNTOUCHED)
+        );
+    }
+}
+
+#[test]
+fn two_sheets_refused() {
+    let check = |sheets: [&[u8]; 2], lent: [usize; 2], refusal: SheetRefusal, number: u32| {
+        let [mut left, mut right] = lent.map(|words| vec![UNTOUCHED; words]);
+        let refused = same(sheets[0], sheets[1], &mut left, &mut right);
+        assert_eq!(refused, Err(refusal));
+        assert_eq!(refusal.number(), number);
+        assert!(left.iter().chain(&right).all(|&word| word == UNTOUCHED));
+        let which = if number < 200 { "first" } else { "second" };
+        assert!(
+            refusal
+                .to_string()
+                .starts_with(&format!("the {which} sheet: "))
+        );
+    };
+    let (first, second) = (SheetRefusal::First, SheetRefusal::Second);
+    let circle = &one("1")[..];
+    let count = 2;
+    check([b"", b""], [0, 0], first(Refusal::Form), 2);
+    check([b"", circle], [30, 30], first(Refusal::Form), 2);
+    check([circle, b""], [30, 30], first(Refusal::Order), 8);
+    check([WHOLE, b""], [13, 30], first(Refusal::Space { count }), 9);
+    check([WHOLE, WHOLE], [13, 13], first(Refusal::Space { count }), 9);
+    check([WHOLE, b""], [14, 30], second(Refusal::Form), 202);
+    check([WHOLE, circle], [30, 0], second(Refusal::Order), 208);
+    check(
+        [WHOLE, WHOLE],
+        [14, 13],
+        second(Refusal::Space { count }),
+        209,
+    );
 }
 
 #[test]

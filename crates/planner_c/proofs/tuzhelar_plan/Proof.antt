@@ -3,6 +3,7 @@ use mathlib.Core.Path.{ap, sym, subst, _∙_}
 use Prim.Native.Nat.{_≤_}
 use Rattle.planning.specs.declared.CuePlan.{CuePlan}
 use Rattle.planner_c.specs.Words.{plan-words}
+use Rattle.planner_c.specs.Inner.{most-lines}
 use Rattle.planner_c.proofs.Few.{count-few}
 use borrow.Author.Needs.{needs}
 use Rattle.planner_c.proofs.tuzhelar_plan.Statement.{statement}
@@ -12,7 +13,7 @@ plan-requires : tie.Need-plan-requires
 plan-requires c κs = search needs
 
 write-plan-requires : tie.Need-write-plan-requires
-write-plan-requires c κs = subst (λ (r : CuePlan). r .count ≤ 279936) (sym (c .before .before .plan .ensures .0)) (count-few _ _)
+write-plan-requires c κs = subst (λ (r : CuePlan). r .count ≤ most-lines) (sym (c .before .before .plan .ensures .0)) (count-few _ _)
 
 cast-result : tie.Need-cast-result
 cast-result c = search needs

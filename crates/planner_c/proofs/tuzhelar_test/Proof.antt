@@ -1,20 +1,26 @@
 -- `planner_c::tuzhelar_test` meets its contract. Assumes nothing.
-use mathlib.Core.Path.{_≡_, ap, sym, _∙_}
-use mathlib.Core.List.{List}
-use Prim.Native.Nat.{ℕ}
+use mathlib.Core.Path.{_≡_, refl, ap, sym, _∙_}
+use mathlib.Core.List.{List, [], _∷_}
+use Prim.Native.Nat.{ℕ, _≤_}
 use lib.IntN.{ℤ}
+use lib.ListN.{length}
+use Rattle.maxplus.specs.Finite.{each}
+use Rattle.cue.specs.Sizes.{size-limit}
 use Rattle.timing.specs.Times.{component}
 use Rattle.testing.specs.Testing.{testing, test-answer}
 use Rattle.testing.specs.declared.Tested.{Tested}
+use Rattle.planner_c.proofs.Times.{tested}
 use borrow.Author.Needs.{needs}
 use Rattle.planner_c.specs.Words.{test-number}
 use Rattle.planner_c.proofs.tuzhelar_test.Statement.{statement}
 use Rattle.planner_c.proofs.tuzhelar_test.Tie as tie
 
--- the number of what was found of the six times
-tested : (s : List ℕ) (count : ℕ) {at lent : List ℤ} {r q : Tested} → at ≡ lent → test-answer r ≡ testing s count (component at) → r ≡ q →
-    test-number (test-answer q) ≡ test-number (testing s count (component lent))
-tested s count e h d = ap test-number (ap test-answer (sym d) ∙ h ∙ ap (λ at. testing s count (component at)) e)
+-- the number of what was found of the six components
+found : (s : List ℕ) (lent : List ℤ) {at : List ℤ} {count : ℕ} {r q : Tested} → r ≡ q → test-answer r ≡ testing s count (component at) →
+    count ≡ length lent → (length lent ≤ size-limit → at ≡ each 6 (λ j. component lent j ∷ [])) →
+    test-number (test-answer q) ≡ test-number (testing s (length lent) (component lent))
+found s lent {at} d h n e =
+    ap test-number (ap test-answer (sym d) ∙ h ∙ ap (λ count. testing s count (component at)) n ∙ tested s lent at e)
 
 six-times-requires : tie.Need-six-times-requires
 six-times-requires c κs = search needs
@@ -38,19 +44,23 @@ returns : tie.Need-returns
 returns c =
     let t : tie.After-test-timing = search in
     let six : tie.After-six-times = search in
-    tested _ _ (six .six-times .ensures) (t .test-timing .ensures) (c .enum-told .given .1)
+    let s : tie.Start = search in
+    found _ (s .args .times .now) (c .enum-told .given .1) (t .test-timing .ensures) refl (six .six-times .ensures)
 
 returns-2 : tie.Need-returns-2
 returns-2 c =
     let t : tie.After-test-timing = search in
     let six : tie.After-six-times = search in
-    tested _ _ (six .six-times .ensures) (t .test-timing .ensures) (c .enum-told2 .given .1)
+    let s : tie.Start = search in
+    found _ (s .args .times .now) (c .enum-told2 .given .1) (t .test-timing .ensures) refl (six .six-times .ensures)
 
 returns-3 : tie.Need-returns-3
 returns-3 c =
     let t : tie.After-test-timing = search in
     let six : tie.After-six-times = search in
-    let (k, e) = c .before .k .given in tested _ _ (six .six-times .ensures) (t .test-timing .ensures) e
+    let s : tie.Start = search in
+    let (k, e) = c .before .k .given in
+    found _ (s .args .times .now) e (t .test-timing .ensures) refl (six .six-times .ensures)
 
 pub tuzhelar-test-spec : {M : Type 1} → statement M
 tuzhelar-test-spec =

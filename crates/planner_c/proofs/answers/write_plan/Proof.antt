@@ -1,24 +1,18 @@
 -- `planner_c::answers::write_plan` meets its contract. Assumes nothing.
 use mathlib.Core.Path.{_≡_}
-use native.Mathlib.Omega.{arith}
-use lib.IntN.{pos}
 use mir.Syntax.{w64}
 use mir.Val.{toZ, ofZ}
-use mir.Facts.{toZ-pos}
 use Rattle.planner_c.proofs.Storing.{back, planned-words, full-words, no-words}
 use borrow.Author.Needs.{needs}
 use Rattle.planner_c.proofs.answers.write_plan.Statement.{statement}
 use Rattle.planner_c.proofs.answers.write_plan.Tie as tie
 
--- the deviation and the count come back as they were
+-- the deviation comes back as it was
 deviation-back : (s : tie.Start) → let D = s .args .r .deviation in toZ w64 (ofZ w64 D) ≡ D
 deviation-back s = search needs
 
-count-back : (s : tie.Start) → toZ w64 (s .args .r .count) ≡ pos (s .args .r .count)
-count-back s = toZ-pos w64 (omega (arith, s .pre))
-
-cast-count : tie.Need-cast-count
-cast-count c = search needs
+count-word-requires : tie.Need-count-word-requires
+count-word-requires c κs = search needs
 
 put-requires : tie.Need-put-requires
 put-requires c κs = search needs
@@ -53,10 +47,11 @@ returns c =
     let steps : tie.After-word = search in
     let first : tie.After-put = search in
     let then1 : tie.Then1 = search in
+    let lines : tie.After-count-word = search in
     let s : tie.Start = search in
     planned-words _ _ (then1 .if1 .taken) (deviation-back s) (first .put .ensures) (back (steps .word .ok) (steps .word .ensures))
-    (second .put2 .ensures) (back (selections .word2 .ok) (selections .word2 .ensures)) (third .put3 .ensures) (count-back s)
-    (fourth .put4 .ensures)
+    (second .put2 .ensures) (back (selections .word2 .ok) (selections .word2 .ensures)) (third .put3 .ensures)
+    (back (lines .count-word .ok) (lines .count-word .ensures)) (fourth .put4 .ensures)
 
 same-length-2 : tie.Need-same-length-2
 same-length-2 c = search needs
@@ -66,8 +61,8 @@ returns-2 c =
     let fourth : tie.After-put5 = search in
     let then2 : tie.Then2 = search in
     let else1 : tie.Else1 = search in
-    let s : tie.Start = search in
-    full-words _ _ (else1 .if1 .left) (then2 .if2 .taken) (count-back s) (fourth .put5 .ensures)
+    let lines : tie.After-count-word = search in
+    full-words _ _ (else1 .if1 .left) (then2 .if2 .taken) (back (lines .count-word .ok) (lines .count-word .ensures)) (fourth .put5 .ensures)
 
 returns-3 : tie.Need-returns-3
 returns-3 c = no-words _ _ (c .before .before .if1 .left) (c .if2 .left)
@@ -76,7 +71,7 @@ pub write-plan-spec : {M : Type 1} → statement M
 write-plan-spec =
     tie.close
     (tie.spec
-    cast-count
+    count-word-requires
     put-requires
     word-requires
     put-requires-2

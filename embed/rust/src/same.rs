@@ -1,0 +1,92 @@
+//! What comparing two sheets gives: which of three they are, and the lists in the lent spaces.
+
+use crate::plan::{Line, lines};
+use crate::refusal::Refusal;
+use std::error::Error;
+use std::fmt;
+
+/// So much more is the number of a refusal of the second sheet.
+const SECOND: u32 = 200;
+
+/// How the tightest timings of two sheets stand to one another.
+#[derive(Clone, Copy, Debug, PartialEq, Eq, Hash)]
+pub enum Likeness {
+    /// Every timing is tightest on both sheets or on neither.
+    Same,
+    /// Some timing is tightest on one of the sheets only.
+    Different,
+    /// The sheets have different numbers of triggers.
+    Unlike,
+}
+
+/// Two sheets compared. Their lists stand in the spaces that were lent, which stay borrowed as long as this
+/// is used.
+#[derive(Clone, Copy, Debug, PartialEq, Eq)]
+pub struct Compared<'a> {
+    /// How they stand to one another.
+    pub likeness: Likeness,
+    /// The words of the first sheet's lines, seven for each, and of the second's.
+    pub(crate) left: &'a [i32],
+    pub(crate) right: &'a [i32],
+}
+
+impl<'a> Compared<'a> {
+    /// Whether every timing is tightest on both sheets or on neither.
+    pub fn same(&self) -> bool {
+        self.likeness == Likeness::Same
+    }
+
+    /// The lines of the first sheet, in their order.
+    pub fn first_lines(
+        &self,
+    ) -> impl ExactSizeIterator<Item = Line> + DoubleEndedIterator + use<'a> {
+        lines(self.left)
+    }
+
+    /// The lines of the second sheet, in their order.
+    pub fn second_lines(
+        &self,
+    ) -> impl ExactSizeIterator<Item = Line> + DoubleEndedIterator + use<'a> {
+        lines(self.right)
+    }
+}
+
+/// Why two sheets were not compared: planning refuses the first, or the second and not the first. It has
+/// changed no lent word.
+#[derive(Clone, Copy, Debug, PartialEq, Eq, Hash)]
+pub enum SheetRefusal {
+    /// The first sheet is refused; [`Refusal::Space`] is about the space lent for its list.
+    First(Refusal),
+    /// The second sheet is refused, and the first is not.
+    Second(Refusal),
+}
+
+impl SheetRefusal {
+    /// The number that stands for this refusal in C: 1 to 9, or 201 to 209 for the second sheet.
+    pub fn number(self) -> u32 {
+        match self {
+            SheetRefusal::First(refusal) => refusal.number(),
+            SheetRefusal::Second(refusal) => SECOND + refusal.number(),
+        }
+    }
+
+    /// The refusal of a number that the library returned, with the counts that come with 9 and 209.
+    pub(crate) fn of(number: u32, [first, second]: [usize; 2]) -> SheetRefusal {
+        if number > SECOND {
+            SheetRefusal::Second(Refusal::of(number - SECOND, second))
+        } else {
+            SheetRefusal::First(Refusal::of(number, first))
+        }
+    }
+}
+
+impl fmt::Display for SheetRefusal {
+    fn fmt(&self, f: &mut fmt::Formatter<'_>) -> fmt::Result {
+        match self {
+            SheetRefusal::First(refusal) => write!(f, "the first sheet: {refusal}"),
+            SheetRefusal::Second(refusal) => write!(f, "the second sheet: {refusal}"),
+        }
+    }
+}
+
+impl Error for SheetRefusal {}

@@ -1,0 +1,15 @@
+/* What document 01 says of times on the tables of a sheet. */
+#ifndef MEANING_H
+#define MEANING_H
+
+#include "reader.h"
+
+/* Whether times keep every after rule. */
+int keeps_order(const struct tables *tables, const int64_t *times);
+
+int64_t deviation(const struct tables *tables, const int64_t *times);
+
+/* Whether the after rules have a circle that adds up to more than 0. */
+int circle_above_0(const struct tables *tables);
+
+#endif

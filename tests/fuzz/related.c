@@ -1,0 +1,173 @@
+/* Changes that keep the tightest timings, and changes of an entry, on the tables of a sheet; then the sheet anew. */
+#include "related.h"
+
+#include <inttypes.h>
+#include <stdio.h>
+
+static void move(int64_t *entry, int64_t by)
+{
+    if (*entry != NONE) {
+        *entry += by;
+    }
+}
+
+static void move_all(int64_t *entries, int count, int64_t by)
+{
+    int i;
+    for (i = 0; i < count; i++) {
+        move(&entries[i], by);
+    }
+}
+
+static void exchange(int64_t *a, int64_t *b)
+{
+    int64_t entry = *a;
+    *a = *b;
+    *b = entry;
+}
+
+static void exchange_panels(struct tables *tables, int a, int b)
+{
+    int j;
+    exchange(&tables->floor[a], &tables->floor[b]);
+    for (j = 0; j < tables->triggers; j++) {
+        exchange(&tables->lag[a][j], &tables->lag[b][j]);
+    }
+}
+
+/* A panel once more, with another floor. */
+static void repeat_panel(struct tables *tables, int panel, int64_t floor)
+{
+    int j;
+    if (tables->panels < MOST) {
+        for (j = 0; j < tables->triggers; j++) {
+            tables->lag[tables->panels][j] = tables->lag[panel][j];
+        }
+        tables->floor[tables->panels] = floor;
+        tables->panels++;
+    }
+}
+
+/* A rule that asks for no more than two others do, where there are such. */
+static void add_rule(struct random *random, struct tables *tables)
+{
+    int i = below(random, tables->triggers), j = below(random, tables->triggers), k = below(random, tables->triggers);
+    int64_t there = tables->after[i][k], on = tables->after[k][j];
+    if (there != NONE && on != NONE && there + on > tables->after[i][j]) {
+        tables->after[i][j] = there + on - below(random, 2);
+    }
+}
+
+/* A change after which the same timings are tightest. */
+static void keep_timings(struct random *random, struct tables *tables)
+{
+    int panel = below(random, tables->panels);
+    int64_t by = between(random, -3, 3), lower = tables->floor[panel];
+    switch (below(random, 7)) {
+    case 0:
+        move_all(tables->floor, tables->panels, by);
+        break;
+    case 1:
+        move_all(tables->floor, tables->panels, by);
+        move_all(tables->due, tables->triggers, by);
+        break;
+    case 2:
+        move_all(tables->lag[panel], tables->triggers, by);
+        move(&tables->floor[panel], by);
+        break;
+    case 3:
+        exchange_panels(tables, panel, below(random, tables->panels));
+        break;
+    case 4:
+        move(&lower, -below(random, 2));
+        repeat_panel(tables, panel, lower);
+        break;
+    case 5:
+        repeat_panel(tables, panel, NONE);
+        break;
+    default:
+        add_rule(random, tables);
+    }
+}
+
+/* One entry moved, come or gone. */
+static void change_entry(struct random *random, struct tables *tables)
+{
+    int i = below(random, tables->panels), j = below(random, tables->triggers), k = below(random, tables->triggers);
+    int64_t *entry;
+    switch (below(random, 6)) {
+    case 0:
+    case 1:
+        entry = &tables->lag[i][j];
+        break;
+    case 2:
+        entry = &tables->floor[i];
+        break;
+    case 3:
+    case 4:
+        entry = &tables->after[j][k];
+        break;
+    default:
+        tables->due[j] += chance(random, 50) ? 1 : -1;
+        return;
+    }
+    if (*entry == NONE) {
+        *entry = between(random, -2, 2);
+    } else if (chance(random, 15)) {
+        *entry = NONE;
+    } else {
+        *entry += chance(random, 50) ? 1 : -1;
+    }
+}
+
+static void add_text(struct text *text, const char *string)
+{
+    while (*string != 0 && text->length < ROOM) {
+        text->bytes[text->length++] = (uint8_t)*string++;
+    }
+}
+
+static void write_line(struct text *text, const char *key, const int64_t *entries, int count)
+{
+    char item[32];
+    int i;
+    add_text(text, key);
+    for (i = 0; i < count; i++) {
+        snprintf(item, sizeof item, "%" PRId64, entries[i]);
+        add_text(text, i == 0 ? "" : ",");
+        add_text(text, entries[i] == NONE ? "-" : item);
+    }
+    add_text(text, "\n");
+}
+
+static void write_tables(const struct tables *tables, struct text *text)
+{
+    int64_t panels = tables->panels, triggers = tables->triggers;
+    int i;
+    text->length = 0;
+    write_line(text, "panels=", &panels, 1);
+    write_line(text, "triggers=", &triggers, 1);
+    for (i = 0; i < tables->panels; i++) {
+        write_line(text, "lag=", tables->lag[i], tables->triggers);
+    }
+    write_line(text, "floor=", tables->floor, tables->panels);
+    write_line(text, "due=", tables->due, tables->triggers);
+    for (i = 0; i < tables->triggers; i++) {
+        write_line(text, "after=", tables->after[i], tables->triggers);
+    }
+}
+
+int make_related(struct random *random, const struct tables *tables, struct text *text)
+{
+    struct tables changed = *tables;
+    int known = chance(random, 50), changes;
+    for (changes = below(random, 3) + !known; changes > 0; changes--) {
+        if (known) {
+            keep_timings(random, &changed);
+        } else {
+            change_entry(random, &changed);
+        }
+    }
+    write_tables(&changed, text);
+    return known;
+}

@@ -1,0 +1,14 @@
+/* A second sheet beside a good one, for comparing the two. */
+#ifndef RELATED_H
+#define RELATED_H
+
+#include "reader.h"
+#include "sheets.h"
+
+/*
+ * A sheet related to that of the tables, with as many triggers. Returns whether the same timings are known to be tightest on both; where it
+ * is not known they often are.
+ */
+int make_related(struct random *random, const struct tables *tables, struct text *text);
+
+#endif
