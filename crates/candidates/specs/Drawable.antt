@@ -9,7 +9,8 @@ use Rattle.maxplus.specs.Entry.{num, _⊗_, inv}
 use Rattle.maxplus.specs.Tables.{star, NoGain}
 use Rattle.sheet.specs.Sheet.{limit}
 use Rattle.sheet.specs.Sizes.{order-limit, star-size, ask-size}
-use Rattle.cue.specs.Cue.{Cue, Readable}
+use Rattle.cue.specs.Cue.{Cue}
+use Rattle.cue.specs.Vectors.{Readable}
 use Rattle.cue.specs.Method.{through, pull, least, floor-panels, kept, ask}
 use Rattle.cue.specs.Results.{Limited}
 use Rattle.tables.specs.Held.{meant, Holds, HoldsV, Closely, CloselyV}

@@ -28,7 +28,8 @@ use Rattle.maxplus.proofs.LineLaws.{ltE-cmp, ltL-cmp, strict, same?}
 use Rattle.maxplus.proofs.CombinationLaws.{under-dec, met?, asked?, combination?}
 use Rattle.maxplus.proofs.StarLaws.{gain-or, no-gain?}
 use Rattle.cue.specs.Minimal.{others, needed?, minimal}
-use Rattle.cue.specs.Cue.{Tightest, Keeps, overdue, shortfall, deviation, Readable}
+use Rattle.cue.specs.Cue.{overdue, shortfall}
+use Rattle.cue.specs.Vectors.{Tightest, Keeps, deviation, Readable}
 use Rattle.cue.specs.Method.{through, pullE, pull, leastE, least, floor-panels, serves-as-well, cut, walk, fixings, kept, kept-byte, kept-count}
 use Rattle.cue.specs.Method.{selections, steps, need, seed, ray, candidate, candidates, lines}
 use Rattle.cue.proofs.Order.{keeps?}

@@ -9,7 +9,8 @@ use Rattle.maxplus.specs.Whole.{_+z_, neg}
 use Rattle.maxplus.specs.Entry.{E, absent, num, _≼_, _⊗_, _⊕_, inv, unit, Present, val}
 use Rattle.maxplus.specs.Finite.{In}
 use Rattle.maxplus.specs.Tables.{sup, Vec, Mat, mv, idm, star, NoGain, normal}
-use Rattle.maxplus.specs.Line.{Line, at, line, Normal}
+use Rattle.maxplus.specs.Line.{Line, at, line}
+use Rattle.maxplus.specs.Normal.{Normal}
 use Rattle.maxplus.proofs.WholeLaws.{up-add, up-neg}
 use Rattle.maxplus.proofs.EntryLaws.{≼-refl, _▸_, ≼-anti, ≼-absent, ≼-of, ≼-back, ⊕-l}
 use Rattle.maxplus.proofs.EntryLaws.{⊕-r, ⊕-lub, ⊗-mono, ⊗-left, ⊗-right, ⊗-comm, ⊗-assoc}
@@ -20,7 +21,8 @@ use Rattle.maxplus.proofs.TableLaws.{mv-mm, idm-same, idm-in, mv-mono, mv-shift
 use Rattle.maxplus.proofs.LineLaws.{at-line, normal-line, normal-present}
 use Rattle.maxplus.proofs.CombinationLaws.{Under, Met, Span}
 use Rattle.maxplus.proofs.StarLaws.{star-diag}
-use Rattle.cue.specs.Cue.{Cue, Keeps, overdue, timing}
+use Rattle.cue.specs.Cue.{Cue, overdue, timing}
+use Rattle.cue.specs.Vectors.{Keeps}
 use Rattle.cue.specs.Method.{Selection, through, pull, floor-panels, ask, kept, selections, need, seed, ray, candidate, candidates}
 use Rattle.cue.proofs.Order.{keeps-star, star-keeps}
 use Rattle.cue.proofs.Deviation.{overdue-there, pull-at, pull-overdue}

@@ -12,7 +12,8 @@ use Rattle.maxplus.specs.Whole.{neg}
 use Rattle.maxplus.specs.Entry.{E, absent, num, _≼_, _⊗_, Present, val}
 use Rattle.maxplus.specs.Finite.{In}
 use Rattle.maxplus.specs.Tables.{Vec, mm, idm, power, star, NoGain}
-use Rattle.maxplus.specs.Line.{Line, at, Normal}
+use Rattle.maxplus.specs.Line.{Line, at}
+use Rattle.maxplus.specs.Normal.{Normal}
 use Rattle.maxplus.proofs.WholeLaws.{up-add}
 use Rattle.maxplus.proofs.EntryLaws.{_▸_, ≼-anti, ≼-absent, ≼-of, ≼-back, ⊗-left}
 use Rattle.maxplus.proofs.EntryLaws.{⊗-right, ⊗-assoc, ⊗-unit, ⊗-nums, present-dec, same-entry?}
@@ -21,7 +22,8 @@ use Rattle.maxplus.proofs.SupLaws.{sup-at, sup-⊗r}
 use Rattle.maxplus.proofs.TableLaws.{idm-eq}
 use Rattle.maxplus.proofs.StarLaws.{star-diag, star-step}
 use Rattle.cue.proofs.MinimalLaws.{Increasing, increasing-equal}
-use Rattle.cue.specs.Cue.{Cue, overdue, landing, timing}
+use Rattle.cue.specs.Cue.{Cue, overdue, timing}
+use Rattle.cue.specs.Vectors.{landing}
 use Rattle.cue.specs.Method.{least, ask, candidates, lines}
 use Rattle.cue.specs.Closures as closures
 use Rattle.cue.specs.Closures.{Common}

@@ -16,7 +16,8 @@ use Rattle.maxplus.proofs.EntryLaws.{≼-refl, _▸_, ≼-anti, ≼-absent, ≼
 use Rattle.maxplus.proofs.EntryLaws.{⊗-nothing, distrib, val-of, num-⊗, ⊗-left-comm, absent-not}
 use Rattle.maxplus.proofs.SupLaws.{sup-lub}
 use Rattle.maxplus.proofs.TableLaws.{mv-mono, mv-shift, mv-⊕}
-use Rattle.cue.specs.Cue.{Cue, timing, Keeps, overdue, landing, shortfall, deviation, Tightest, Readable}
+use Rattle.cue.specs.Cue.{Cue, timing, overdue, shortfall}
+use Rattle.cue.specs.Vectors.{Keeps, landing, deviation, Tightest, Readable}
 use Rattle.cue.specs.Method.{mark, least, ask}
 use Rattle.cue.proofs.Deviation.{overdue-⊕, overdue-shift, overdue-mono, mark-keeps, shortfall-at, lands, timing-overdue}
 use Rattle.cue.proofs.Deviation.{shortfall-there, at-least, reached, tightest-least}

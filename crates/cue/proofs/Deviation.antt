@@ -16,7 +16,8 @@ use Rattle.maxplus.proofs.FiniteLaws.{dec-×}
 use Rattle.maxplus.proofs.SupLaws.{sup-ub, sup-lub, sup-mono, sup-ext, sup-⊗, sup-⊗r}
 use Rattle.maxplus.proofs.TableLaws.{mv-mm, mv-ext, mv-at}
 use Rattle.maxplus.proofs.StarLaws.{star-diag, star-step, gain-or}
-use Rattle.cue.specs.Cue.{Cue, timing, Keeps, overdue, landing, shortfall, deviation, Tightest, Readable}
+use Rattle.cue.specs.Cue.{Cue, timing, overdue, shortfall}
+use Rattle.cue.specs.Vectors.{Keeps, landing, deviation, Tightest, Readable}
 use Rattle.cue.specs.Method.{through, pullE, pull, mark, leastE, least}
 use Rattle.cue.proofs.Order.{none-keeps, keeps-star, keeps-unchanged, keeps?}
 

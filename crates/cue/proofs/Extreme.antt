@@ -9,13 +9,15 @@ use Rattle.maxplus.specs.Whole.{_+z_, neg}
 use Rattle.maxplus.specs.Entry.{E, absent, num, _≼_, _⊗_, inv, Present}
 use Rattle.maxplus.specs.Finite.{In}
 use Rattle.maxplus.specs.Tables.{Vec, NoGain}
-use Rattle.maxplus.specs.Line.{Line, at, Normal}
+use Rattle.maxplus.specs.Line.{Line, at}
+use Rattle.maxplus.specs.Normal.{Normal}
 use Rattle.maxplus.specs.Combination.{Combination}
 use Rattle.maxplus.proofs.WholeLaws.{up-add, up-neg}
 use Rattle.maxplus.proofs.EntryLaws.{_▸_, ≼-anti, ≼-absent, ≼-back, ⊗-left, ⊗-right, absent-not, cancel-r}
 use Rattle.maxplus.proofs.CombinationLaws.{weight-fits, weight-meets, Under, under-anti, Span, span-combination}
 use Rattle.cue.proofs.MinimalLaws.{Needed, in-minimal, Increasing, minimal-increasing, needed-alone, alone-needed, needed-meet}
-use Rattle.cue.specs.Cue.{Cue, timing, Readable}
+use Rattle.cue.specs.Cue.{Cue, timing}
+use Rattle.cue.specs.Vectors.{Readable}
 use Rattle.cue.specs.Method.{mark, least, candidates, lines}
 use Rattle.cue.proofs.Cone.{Cone, cone-⊗, cone-ext, cone-combination, mark-cone}
 use Rattle.cue.proofs.Candidates.{candidates-normal, candidates-cone, cone-span}

@@ -16,7 +16,7 @@ use Rattle.cue.specs.Minimal.{minimal, needed?}
 use Rattle.cue.specs.Cue.{Cue}
 use Rattle.cue.specs.Method.{least, steps, selections, candidate, candidates, lines, floor-panels}
 use Rattle.cue.proofs.Walk.{selections-bound, steps-bound, floor-panels-few}
-use Rattle.cue.specs.Sizes.{size-limit, geometric}
+use Rattle.cue.specs.Sizes.{size-limit, geometric, most-lines}
 
 each-few : {A : Type 0} (n : ℕ) (f : ℕ → List A) → ((k : ℕ) → length (f k) ≤ 46656) → length (each n f) ≤ n * 46656
 unfolding each
@@ -33,9 +33,6 @@ geometric-more : (n f g : ℕ) → f ≤ g → geometric n f ≤ geometric n g
 unfolding geometric
 geometric-more n f g = le-ind (λ g. geometric n f ≤ geometric n g) (omega arith) (λ g h p. omega arith) g
 
-abbrev pub most : ℕ
-most = 279936
-
 module _ (n : ℕ) (P : Cue) (hn : n ≤ size-limit) (hm : P .panels ≤ size-limit) where
   pub selections-few : length (selections n P (least n P)) ≤ 46656
   selections-few =
@@ -49,7 +46,7 @@ module _ (n : ℕ) (P : Cue) (hn : n ≤ size-limit) (hm : P .panels ≤ size-li
       (le-trans (geometric-mono n 6 (length (floor-panels n P)) hn)
       (le-trans (geometric-more 6 (length (floor-panels n P)) 6 (le-trans (floor-panels-few n P) hm)) (unfold geometric in omega arith)))
 
-  pub lines-few : length (lines n P) ≤ most
+  pub lines-few : length (lines n P) ≤ most-lines
   unfolding lines minimal candidates
   lines-few = omega (
     arith,

@@ -10,13 +10,15 @@ use lib.IntN.{ℤ, pos}
 use Rattle.maxplus.specs.Whole.{neg}
 use Rattle.maxplus.specs.Entry.{E, absent, num, _≼_, leqE, _⊗_, _⊕_, Present, val, inv}
 use Rattle.maxplus.specs.Tables.{sup, Vec, mv}
-use Rattle.maxplus.specs.Line.{Line, at, Normal}
+use Rattle.maxplus.specs.Line.{Line, at}
+use Rattle.maxplus.specs.Normal.{Normal}
 use Rattle.maxplus.proofs.EntryLaws.{≼-refl, _▸_, ≼-anti, ≼-absent, ≼-of, ≼-back, ⊕-l, ⊕-r, ⊕-lub, ⊗-left, ⊗-right, ⊗-comm, ⊗-assoc}
 use Rattle.maxplus.proofs.EntryLaws.{⊗-absent, ⊗-nothing, val-of, num-⊗, ≼-dec, leqE-yes, leqE-of, present-dec, absent-of, same-entry?}
 use Rattle.maxplus.proofs.EntryLaws.{minus-one, equal-or-less, not-less, less-below}
 use Rattle.maxplus.proofs.FiniteLaws.{all-or, all-dec, dec-→}
 use Rattle.maxplus.proofs.SupLaws.{sup-ub, sup-lub, sup-at, sup-ext}
-use Rattle.cue.specs.Cue.{Cue, Keeps, overdue, landing, timing}
+use Rattle.cue.specs.Cue.{Cue, overdue, timing}
+use Rattle.cue.specs.Vectors.{Keeps, landing}
 use Rattle.cue.specs.Method.{ask}
 use Rattle.cue.proofs.Order.{keeps-rule}
 use Rattle.cue.proofs.Deviation.{overdue-mono, overdue-there}

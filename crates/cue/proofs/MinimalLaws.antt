@@ -7,7 +7,8 @@ use Prim.Native.Nat.{ℕ, _<_}
 use Rattle.maxplus.specs.Entry.{Present}
 use Rattle.maxplus.specs.Finite.{In}
 use Rattle.maxplus.specs.Tables.{Vec}
-use Rattle.maxplus.specs.Line.{Line, at, ltL, Normal}
+use Rattle.maxplus.specs.Line.{Line, at, ltL}
+use Rattle.maxplus.specs.Normal.{Normal}
 use Rattle.maxplus.specs.Sorted.{Sorted}
 use Rattle.maxplus.specs.Combination.{Combination}
 use Rattle.maxplus.proofs.EntryLaws.{present-dec}

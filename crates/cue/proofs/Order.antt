@@ -10,7 +10,7 @@ use Rattle.maxplus.proofs.FiniteLaws.{all-dec}
 use Rattle.maxplus.proofs.SupLaws.{sup-ub, sup-lub, sup-⊗, sup-⊗r}
 use Rattle.maxplus.proofs.TableLaws.{idm-in}
 use Rattle.maxplus.proofs.StarLaws.{star-diag, step-star}
-use Rattle.cue.specs.Cue.{Keeps}
+use Rattle.cue.specs.Vectors.{Keeps}
 
 module _ (n : ℕ) (B : Mat) where
   pub keeps-rule : (x : Vec) → Keeps n B x → (i j : ℕ) → i < n → j < n → B i j ⊗ x j ≼ x i

@@ -10,13 +10,15 @@ use Rattle.maxplus.specs.Whole.{neg}
 use Rattle.maxplus.specs.Entry.{E, absent, num, _≼_, _⊗_, Present, val}
 use Rattle.maxplus.specs.Finite.{In}
 use Rattle.maxplus.specs.Tables.{sup, supL, NoGain}
-use Rattle.maxplus.specs.Line.{Line, at, Normal}
+use Rattle.maxplus.specs.Line.{Line, at}
+use Rattle.maxplus.specs.Normal.{Normal}
 use Rattle.maxplus.specs.Combination.{Weighed}
 use Rattle.maxplus.proofs.WholeLaws.{up-add, up-neg}
 use Rattle.maxplus.proofs.EntryLaws.{_▸_, ≼-anti, ≼-absent, ≼-of, ≼-back, ⊗-unit, val-of}
 use Rattle.maxplus.proofs.SupLaws.{sup-ub, sup-lub, supL-ub, supL-lub}
 use Rattle.maxplus.proofs.CombinationLaws.{Span}
-use Rattle.cue.specs.Cue.{Cue, timing, Tightest, Readable}
+use Rattle.cue.specs.Cue.{Cue, timing}
+use Rattle.cue.specs.Vectors.{Tightest, Readable}
 use Rattle.cue.specs.Method.{lines}
 use Rattle.cue.proofs.Cone.{tightest-cone}
 use Rattle.cue.proofs.Extreme.{lines-normal, lines-meet, cone-combination-of-lines}

@@ -16,6 +16,10 @@ unfoldable pub geometric : ℕ → ℕ → ℕ
 geometric n zero = 0
 geometric n (suc f) = geometric n f + n ^ suc f
 
+-- 6 · 6⁶: there are no more lines
+abbrev pub most-lines : ℕ
+most-lines = 279936
+
 module _ (L B : ℕ) where
   -- a power of the order table; M*; d
   abbrev pub power-size : ℕ → ℕ

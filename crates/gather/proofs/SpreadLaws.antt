@@ -13,7 +13,8 @@ use lib.Seq.{getD-set-same, getD-set-other, getD-take, length-take-le, take-suc}
 use Rattle.maxplus.specs.Entry.{_≼_, _⊗_, _⊕_, inv, unit, Present}
 use Rattle.maxplus.specs.Finite.{In, mapL}
 use Rattle.maxplus.specs.Tables.{Vec}
-use Rattle.maxplus.specs.Line.{Line, at, Normal}
+use Rattle.maxplus.specs.Line.{Line, at}
+use Rattle.maxplus.specs.Normal.{Normal}
 use Rattle.maxplus.specs.Sorted.{sift}
 use Rattle.maxplus.proofs.EntryLaws.{_▸_, ≼-absent, ≼-of, ≼-back, ⊕-l, ⊕-r, ⊕-lub, ⊗-comm, ⊗-nothing, distrib}
 use Rattle.maxplus.proofs.FiniteLaws.{in-app, in-left, in-right, in-at, in-place}

@@ -10,7 +10,8 @@ use lib.Seq.{split-at, take-all, getD-take}
 use Rattle.maxplus.specs.Entry.{E, absent, num, Present}
 use Rattle.maxplus.specs.Finite.{In}
 use Rattle.maxplus.specs.Tables.{Vec}
-use Rattle.maxplus.specs.Line.{Line, at, line, ltL, Normal}
+use Rattle.maxplus.specs.Line.{Line, at, line, ltL}
+use Rattle.maxplus.specs.Normal.{Normal}
 use Rattle.maxplus.specs.Sorted.{Strict, Sorted}
 use Rattle.maxplus.proofs.FiniteLaws.{in-app, in-right, in-map}
 use Rattle.maxplus.proofs.LineLaws.{strict}
@@ -26,7 +27,7 @@ use Rattle.sheet.specs.Sheet.{limit}
 use Rattle.sheet.specs.Sizes.{order-limit, line-down}
 use Rattle.tables.specs.Held.{meantV, CloselyV}
 use Rattle.cue.proofs.Few as few
-use Rattle.cue.proofs.Few.{most}
+use Rattle.cue.specs.Sizes.{most-lines}
 use Rattle.tables.specs.Lines.{line-of, Sized}
 use Rattle.candidates.specs.Drawable.{Drawable}
 use Rattle.candidates.specs.declared.Marks.{Marks}
@@ -110,7 +111,7 @@ module _ {n len : ℕ} {P : Cue} {last : List ℕ} {buf : List (List ℕ)} (few 
           (split-at left 127 (line-of n last) (omega (arith, filled-few)))) ∙ ap (rest n P) e
 
 pub lines-few : {P : Cue} {M : Marks} {stars lags needs : List (List ℕ)} → Drawable (M .triggers) P M stars lags needs →
-    length (lines (M .triggers) P) ≤ most
+    length (lines (M .triggers) P) ≤ most-lines
 lines-few {P} {M} g = few.lines-few (M .triggers) P (g .few) (g .few-panels)
 
 -- ---- the words of lines that are held fit

@@ -22,7 +22,7 @@ use Rattle.lines.specs.declared.Listed.the-variants.{Lines}
 use Rattle.buffer.proofs.SpaceLaws.{laid-none, laid-more, list-words-more}
 use Rattle.buffer.proofs.HeldLaws.{held-length, row-sized}
 use Rattle.lines.proofs.ListingLaws.{above-blank, filled-few, filled-all, filled-full, lines-few}
-use Rattle.cue.proofs.Few.{most}
+use Rattle.cue.specs.Sizes.{most-lines}
 
 -- words at the front
 laid-front : (before : List ℤ) (n : ℕ) (L : List (Line n)) → laid before 0 (list-words n L) ≡ list-words n L ++ drop (line-size * length L) before
@@ -94,7 +94,7 @@ module _ {M : Marks} {stars lags needs : List (List ℕ)} where
       next-sized h = row-sized (g .few) (s P g .stored) 127 (omega arith)
 
     module _ {count : ℕ} (k : Counted M stars lags needs last count) where
-      pub counted-few : {P : Cue} → Drawable (M .triggers) P M stars lags needs → count + len ≤ most
+      pub counted-few : {P : Cue} → Drawable (M .triggers) P M stars lags needs → count + len ≤ most-lines
       counted-few {P} g = omega (arith, k .counted P g, few-held g, lines-few g)
 
       pub counted-end : len < room → (P : Cue) → Drawable (M .triggers) P M stars lags needs → count + len ≡ length (lines (M .triggers) P)

@@ -9,7 +9,8 @@ use Rattle.maxplus.specs.Whole.{_+z_, neg}
 use Rattle.maxplus.specs.Entry.{E, absent, num, _≼_, _⊗_, inv, unit, Present, val}
 use Rattle.maxplus.specs.Finite.{In}
 use Rattle.maxplus.specs.Tables.{sup, supL, Vec}
-use Rattle.maxplus.specs.Line.{Line, at, Normal}
+use Rattle.maxplus.specs.Line.{Line, at}
+use Rattle.maxplus.specs.Normal.{Normal}
 use Rattle.maxplus.specs.Combination.{Combination}
 use Rattle.maxplus.proofs.WholeLaws.{z-eq, up-add, up-neg}
 use Rattle.maxplus.proofs.EntryLaws.{≼-refl, _▸_, ≼-anti, ≼-absent, ≼-of, ≼-back, ⊗-left, ⊗-right, ⊗-comm, ⊗-assoc, ⊗-nothing}

@@ -7,7 +7,8 @@ use lib.IntN.{ℤ}
 use Rattle.maxplus.specs.Whole.{_≤z_, _+z_, neg}
 use Rattle.maxplus.specs.Entry.{E, absent, num, _≼_, _⊗_, inv, Present, val}
 use Rattle.maxplus.specs.Tables.{sup, Vec, normal}
-use Rattle.maxplus.specs.Line.{Line, at, line, ltE, ltL, Normal}
+use Rattle.maxplus.specs.Line.{Line, at, line, ltE, ltL}
+use Rattle.maxplus.specs.Normal.{Normal}
 use Rattle.maxplus.specs.Sorted.{Cmp, less, same, more, Strict}
 use Rattle.maxplus.proofs.WholeLaws.{z-anti, z-dec, z-not}
 use Rattle.maxplus.proofs.EntryLaws.{_▸_, ≼-anti, ≼-of, ≼-back, ⊗-right, val-of, num-⊗, inv-num, present-of, inv-self}

@@ -4,6 +4,7 @@ pub mod Entry
 pub mod Finite
 pub mod Tables
 pub mod Line
+pub mod Normal
 pub mod Sorted
 pub mod Above
 pub mod Combination

@@ -1,9 +1,9 @@
 -- A line of n triggers: n entries as data, "sorted by component 1, then 2 and so on, absent lowest".
 use mathlib.Core.Path.{_≡_}
 use mathlib.Core.Logic.{_⊎_}
-use Prim.Native.Nat.{ℕ, zero, suc, _<_}
+use Prim.Native.Nat.{ℕ, zero, suc}
 use Rattle.maxplus.specs.Whole.{_<z_}
-use Rattle.maxplus.specs.Entry.{E, absent, num, _≼_, unit}
+use Rattle.maxplus.specs.Entry.{E, absent, num}
 use Rattle.maxplus.specs.Tables.{Vec}
 
 abbrev pub Line : ℕ → Type 0
@@ -28,10 +28,3 @@ ltE (num a) (num b) = a <z b
 abbrev pub ltL : (n : ℕ) → Line n → Line n → Type 0
 ltL zero c d = ⊥
 ltL (suc n) c d = ltE (c .0) (d .0) ⊎ ((c .0 ≡ d .0) × ltL n (c .1) (d .1))
-
--- "the greatest component is 0"
-pub record Normal (n : ℕ) (c : Line n) : Type 0 where
-  pub top : ℕ
-  pub here : top < n
-  pub zero-there : at n c top ≡ unit
-  pub low : (i : ℕ) → i < n → at n c i ≼ unit

@@ -14,7 +14,8 @@ use Rattle.planning.specs.declared.CuePlan.{CuePlan}
 use Rattle.comparing.specs.Comparing.{Comparison, answer, unlike, first-refused, second-refused, compare-answer, compares, comparing}
 use Rattle.comparing.specs.declared.Compared.{Compared}
 use Rattle.planner_c.specs.Words.{compare-number, needed-words, compare-words}
-use Rattle.planner_c.specs.Inner.{most-lines, Counted}
+use Rattle.cue.specs.Sizes.{most-lines}
+use Rattle.planner_c.specs.Inner.{Counted}
 use Rattle.planner_c.proofs.Few.{count-few}
 
 -- ---- the counts

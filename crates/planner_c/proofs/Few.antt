@@ -10,7 +10,8 @@ use lib.ListN.{length}
 use Rattle.maxplus.specs.Line.{Line}
 use Rattle.maxplus.proofs.EachLaws.{length-each}
 use Rattle.cue.specs.Method.{least, lines, kept-byte, kept-count}
-use Rattle.cue.proofs.Few.{most, lines-few}
+use Rattle.cue.specs.Sizes.{most-lines}
+use Rattle.cue.proofs.Few.{lines-few}
 use Rattle.sheet.specs.Sheet.{Got, got, Sheet, read}
 use Rattle.sheet.specs.Sheet as sheet
 use Rattle.sheet.specs.Cue.{cue-of, Orderly, orderly?}
@@ -40,16 +41,16 @@ module _ (s : List ℕ) where
       go (sheet.refused k) e = tt
       go (got t r) e = let G = read-good s t r e in ask t r (G .triggers-few, G .panels-few) (orderly? t)
 
-  pub count-few : (space : List ℤ) → plan-answer (planning s space) .count ≤ most
+  pub count-few : (space : List ℤ) → plan-answer (planning s space) .count ≤ most-lines
   unfolding planning
   count-few space = go (ordered s) sized
     where
-      either : (n : ℕ) (D : ℤ) (k l : ℕ) (L : List (Line n)) (b : Bool) → length L ≤ most →
-          plan-answer (cond b (planned n D k l L) (full (length L))) .count ≤ most
+      either : (n : ℕ) (D : ℤ) (k l : ℕ) (L : List (Line n)) (b : Bool) → length L ≤ most-lines →
+          plan-answer (cond b (planned n D k l L) (full (length L))) .count ≤ most-lines
       either n D k l L true h = h
       either n D k l L false h = h
 
-      go : (g : Got Sheet) → Sized g → plan-answer (plan-of (length space / line-size) g) .count ≤ most
+      go : (g : Got Sheet) → Sized g → plan-answer (plan-of (length space / line-size) g) .count ≤ most-lines
       go (sheet.refused k) z = omega arith
       go (got t r) (hn, hm) = either _ _ _ _ (lines (t .triggers) (cue-of t)) (leb (length (lines (t .triggers) (cue-of t))) (length space / line-size))
           (lines-few (t .triggers) (cue-of t) hn hm)

@@ -8,7 +8,7 @@ ghost use lib.Seq.{sets};
 ghost use Rattle.maxplus.specs.Finite.{each};
 ghost use Rattle.timing.specs.Times.{component};
 ghost use Rattle.planner_c.specs.Words.{pairs, plan-words, kept-words};
-ghost use Rattle.planner_c.specs.Inner.{most-lines};
+ghost use Rattle.cue.specs.Sizes.{most-lines};
 ghost use Rattle.cue.specs.Sizes.{size-limit};
 use keeping::KeptTable;
 use planning::CuePlan;

@@ -7,7 +7,8 @@ use lib.ListN.{length, getD}
 use Rattle.maxplus.specs.Entry.{num}
 use Rattle.maxplus.specs.Tables.{star, NoGain}
 use Rattle.cue.specs.Cue as theory
-use Rattle.cue.specs.Cue.{timing, Readable}
+use Rattle.cue.specs.Cue.{timing}
+use Rattle.cue.specs.Vectors.{Readable}
 use Rattle.cue.specs.Method.{through, least, kept-byte, floor-panels}
 use Rattle.cue.specs.Results.{Limited}
 use Rattle.words.specs.Words.{entry, Near}

@@ -7,9 +7,10 @@ use lib.ListN.{length}
 use Rattle.maxplus.specs.Entry.{num, _≼_}
 use Rattle.maxplus.specs.Tables.{NoGain}
 use Rattle.maxplus.specs.Combination.{Weighed}
-use Rattle.cue.specs.Cue.{Cue, Readable}
+use Rattle.cue.specs.Cue.{Cue}
+use Rattle.cue.specs.Vectors.{Readable}
 use Rattle.cue.specs.Method.{least, lines}
-use Rattle.cue.specs.Cue as cue
+use Rattle.cue.specs.Vectors as cue
 use Rattle.cue.specs.Written.{list-words}
 use Rattle.cue.proofs.Bounds.{results-32}
 use Rattle.cue.specs.Results.{Fitting}

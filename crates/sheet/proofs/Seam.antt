@@ -5,20 +5,21 @@ use mathlib.Core.Logic.{_↔_}
 use Rattle.maxplus.specs.Entry.{inv}
 use Rattle.cue.specs.Cue.{timing}
 use Rattle.cue.specs.Cue as cue
+use Rattle.cue.specs.Vectors as vectors
 use Rattle.sheet.specs.Sheet.{Sheet}
 use Rattle.sheet.specs.Meaning.{Timing, landing, Keeps, overdue, shortfall, deviation, Tightest}
 use Rattle.sheet.specs.Cue.{cue-size, cue-of}
 
 module _ (t : Sheet) where
-  pub keeps-cue : (X : Timing) → Keeps t X ↔ cue.Keeps (cue-size t) (cue-of t .order) (timing X)
-  unfolding Keeps cue.Keeps
+  pub keeps-cue : (X : Timing) → Keeps t X ↔ vectors.Keeps (cue-size t) (cue-of t .order) (timing X)
+  unfolding Keeps vectors.Keeps
   keeps-cue X = (λ k. k, λ k. k)
 
-  pub deviation-cue : (X : Timing) → deviation t X ≡ cue.deviation (cue-size t) (cue-of t) (timing X)
-  unfolding deviation overdue shortfall landing cue.deviation cue.overdue cue.shortfall inv
+  pub deviation-cue : (X : Timing) → deviation t X ≡ vectors.deviation (cue-size t) (cue-of t) (timing X)
+  unfolding deviation overdue shortfall landing vectors.deviation cue.overdue cue.shortfall inv
   deviation-cue X = refl
 
-  pub tightest-cue : (X : Timing) → Tightest t X ↔ cue.Tightest (cue-size t) (cue-of t) X
+  pub tightest-cue : (X : Timing) → Tightest t X ↔ vectors.Tightest (cue-size t) (cue-of t) X
   tightest-cue X = (
     λ h. record {
       keeps = keeps-cue X .0 (h .keeps);

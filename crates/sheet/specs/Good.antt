@@ -7,7 +7,7 @@ use Prim.Native.Nat.{ℕ, _≤_}
 use lib.ListN.{length}
 use Rattle.maxplus.specs.Entry.{E}
 use Rattle.maxplus.specs.Finite.{In}
-use Rattle.cue.specs.Cue.{Readable}
+use Rattle.cue.specs.Vectors.{Readable}
 use Rattle.cue.specs.Results.{Limited}
 use Rattle.sheet.specs.Sheet.{Rule, size, entry, mark, limit, absent?, no-size, out-of-range, any, Sheet}
 use Rattle.sheet.specs.Sizes.{order-limit}

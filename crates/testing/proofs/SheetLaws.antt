@@ -6,6 +6,7 @@ use Prim.Native.Nat.{ℕ}
 use Rattle.maxplus.specs.Entry.{num}
 use Rattle.maxplus.specs.Tables.{NoGain}
 use Rattle.cue.specs.Cue as theory
+use Rattle.cue.specs.Vectors as vectors
 use Rattle.cue.specs.Method.{least}
 use Rattle.words.specs.Words.{entry}
 use Rattle.timing.specs.Deviation.{SheetClose}
@@ -44,7 +45,7 @@ module _ {P : theory.Cue} {orders lags : List (List ℕ)} {c : CueWords} (H : Ho
       }
 
 -- tightest on the cue is tightest on the sheet
-over-seam : (t : Sheet) (X : Timing) (v : Bool) → Says (theory.Tightest (cue-size t) (cue-of t) X) v → Says (Tightest t X) v
+over-seam : (t : Sheet) (X : Timing) (v : Bool) → Says (vectors.Tightest (cue-size t) (cue-of t) X) v → Says (Tightest t X) v
 over-seam t X true h = tightest-cue t X .1 h
 over-seam t X false h = λ g. h (tightest-cue t X .0 g)
 
@@ -55,7 +56,7 @@ module _ {s : Sheet} {orders lags stars gains needs : List (List ℕ)} {r : Prep
 
   pub tested-says : (X : Timing) (v : Bool) →
       TestSays (r .cue .panels) (r .cue .triggers) orders lags (r .cue .floor) (r .cue .due) (r .marked .least) X v → Says (Tightest s X) v
-  tested-says X v T = over-seam s X v (subst (λ n. Says (theory.Tightest n (cue-of s) X) v) (M .sized)
+  tested-says X v T = over-seam s X v (subst (λ n. Says (vectors.Tightest n (cue-of s) X) v) (M .sized)
       (T .tightest (cue-of s)
       (sheet-words (M .held) (r .marked .least) (M .marked .deviation ∙ ap (λ n. num (least n (cue-of s))) (sym (M .sized))))
       (M .held .readable)

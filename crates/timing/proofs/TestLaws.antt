@@ -12,7 +12,8 @@ use Rattle.maxplus.proofs.SupLaws.{sup-ext}
 use Rattle.words.specs.Words.{entry}
 use Rattle.words.specs.declared.LineWords.{LineWords}
 use Rattle.words.proofs.Laws.{entry-inj}
-use Rattle.cue.specs.Cue.{Cue, timing, Keeps, overdue, shortfall, deviation, Tightest, Readable}
+use Rattle.cue.specs.Cue.{Cue, timing, overdue, shortfall}
+use Rattle.cue.specs.Vectors.{Keeps, deviation, Tightest, Readable}
 use Rattle.cue.proofs.Demands.{tightest-test}
 use Rattle.tables.specs.Held.{meant, meantV, Says}
 use Rattle.timing.specs.Times.{TimingWords}

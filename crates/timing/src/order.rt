@@ -1,6 +1,6 @@
 // "A timing keeps the order when it keeps every after rule."
 ghost use Prim.Native.Nat.{_≤_};
-ghost use Rattle.cue.specs.Cue.{Keeps};
+ghost use Rattle.cue.specs.Vectors.{Keeps};
 ghost use Rattle.sheet.specs.Sizes.{order-limit};
 ghost use Rattle.tables.specs.Held.{meant, meantV, Closely, CloselyV, Says};
 ghost use Rattle.sheet.specs.Times.{far-limit};

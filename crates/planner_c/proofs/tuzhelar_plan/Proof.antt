@@ -3,7 +3,7 @@ use mathlib.Core.Path.{ap, sym, subst, _∙_}
 use Prim.Native.Nat.{_≤_}
 use Rattle.planning.specs.declared.CuePlan.{CuePlan}
 use Rattle.planner_c.specs.Words.{plan-words}
-use Rattle.planner_c.specs.Inner.{most-lines}
+use Rattle.cue.specs.Sizes.{most-lines}
 use Rattle.planner_c.proofs.Few.{count-few}
 use borrow.Author.Needs.{needs}
 use Rattle.planner_c.proofs.tuzhelar_plan.Statement.{statement}

@@ -4,7 +4,7 @@ use Prim.Native.Nat.{_-_}
 use native.Mathlib.Omega.{arith}
 use lib.ListN.{length}
 use Rattle.buffer.specs.Buffer.{room}
-use Rattle.cue.proofs.Few.{most}
+use Rattle.cue.specs.Sizes.{most-lines}
 use Rattle.lines.proofs.TurnLaws.{Counted, counted-start, counted-few, counted-end, counted-more}
 use Rattle.lines.proofs.count.count_lines.Statement.{statement}
 use Rattle.lines.proofs.count.count_lines.Tie as tie
@@ -13,7 +13,7 @@ abbrev Inv-loop : tie.InvT-loop
 Inv-loop marks star lag needs buf₀ last₀ count₀ buf last count = (length buf ≡ room) × Counted marks star lag needs (last .at) count
 
 abbrev μ-loop : tie.MeasureT-loop
-μ-loop marks star lag needs buf₀ last₀ count₀ buf last count = most - count
+μ-loop marks star lag needs buf₀ last₀ count₀ buf last count = most-lines - count
 
 loop-holds : tie.Need-loop-holds Inv-loop μ-loop
 loop-holds c = (refl, counted-start)

@@ -4,7 +4,7 @@ use native.Mathlib.Omega.{arith}
 use borrow.Author.Count.{below-none, below-more}
 use Rattle.maxplus.specs.Entry.{_≼_, _⊗_}
 use Rattle.words.proofs.Laws.{within-word, beyond-word, close-more}
-use Rattle.cue.specs.Cue.{Keeps}
+use Rattle.cue.specs.Vectors.{Keeps}
 use Rattle.tables.specs.Held.{meant, meantV}
 use Rattle.timing.proofs.order.keeps.Statement.{statement}
 use Rattle.timing.proofs.order.keeps.Tie as tie
