@@ -3,15 +3,14 @@ use mathlib.Core.Path.{_≡_, refl, sym, _∙_}
 use mathlib.Core.List.{List}
 use Prim.Native.Nat.{ℕ, _+_, _≤_, _<_}
 use native.Mathlib.Omega.{arith}
-use native.Mathlib.Decide.{ℕ-discrete}
-use lib.ListN.{getD, set, replicate, length-set}
-use lib.Seq.{getD-set-same, getD-set-other}
+use lib.ListN.{set, replicate, length-set}
+use lib.Seq.{getD-set-other}
 use Rattle.maxplus.specs.Tables.{Vec}
 use Rattle.maxplus.specs.Line.{at, line}
 use Rattle.maxplus.proofs.LineLaws.{line-ext, at-line}
 use Rattle.words.specs.Words.{entry, Close}
 use Rattle.tables.specs.Held.{meantV, HoldsV}
-use Rattle.tables.proofs.Loops.{blank-word}
+use Rattle.tables.proofs.Loops.{blank-word, Filled, filled-more}
 use Rattle.tables.specs.Lines.{line-of, Sized, WordsOf, Carries}
 
 -- ---- written place by place
@@ -37,18 +36,14 @@ written-none c x = record {
 pub written-more : {c : ℕ} {x : Vec} {i : ℕ} {w : List ℕ} (v : ℕ) → i < 6 → WordsOf i c x w → entry v ≡ x i → Close c v →
     WordsOf (i + 1) c x (set w i v)
 unfolding meantV
-written-more {i = i} {w} v h r e k = record {
+written-more {c} {x} {i} {w} v h r e k = record {
   sized = sized-set w i v (omega arith) (record { size = r .sized .size; past = λ j k. r .sized .past j (omega arith) });
-  is = record {
-    at = λ j k. elim (ℕ-discrete j i) [ yes q ↦ rw (q, here) e | no q ↦ rw (getD-set-other w i j v 0 q) (r .is .at j (omega arith)) ];
-  };
-  close = record {
-    at = λ j l. elim (ℕ-discrete j i) [ yes q ↦ rw (q, here) k | no q ↦ rw (getD-set-other w i j v 0 q) (r .close .at j (omega arith)) ];
-  };
+  is = record { at = λ j l. all .done j l .0 };
+  close = record { at = λ j l. all .done j l .1 };
 }
   where
-    here : getD (set w i v) i 0 ≡ v
-    here = getD-set-same w i v 0 (rw (r .sized .size) h)
+    all : Filled (λ j v. (entry v ≡ x j) × Close c v) 0 (set w i v) (i + 1)
+    all = filled-more _ 0 w i v h (record { size = r .sized .size; done = λ j l. (unfold meantV in r .is .at j l, r .close .at j l) }) (e, k)
 
 -- all n are written
 pub written-all : {x : Vec} {i n c : ℕ} {w : List ℕ} → i ≤ n → n ≤ i → WordsOf i c x w → Carries n c x (record { count = n; at = w })
