@@ -9,7 +9,7 @@ use lib.ListN.{length, List·getD-eq-default}
 use Rattle.maxplus.specs.Finite.{each}
 use Rattle.maxplus.proofs.EachLaws.{length-each, each-at}
 use Rattle.maxplus.proofs.FiniteLaws.{unequal}
-use Rattle.cue.specs.Sizes.{size-limit}
+use Rattle.cue.specs.Sizes.{size-limit, six}
 use Rattle.sheet.specs.Meaning.{Timing}
 use Rattle.sheet.specs.Sheet.{Got, got, Sheet, read}
 use Rattle.sheet.specs.Sheet as sheet
@@ -18,23 +18,20 @@ use Rattle.timing.specs.Times.{component}
 use Rattle.testing.specs.Testing.{testing}
 use Rattle.testing.proofs.TestLaws.{testing-refused, testing-10}
 
-abbrev six : List ℤ → List ℤ
-six lent = each 6 (λ j. component lent j ∷ [])
-
 pub six-listed : (lent : List ℤ) {a b c d e f : ℤ} → a ≡ component lent 0 → b ≡ component lent 1 → c ≡ component lent 2 →
-    d ≡ component lent 3 → e ≡ component lent 4 → f ≡ component lent 5 → a ∷ b ∷ c ∷ d ∷ e ∷ f ∷ [] ≡ six lent
+    d ≡ component lent 3 → e ≡ component lent 4 → f ≡ component lent 5 → a ∷ b ∷ c ∷ d ∷ e ∷ f ∷ [] ≡ six (component lent)
 unfolding each
 six-listed lent ea eb ec ed ee ef = rw (ea, eb, ec, ed, ee, ef) refl
 
 -- the components of at most six times are these times
-six-same : (lent : List ℤ) → length lent ≤ size-limit → component (six lent) ≡ component lent
+six-same : (lent : List ℤ) → length lent ≤ size-limit → component (six (component lent)) ≡ component lent
 six-same lent h = fun-ext at
   where
-    at : (j : ℕ) → component (six lent) j ≡ component lent j
+    at : (j : ℕ) → component (six (component lent)) j ≡ component lent j
     at j = elim (decLt j 6) [
       | yes q ↦ each-at 6 j (component lent) (pos 0) q
       | no q ↦
-          List·getD-eq-default (six lent) (pos 0) {n = j} (omega (arith, length-each 6 (component lent))) ∙
+          List·getD-eq-default (six (component lent)) (pos 0) {n = j} (omega (arith, length-each 6 (component lent))) ∙
           sym (List·getD-eq-default lent (pos 0) {n = j} (omega arith))
     ]
 
@@ -51,7 +48,7 @@ module _ (s : List ℕ) where
           sym (testing-10 s count X t r e f) ∙ testing-10 s count Y t r e f
 
   -- what the six components are answered is what the times are
-  pub tested : (lent at : List ℤ) → (length lent ≤ size-limit → at ≡ six lent) →
+  pub tested : (lent at : List ℤ) → (length lent ≤ size-limit → at ≡ six (component lent)) →
       testing s (length lent) (component at) ≡ testing s (length lent) (component lent)
   tested lent at e = elim (decLt size-limit (length lent)) [
     | yes q ↦ many (length lent) _ _ q

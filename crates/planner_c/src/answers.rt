@@ -1,15 +1,12 @@
 // Answers as words at the front of those lent.
 ghost use mathlib.Core.Path.{_≡_};
-ghost use mathlib.Core.List.{[], _∷_};
 ghost use Prim.Native.Nat.{_≤_};
 ghost use lib.IntN.{pos};
 ghost use lib.ListN.{length, set};
 ghost use lib.Seq.{sets};
-ghost use Rattle.maxplus.specs.Finite.{each};
 ghost use Rattle.timing.specs.Times.{component};
 ghost use Rattle.planner_c.specs.Words.{pairs, plan-words, kept-words};
-ghost use Rattle.cue.specs.Sizes.{most-lines};
-ghost use Rattle.cue.specs.Sizes.{size-limit};
+ghost use Rattle.cue.specs.Sizes.{size-limit, six, most-lines};
 use keeping::KeptTable;
 use planning::CuePlan;
 
@@ -93,7 +90,7 @@ fn time(lent: &[i64], j: usize) -> i64
 
 // A timing's six components. More than six are no sheet's, so that they are not read.
 pub fn six_times(lent: &[i64]) -> [i64; 6]
-    ensures { λ r. ⌜ (length (now (lent .entry)) ≤ size-limit → r ≡ each 6 (λ j. component (now (lent .entry)) j ∷ [])) ⌝ }
+    ensures { λ r. ⌜ (length (now (lent .entry)) ≤ size-limit → r ≡ six (component (now (lent .entry)))) ⌝ }
 {
     if lent.len() > 6 {
         return [0; 6];

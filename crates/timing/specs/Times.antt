@@ -8,7 +8,7 @@ use Rattle.sheet.specs.Times.{far-limit}
 use Rattle.words.specs.declared.LineWords.{LineWords}
 use Rattle.tables.specs.Lines.{Carries}
 
--- x(j + 1) of the six words
+-- x(j + 1) of a timing's words
 abbrev pub component : List ℤ → ℕ → ℤ
 component at j = getD at j (pos 0)
 

@@ -1,11 +1,10 @@
 -- `planner_c::tuzhelar_test` meets its contract. Assumes nothing.
 use mathlib.Core.Path.{_≡_, refl, ap, sym, _∙_}
-use mathlib.Core.List.{List, [], _∷_}
+use mathlib.Core.List.{List}
 use Prim.Native.Nat.{ℕ, _≤_}
 use lib.IntN.{ℤ}
 use lib.ListN.{length}
-use Rattle.maxplus.specs.Finite.{each}
-use Rattle.cue.specs.Sizes.{size-limit}
+use Rattle.cue.specs.Sizes.{size-limit, six}
 use Rattle.timing.specs.Times.{component}
 use Rattle.testing.specs.Testing.{testing, test-answer}
 use Rattle.testing.specs.declared.Tested.{Tested}
@@ -17,7 +16,7 @@ use Rattle.planner_c.proofs.tuzhelar_test.Tie as tie
 
 -- the number of what was found of the six components
 found : (s : List ℕ) (lent : List ℤ) {at : List ℤ} {count : ℕ} {r q : Tested} → r ≡ q → test-answer r ≡ testing s count (component at) →
-    count ≡ length lent → (length lent ≤ size-limit → at ≡ each 6 (λ j. component lent j ∷ [])) →
+    count ≡ length lent → (length lent ≤ size-limit → at ≡ six (component lent)) →
     test-number (test-answer q) ≡ test-number (testing s (length lent) (component lent))
 found s lent {at} d h n e =
     ap test-number (ap test-answer (sym d) ∙ h ∙ ap (λ count. testing s count (component at)) n ∙ tested s lent at e)
