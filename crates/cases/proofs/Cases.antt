@@ -224,5 +224,6 @@ cases-hold =
     asked b rest = tightest? 2 (cue-of whole) whole-readable whole-ordered (component (pos 0 ∷ pos b ∷ rest))
 
     whole-says : (b : ℕ) (rest : List ℤ) → some-beyond 2 (component (pos 0 ∷ pos b ∷ rest)) ≡ false → (v : Bool) →
-        Says (sheets.Tightest whole (component (pos 0 ∷ pos b ∷ rest))) v → answer v ≡ testing (bytes whole-case) 2 (component (pos 0 ∷ pos b ∷ rest))
+        Says (sheets.Tightest whole (component (pos 0 ∷ pos b ∷ rest))) v →
+        answer v ≡ testing (bytes whole-case) 2 (component (pos 0 ∷ pos b ∷ rest))
     whole-says b rest near v h = testing-says (bytes whole-case) 2 (component (pos 0 ∷ pos b ∷ rest)) whole [] refl refl near whole-ordered v h

@@ -19,7 +19,8 @@ use Rattle.extremes.proofs.sums.reached.Tie as tie
 
 abbrev Inv-loop : tie.InvT-loop
 Inv-loop table i word line n set₀ bit₀ j₀ set bit j = (j ≤ n) × (bit ≡ 2 ^ j) ×
-    SetOf (λ k. (k < j) × (meant table i k ⊗ meantV (line .at) k ≡ entry word)) set × ((k : ℕ) → k < j → meant table i k ⊗ meantV (line .at) k ≼ entry word)
+    SetOf (λ k. (k < j) × (meant table i k ⊗ meantV (line .at) k ≡ entry word)) set ×
+    ((k : ℕ) → k < j → meant table i k ⊗ meantV (line .at) k ≼ entry word)
 
 abbrev μ-loop : tie.MeasureT-loop
 μ-loop table i word line n set₀ bit₀ j₀ set bit j = n - j

@@ -20,7 +20,8 @@ returns c =
     let word : tie.After-count-word = search in
     let then1 : tie.Then1 = search in
     let s : tie.Start = search in
-    needed-stored (s .args .lent .now) (s .args .at) (s .args .number) (s .args .count) (then1 .if1 .taken) (back (word .count-word .ok) (word .count-word .ensures)) (stored .put .ensures)
+    needed-stored (s .args .lent .now) (s .args .at) (s .args .number) (s .args .count) (then1 .if1 .taken)
+    (back (word .count-word .ok) (word .count-word .ensures)) (stored .put .ensures)
 
 returns-2 : tie.Need-returns-2
 returns-2 c =
