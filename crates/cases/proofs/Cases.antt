@@ -17,7 +17,7 @@ use contract.Lifetimes.{Lfts}
 use denote.Ref.{RefT}
 use Rattle.maxplus.specs.Whole.{_+z_, neg, maxz}
 use Rattle.maxplus.specs.Entry.{absent, num, _⊗_, _⊕_, inv, val, Present}
-use Rattle.maxplus.specs.Finite.{each, mapL, sum}
+use Rattle.maxplus.specs.Finite.{each, mapL, sum, byte-of}
 use Rattle.maxplus.specs.Tables.{sup, supL, mv, mm, idm, power, star, normal}
 use Rattle.maxplus.specs.Line.{at, line}
 use Rattle.maxplus.specs.Sorted.{put, sift}
@@ -204,7 +204,7 @@ whole-ordered = decide-yes (orderly? whole) tt
 
 -- ---- the whole table
 pub cases-hold : Every CaseHolds cases
-unfolding planning space-after keeping kept-byte kept-count testing tightest? keeps? Keeps same-entry? deviation shortfall ordered orderly? line-words
+unfolding planning space-after keeping kept-byte byte-of kept-count testing tightest? keeps? Keeps same-entry? deviation shortfall ordered orderly? line-words
     list-words read sheet.lines sheet.line rows sections checked any ended items item signed value behind literal bytes least leastE steps
     selections lines minimal needed? others combination? asked? met? under-dec fixings walk kept cut serves-as-well floor-panels through pull pullE
     overdue need seed ray candidate candidates no-gain? gain-or mm mv star power idm normal sup supL at line put sift each mapL sum val inv _⊗_

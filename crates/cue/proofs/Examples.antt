@@ -7,7 +7,7 @@ use lib.IntN.{ℤ, pos, negsuc}
 use lib.ListN.{length}
 use Rattle.maxplus.specs.Whole.{_+z_, neg, maxz}
 use Rattle.maxplus.specs.Entry.{E, absent, num, _⊗_, _⊕_, inv, unit, val}
-use Rattle.maxplus.specs.Finite.{each, mapL, sum}
+use Rattle.maxplus.specs.Finite.{each, mapL, sum, byte-of}
 use Rattle.maxplus.specs.Tables.{sup, supL, Vec, Mat, mv, mm, idm, power, star, normal}
 use Rattle.maxplus.specs.Line.{Line, at, line}
 use Rattle.maxplus.specs.Sorted.{put, sift}
@@ -67,7 +67,7 @@ followed = sheet ((absent ∷ zero-lag ∷ []) ∷ []) (zero-lag ∷ []) ((absen
 computed : (shown 2 alike ≡ (pos 0, 3 ∷ 3 ∷ [], 4, 2, (absent, (unit, tt)) ∷ (unit, (absent, tt)) ∷ [])) ×
     (shown 2 one-floor ≡ (pos 0, 1 ∷ 0 ∷ [], 1, 1, (unit, (absent, tt)) ∷ (unit, (unit, tt)) ∷ [])) ×
     (shown 2 followed ≡ (pos 1, 2 ∷ [], 1, 1, (unit, (num (negsuc 0), tt)) ∷ []))
-unfolding least leastE shortfall through pull pullE overdue kept kept-byte floor-panels serves-as-well cut walk fixings selections steps need seed ray
+unfolding least leastE shortfall through pull pullE overdue kept kept-byte byte-of floor-panels serves-as-well cut walk fixings selections steps need seed ray
     candidate candidates lines minimal needed? others combination? asked? met? under-dec normal star power idm mm mv sup supL each mapL sum
     at line put sift strict same? ltE-cmp ltL-cmp ≼-dec z-dec present-dec all-or all-dec any-dec dec-× dec-→ dec-¬ decLe _⊗_ _⊕_ inv val
     maxz _+z_ neg

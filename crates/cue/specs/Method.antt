@@ -1,12 +1,12 @@
 -- From sheet to lines (document 01, steps 2 to 7; step 1's star is maxplus's), in its order. P is a sheet's tables, n its triggers.
 use mathlib.Core.List.{List, [], _∷_}
 use mathlib.Core.Bool.{Bool, cond, _&&_}
-use Prim.Native.Nat.{ℕ, suc, _^_}
+use Prim.Native.Nat.{ℕ, suc}
 use lib.Dec.{eqb}
 use lib.IntN.{ℤ}
 use Rattle.maxplus.specs.Whole.{neg}
 use Rattle.maxplus.specs.Entry.{E, num, _⊗_, _⊕_, val, leqE, inv, present?}
-use Rattle.maxplus.specs.Finite.{each, onlyIf, mapL, sum, countIf}
+use Rattle.maxplus.specs.Finite.{each, onlyIf, mapL, sum, countIf, byte-of}
 use Rattle.maxplus.specs.Tables.{supL, Vec, Mat, mv, mm, idm, star, normal}
 use Rattle.maxplus.specs.Line.{Line, line}
 use Rattle.cue.specs.Minimal.{minimal}
@@ -79,7 +79,7 @@ module _ (n : ℕ) (P : Cue) where
 
     -- "The kept triggers of a panel are given as six bits in a byte, bit 0 for trigger 1, and the number of bits set is reported with it."
     unfoldable pub kept-byte : ℕ → ℕ
-    kept-byte i = sum n (λ j. countIf (kept i j) (2 ^ j))
+    kept-byte i = byte-of n (kept i)
 
     unfoldable pub kept-count : ℕ → ℕ
     kept-count i = sum n (λ j. countIf (kept i j) 1)

@@ -3,7 +3,7 @@ use mathlib.Core.Path.{_≡_}
 use mathlib.Core.Logic.{_⊎_}
 use mathlib.Core.List.{List, [], _∷_, _++_}
 use mathlib.Core.Bool.{Bool, true, false}
-use Prim.Native.Nat.{ℕ, zero, suc, _+_}
+use Prim.Native.Nat.{ℕ, zero, suc, _+_, _^_}
 
 module _ {A : Type 0} where
   abbrev pub In : A → List A → Type 0
@@ -32,3 +32,7 @@ sum (suc n) f = sum n f + f n
 abbrev pub countIf : Bool → ℕ → ℕ
 countIf true k = k
 countIf false k = 0
+
+-- those places below n for which b is true, as the bits of a number
+unfoldable pub byte-of : ℕ → (ℕ → Bool) → ℕ
+byte-of n b = sum n (λ j. countIf (b j) (2 ^ j))

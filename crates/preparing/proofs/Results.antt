@@ -30,7 +30,8 @@ use Rattle.cue.proofs.Deviation.{pull-is, mv-through, mark-keeps, mark-shortfal
 use Rattle.cue.specs.Results.{Within}
 use Rattle.cue.proofs.Bounds.{star-within, through-within, pull-within, least-within}
 use Rattle.tables.specs.Held.{meant, meantV, Holds, HoldsV, Closely, CloselyV, Says}
-use Rattle.trigger_sets.specs.Sets.{bit, byte-of}
+use Rattle.maxplus.specs.Finite.{byte-of}
+use Rattle.trigger_sets.specs.Sets.{bit}
 use Rattle.trigger_sets.proofs.ByteLaws.{byte-ext, byte-small, byte-ones, byte-bit}
 use Rattle.thresholds.specs.Thresholds.{reaches, kept-of, KeptBytes, floored}
 use Rattle.tables.proofs.SquareLaws.{close-within, closely-within, closely-withinV}

@@ -17,7 +17,7 @@ use Rattle.words.proofs.Laws.{word-order, close-of, close-more, close-minus}
 use Rattle.cue.specs.Cue.{overdue, shortfall}
 use Rattle.tables.specs.Held.{cell, meant, meantV, HoldsV, Closely, CloselyV}
 use Rattle.thresholds.specs.Thresholds.{reaches, kept-of, KeptBytes}
-use Rattle.trigger_sets.specs.Sets.{byte-of}
+use Rattle.maxplus.specs.Finite.{byte-of}
 use Rattle.trigger_sets.proofs.ByteLaws.{byte-empty}
 use Rattle.tables.proofs.Loops.{blank-word}
 use Rattle.tables.proofs.SquareLaws.{entry-unit}

@@ -8,7 +8,7 @@ use lib.ListN.{length, getD}
 use Rattle.maxplus.specs.Entry.{E, _⊗_, inv, leqE, present?}
 use Rattle.maxplus.specs.Finite.{each, onlyIf}
 use Rattle.maxplus.specs.Tables.{Vec, Mat}
-use Rattle.trigger_sets.specs.Sets.{byte-of}
+use Rattle.maxplus.specs.Finite.{byte-of}
 
 -- "Entry d(i,j) is kept if it is present and at least p(i) − Δ − r(j)."; a is p(i) − Δ
 unfoldable pub reaches : E → Mat → Vec → ℕ → ℕ → Bool

@@ -7,7 +7,7 @@ ghost use Rattle.cue.specs.Cue.{overdue, shortfall};
 ghost use Rattle.sheet.specs.Sheet.{limit};
 ghost use Rattle.sheet.specs.Sizes.{star-size, through-size, mark-down, least-up};
 ghost use Rattle.tables.specs.Held.{meant, meantV, HoldsV, Closely, CloselyV};
-ghost use Rattle.trigger_sets.specs.Sets.{byte-of};
+ghost use Rattle.maxplus.specs.Finite.{byte-of};
 ghost use Rattle.thresholds.specs.Thresholds.{reaches, kept-of, KeptBytes};
 ghost use Rattle.cue.specs.Sizes.{size-limit};
 use tables::differences::rest;

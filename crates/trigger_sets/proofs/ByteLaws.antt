@@ -10,7 +10,8 @@ use lib.Count.{ones, onesIn, ones-cat}
 use lib.Dec.{ltb, lit<}
 use borrow.Author.Tests.{lt-ltb, le-ltb, eq-eqb, ne-eqb}
 use Rattle.maxplus.specs.Finite.{sum, countIf}
-use Rattle.trigger_sets.specs.Sets.{bit, byte-of}
+use Rattle.maxplus.specs.Finite.{byte-of}
+use Rattle.trigger_sets.specs.Sets.{bit}
 use Rattle.trigger_sets.proofs.BitLaws.{bit-none, bit-added}
 
 pub sum-ext : (n : ℕ) (f g : ℕ → ℕ) → ((j : ℕ) → j < n → f j ≡ g j) → sum n f ≡ sum n g

@@ -4,7 +4,6 @@ use mathlib.Core.Bool.{Bool, cond}
 use mathlib.Core.List.{List, [], _∷_}
 use Prim.Native.Nat.{ℕ, zero, suc, _/_, _%_, _^_, _<_}
 use lib.Dec.{T, eqb}
-use Rattle.maxplus.specs.Finite.{sum, countIf}
 
 -- bit j of m
 abbrev pub bit : ℕ → ℕ → Bool
@@ -17,10 +16,6 @@ Has m j = T (bit m j)
 pub record SetOf (Q : ℕ → Type 0) (m : ℕ) : Type 0 where
   pub small : m < 64
   pub has : (j : ℕ) → j < 6 → Has m j ↔ Q j
-
--- the set of those j below n for which b is true
-unfoldable pub byte-of : ℕ → (ℕ → Bool) → ℕ
-byte-of n b = sum n (λ j. countIf (b j) (2 ^ j))
 
 -- the set bits of m among c bits from j on, ascending
 unfoldable pub bitsFrom : ℕ → ℕ → ℕ → List ℕ

@@ -8,7 +8,7 @@ use Rattle.words.proofs.Laws.{close-more}
 use Rattle.tables.specs.Held.{meant, meantV}
 use Rattle.thresholds.specs.Thresholds.{reaches}
 use Rattle.thresholds.proofs.ThresholdLaws.{reaches-yes, reaches-no}
-use Rattle.trigger_sets.specs.Sets.{byte-of}
+use Rattle.maxplus.specs.Finite.{byte-of}
 use Rattle.trigger_sets.proofs.ByteLaws.{byte-none, byte-set, byte-clear, bit-more, bit-low}
 use Rattle.thresholds.proofs.reaching.Statement.{statement}
 use Rattle.thresholds.proofs.reaching.Tie as tie
