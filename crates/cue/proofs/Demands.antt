@@ -24,7 +24,8 @@ use Rattle.cue.specs.Method.{Entries, Selection, least, floor-panels, wa
 use Rattle.cue.proofs.Order.{keeps-iff-unchanged}
 use Rattle.cue.proofs.Deviation.{at-least, least-reached, tightest-least, order-possible}
 use Rattle.cue.proofs.Cone.{Cone}
-use Rattle.cue.proofs.Walk.{steps-bound, Visited, reached-left, reached-selection}
+use Rattle.cue.proofs.Walk.{steps-bound, reached-left, reached-selection}
+use Rattle.cue.specs.Visited.{Visited}
 use Rattle.cue.proofs.Extreme.{Extreme, in-lines, lines-increasing, lines-normal, some-line}
 use Rattle.cue.specs.Closures.{Common}
 use Rattle.cue.proofs.Closure.{extreme-closure, lines-common, lines-by-closure}

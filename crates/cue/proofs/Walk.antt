@@ -24,6 +24,7 @@ use Rattle.cue.specs.Vectors.{Readable}
 use Rattle.cue.specs.Method.{Entries, Selection, through, pull, mark, least, floor-panels, serves-as-well, cut, walk, fixings, ask}
 use Rattle.cue.specs.Method.{kept, selections, steps}
 use Rattle.cue.specs.Sizes.{geometric}
+use Rattle.cue.specs.Visited.{Visited, start, down}
 use Rattle.cue.proofs.Deviation.{pull-overdue, mv-through, timing-overdue}
 use Rattle.cue.proofs.Cone.{Cone, mark-cone}
 
@@ -276,11 +277,6 @@ module _ (n : ℕ) (P : Cue) where
           λ k l q. elim q [ inl e ↦ rw (ap (λ f. f .0) e, ap (λ f. f .1) e) v | inr e ↦ f k l e ],
         )
 
-  -- what the walk comes to: the panels still to fix, and the entries left
-  pub data Visited (D : ℤ) : List ℕ → Entries → Type 0 where
-    start : Visited D (floor-panels n P) (kept n P D)
-    down : {i : ℕ} {is : List ℕ} {o : Entries} (j : ℕ) → Visited D (i ∷ is) o → j < n → T (o i j) → Visited D is (cut n P i j o)
-
   -- ---- at a vector x that is g past due
   module _ (D : ℤ) (x : Vec) (g : ℤ) where
     -- panel i has a floor, and j alone lands x there as far as D asks
@@ -321,15 +317,15 @@ module _ (n : ℕ) (P : Cue) where
     abbrev any : ℕ → ℕ → Type 0
     any i j = Unit {0}
 
-    reached-any : {is : List ℕ} {o : Entries} → Visited (least n P) is o → (k : ℕ) → In k is → Left any o k
+    reached-any : {is : List ℕ} {o : Entries} → Visited n P (least n P) is o → (k : ℕ) → In k is → Left any o k
     reached-any start k q = let (j, hj, t, v) = cone-kept (least n P) (timing (mark n P)) _ (mark-cone n P R np)
         (timing-overdue n P R (mark n P)) k q in (j, hj, t, tt)
     reached-any (down {i} {is} {o} j r hj t) k q = cut-leaves any (λ i j k t v. tt) i j hj tt o k (reached-any r k (inr q))
 
     -- in every state that the walk reaches each panel still to fix has a trigger left
-    pub reached-left : {is : List ℕ} {o : Entries} → Visited (least n P) is o → (k : ℕ) → In k is → (j : ℕ) × (j < n) × T (o k j)
+    pub reached-left : {is : List ℕ} {o : Entries} → Visited n P (least n P) is o → (k : ℕ) → In k is → (j : ℕ) × (j < n) × T (o k j)
     reached-left r k q = let (j, hj, t, v) = reached-any r k q in (j, hj, t)
 
     -- and so from there it has a selection
-    pub reached-selection : {is : List ℕ} {o : Entries} → Visited (least n P) is o → (s : Selection) × In s (walk n P is o)
+    pub reached-selection : {is : List ℕ} {o : Entries} → Visited n P (least n P) is o → (s : Selection) × In s (walk n P is o)
     reached-selection {is} {o} r = let (s, hs, f) = greedy any (λ i j k t v. tt) is o (reached-any r) in (s, hs)

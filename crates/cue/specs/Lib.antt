@@ -7,3 +7,4 @@ pub mod Written
 pub mod Sizes
 pub mod Results
 pub mod Closures
+pub mod Visited
