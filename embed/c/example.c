@@ -1,5 +1,6 @@
 /*
- * The whole case from C: plans it, chooses times from its lines, tests them, and compares it with other sheets. From the root of the repository:
+ * The whole case from C: plans it, chooses times from its lines, tests them, finds the latest that are no later than wished, and compares it
+ * with other sheets. From the root of the repository:
  *
  *     rt staticlib planner_c
  *     cc -std=c99 -Wall -Wextra -Iembed/c embed/c/example.c target/staticlib/libplanner_c.a -o target/example
@@ -72,25 +73,6 @@ static void combine(size_t count, size_t triggers, const int64_t *weights, int64
     }
 }
 
-/*
- * The weights for the latest tightest times of which none is later than wished: each line as high as it may go. A line's
- * greatest component is 0, so that the least is over at least one number.
- */
-static void weigh(size_t count, size_t triggers, const int64_t *wished, int64_t *weights)
-{
-    size_t i, j;
-    for (i = 0; i < count; i++) {
-        int found = 0;
-        for (j = 0; j < triggers; j++) {
-            int32_t component = tuzhelar_component(space, i, j);
-            if (component != TUZHELAR_ABSENT && (!found || wished[j] - component < weights[i])) {
-                weights[i] = wished[j] - component;
-                found = 1;
-            }
-        }
-    }
-}
-
 static void print_numbers(const char *name, const int64_t *numbers, size_t count)
 {
     size_t i;
@@ -145,8 +127,8 @@ static void print_compared(const char *name, const char *other)
 int main(void)
 {
     const int64_t as_listed[2] = {0, 0}, second_later[2] = {1, 0}, first_later[2] = {0, 3}, wished[2] = {0, 2};
-    int64_t weights[2] = {0, 0};
     struct tuzhelar_keeping keeping;
+    struct tuzhelar_reached reached;
     struct tuzhelar_planned planned = tuzhelar_plan_sheet(SHEET, strlen(SHEET), space, LINES * TUZHELAR_LINE_WORDS);
     size_t triggers, i;
     if (planned.refusal != TUZHELAR_DONE) {
@@ -163,10 +145,11 @@ int main(void)
     choose(planned.count, triggers, second_later);
     choose(planned.count, triggers, first_later);
 
-    /* Times that were wished need not be tightest. The nearest below them come from the list. */
+    /* Times that were wished need not be tightest. These are the latest that are, of those that are no later than wished. */
     print_tested(wished, triggers);
-    weigh(planned.count, triggers, wished, weights);
-    choose(planned.count, triggers, weights);
+    reached = tuzhelar_latest_timing(SHEET, strlen(SHEET), wished, triggers, space, LINES * TUZHELAR_LINE_WORDS);
+    printf("instead ");
+    print_tested(reached.times, triggers);
 
     keeping = tuzhelar_kept_table(SHEET, strlen(SHEET));
     for (i = 0; i < keeping.panels; i++) {

@@ -5,13 +5,13 @@
  *
  *     cc -Iembed/c program.c target/staticlib/libplanner_c.a
  *
- * The library defines the four names below and calls memcpy and memset alone. It keeps nothing between calls, so that
- * threads may call it at once, each with words of its own. On the largest sheets planning and comparing were measured to
- * take 53 KB of stack, the others 6 KB.
+ * The library defines the five names below and calls memcpy and memset alone. It keeps nothing between calls, so that
+ * threads may call it at once, each with words of its own. On the largest sheets planning, the latest times and comparing
+ * were measured to take 53 KB of stack, the others 6 KB.
  *
- * There are two ways in. `tuzhelar_plan_sheet`, `tuzhelar_kept_table`, `tuzhelar_test_timing` and `tuzhelar_same_timings`,
- * further below, are a thin layer in C that takes null pointers and overlaps too. They call `tuzhelar_plan`, `tuzhelar_kept`,
- * `tuzhelar_test` and `tuzhelar_same`, the proved functions.
+ * There are two ways in. `tuzhelar_plan_sheet`, `tuzhelar_kept_table`, `tuzhelar_test_timing`, `tuzhelar_latest_timing` and
+ * `tuzhelar_same_timings`, further below, are a thin layer in C that takes null pointers and overlaps too. They call
+ * `tuzhelar_plan`, `tuzhelar_kept`, `tuzhelar_test`, `tuzhelar_latest` and `tuzhelar_same`, the proved functions.
  */
 #ifndef TUZHELAR_H
 #define TUZHELAR_H
@@ -32,6 +32,7 @@ extern "C" {
 #define TUZHELAR_ABSENT INT32_MIN /* an absent component */
 #define TUZHELAR_PLAN_WORDS 4     /* words of planning's answer */
 #define TUZHELAR_KEPT_WORDS 16    /* words of the kept table's answer */
+#define TUZHELAR_LATEST_WORDS 7   /* words of the latest times' answer */
 #define TUZHELAR_SAME_WORDS 2     /* words of comparing's answer */
 #define TUZHELAR_LAST_TIME 1000000000 /* a time beyond this, or below minus this, is refused, 11 */
 
@@ -64,8 +65,8 @@ extern "C" {
  * - A pointer is valid for its length, which counts bytes for a sheet and words for the others, is aligned as its type
  *   asks, and the bytes or words there hold values. For length 0 any valid pointer will do: nothing is read or written
  *   through it. The proof does not speak of null pointers.
- * - What is written, `space`, `left`, `right` and `answer`, shares no memory with one another or with a sheet. (Sheets and
- *   `times` are only read: `first` and `second` may be one sheet.)
+ * - What is written, `space`, `left`, `right` and `answer`, shares no memory with one another, with a sheet or with `times`.
+ *   (Sheets and `times` are only read: `first` and `second` may be one sheet.)
  * - Nothing else writes there during the call.
  *
  * `space`, `left` and `right` are what document 01 calls lent space: the rest is left, and a refusal changes no word of it.
@@ -109,6 +110,23 @@ uint32_t tuzhelar_kept(const uint8_t *sheet, size_t sheet_length, int64_t *answe
 uint32_t tuzhelar_test(const uint8_t *sheet, size_t sheet_length, const int64_t *times, size_t times_length);
 
 /*
+ * The latest tightest times that are no later than given ones: none of them exceeds the given time in its place, and each is at
+ * least as late as in any other tightest times of which that is so. Returns 0 or the refusal: 1 to 7; then 10, `times_length` is
+ * not the sheet's number of triggers; then 11, a given time is beyond +-1,000,000,000; then 8; then 9.
+ *
+ *   0               the list stands at the front of `space`, as tuzhelar_plan writes it, and the rest of the space is as it was;
+ *                   answer[0] is its number of lines, answer[1] to answer[6] are the times, 0 past the sheet's number of triggers.
+ *   9               the list has more lines than the space holds: answer[0] is the count needed, and no other word is written.
+ *   1 to 8, 10, 11  no word is written.
+ *
+ * A word of the answer that is at or past `answer_length` is dropped, and words past the seventh stay as they were. As many
+ * times are taken as are lent, as tuzhelar_test has it. Given times that are tightest come back as they are; times given near
+ * -1,000,000,000 can come back below it, where tuzhelar_test takes none (11).
+ */
+uint32_t tuzhelar_latest(const uint8_t *sheet, size_t sheet_length, const int64_t *times, size_t times_length, int32_t *space,
+                         size_t space_length, int64_t *answer, size_t answer_length);
+
+/*
  * Comparing two sheets: whether the same timings are tightest on both. Returns
  *
  *   100          every timing is tightest on both sheets or on neither;
@@ -133,8 +151,9 @@ uint32_t tuzhelar_same(const uint8_t *first, size_t first_length, const uint8_t 
  *
  * - A null pointer counts as length 0: no sheet (2), no word of space (9 for a sheet that has a plan), no time (10 for a
  *   good sheet).
- * - Sheets are copied, so that one may lie in the words of a space; it is read whole before the first word is written. Of a
- *   sheet above 2,048 bytes no byte is looked at (1). That two spaces share no memory is left to the caller.
+ * - Sheets are copied, and so are times where a space is lent beside them, so that they may lie in the words of a space; they
+ *   are read whole before the first word is written. Of a sheet above 2,048 bytes no byte is looked at (1). That two spaces
+ *   share no memory is left to the caller.
  * - The answer is a struct, so that no answer can be too short.
  */
 
@@ -154,6 +173,12 @@ struct tuzhelar_keeping {
     size_t panels;
     uint8_t kept[TUZHELAR_MOST];   /* a panel's kept triggers, bit 0 for trigger 1 */
     uint8_t counts[TUZHELAR_MOST]; /* how many they are */
+};
+
+struct tuzhelar_reached {
+    uint32_t refusal;             /* 0, or 1 to 11 */
+    size_t count;                 /* lines written; for 9 lines needed; 0 on any other refusal */
+    int64_t times[TUZHELAR_MOST]; /* the latest times, 0 past the sheet's number of triggers and on a refusal */
 };
 
 struct tuzhelar_compared {
@@ -230,6 +255,33 @@ static inline uint32_t tuzhelar_test_timing(const void *sheet, size_t sheet_leng
     return tuzhelar_test(copy, length, times, times_length);
 }
 
+/* The latest tightest times no later than given ones, and the list at the front of `space`, as tuzhelar_latest writes it. */
+static inline struct tuzhelar_reached tuzhelar_latest_timing(const void *sheet, size_t sheet_length, const int64_t *times,
+                                                             size_t times_length, int32_t *space, size_t space_length)
+{
+    uint8_t copy[TUZHELAR_SHEET_BYTES + 1];
+    size_t length = tuzhelar_copied(copy, sheet, sheet_length);
+    int32_t none = 0;
+    int64_t given[TUZHELAR_MOST] = {0, 0, 0, 0, 0, 0}, answer[TUZHELAR_LATEST_WORDS] = {0, 0, 0, 0, 0, 0, 0};
+    struct tuzhelar_reached reached;
+    if (times == NULL) {
+        times = given;
+        times_length = 0;
+    }
+    if (times_length <= TUZHELAR_MOST) { /* more are not looked at */
+        memcpy(given, times, times_length * sizeof *times);
+        times = given;
+    }
+    if (space == NULL) {
+        space = &none;
+        space_length = 0;
+    }
+    reached.refusal = tuzhelar_latest(copy, length, times, times_length, space, space_length, answer, TUZHELAR_LATEST_WORDS);
+    reached.count = (size_t)answer[0];
+    memcpy(reached.times, answer + 1, sizeof reached.times);
+    return reached;
+}
+
 /* Comparing two sheets: each list at the front of its space, as tuzhelar_same writes it. */
 static inline struct tuzhelar_compared tuzhelar_same_timings(const void *first, size_t first_length, const void *second,
                                                              size_t second_length, int32_t *left, size_t left_length,
@@ -261,7 +313,7 @@ static inline int32_t tuzhelar_component(const int32_t *space, size_t i, size_t 
     return space[TUZHELAR_LINE_WORDS * i + 1 + j];
 }
 
-/* What a number that planning, the kept table or testing returned means, and what to look at. */
+/* What a number that any function but comparing returned means, and what to look at. */
 static inline const char *tuzhelar_meaning(uint32_t number)
 {
     switch (number) {

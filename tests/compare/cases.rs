@@ -1,6 +1,7 @@
 //! The cases of document 01, as checks of the reference: the whole case, those marked P and the
 //! other edges; then the places of reading a sheet that are easily got wrong, and the largest sheets.
 
+use crate::latest::{Reached, latest};
 use crate::reference::{self, LINE_WORDS, Likeness, NoPlan, NotCompared, Plan};
 
 /// The whole case of document 01.
@@ -145,6 +146,7 @@ pub fn run(checks: &mut Checks) {
     largest_cases(checks);
     space_cases(checks);
     test_cases(checks);
+    latest_cases(checks);
     same_cases(checks);
 }
 
@@ -374,6 +376,42 @@ fn test_cases(checks: &mut Checks) {
     check("8", &one_by_one("1"), &[0], Err(8));
     check("an order broken", TWO_SELECTIONS, &[0, 0], Ok(false));
     check("an order kept", TWO_SELECTIONS, &[0, 1], Ok(true));
+}
+
+/// The latest timing: which it is, the order of the refusals, and the space, which a refusal leaves.
+fn latest_cases(checks: &mut Checks) {
+    let mut check = |name: &str, sheet: &str, given: &[i64], words: usize, wanted| {
+        let (name, sheet) = (format!("latest, {name}"), sheet.as_bytes());
+        let (mut space, mut planned) = (vec![77; words], vec![77; words]);
+        let answer = latest(sheet, given, &mut space);
+        if answer.is_ok() {
+            checks.check(&name, reference::plan(sheet, &mut planned).is_ok());
+        }
+        checks.check(&name, answer == wanted && space == planned);
+    };
+    let is = |times: &[i64]| {
+        let times = times.to_vec();
+        Ok(Reached { count: 2, times })
+    };
+    let refused = |number| Err(NoPlan::Refused(number));
+    let full = || Err(NoPlan::SpaceTooSmall(2));
+    let circle = &one_by_one("1");
+    let limit = reference::LONGEST_TIME;
+    check("0,2", WHOLE, &[0, 2], 30, is(&[0, 1]));
+    check("0,1", WHOLE, &[0, 1], 14, is(&[0, 1]));
+    check("5,-3", WHOLE, &[5, -3], 14, is(&[5, -3]));
+    check("3,9", NO_SECOND_FLOOR, &[3, 9], 14, is(&[3, 3]));
+    let far = [-limit, 1 - limit];
+    check("far", WHOLE, &[-limit, limit], 14, is(&far));
+    let below = [-limit - 1, -limit];
+    check("below", TWO_SELECTIONS, &[-limit; 2], 14, is(&below));
+    check("a word too few", WHOLE, &[0, 2], 13, full());
+    check("no word", WHOLE, &[0, 2], 0, full());
+    check("2 before 10", "", &[limit + 1; 7], 0, refused(2));
+    check("10 before 11", WHOLE, &[limit + 1; 3], 0, refused(10));
+    check("11 before 9", WHOLE, &[0, limit + 1], 0, refused(11));
+    check("11 before 8", circle, &[-limit - 1], 0, refused(11));
+    check("8 before 9", circle, &[0], 0, refused(8));
 }
 
 /// Two sheets: what they are, and a refusal of either, which leaves both spaces.

@@ -1,12 +1,13 @@
 //! One sheet, the reference's answers and those of the implementation tried.
 
+use crate::latest::{self, Reached};
 use crate::reference::{
     self, Compared, Likeness, Line, NoPlan, NotCompared, Plan, Refusal, Survey,
 };
 use crate::search::{self, Found};
 use crate::sheets::{self, Draft, Random};
-use crate::under_test::{DIFFERENT, KeptAnswer, NO, Operations, PlanAnswer, SAME, SECOND};
-use crate::under_test::{SameAnswer, UNLIKE, UNTOUCHED, YES};
+use crate::under_test::{DIFFERENT, KeptAnswer, LatestAnswer, NO, Operations, PlanAnswer, SAME};
+use crate::under_test::{SECOND, SameAnswer, UNLIKE, UNTOUCHED, YES};
 
 /// The literal list takes time with the square of the candidates. On a sheet with more selections
 /// than this only Δ, the kept table, steps and selections are compared, and tested timings; so a
@@ -29,6 +30,8 @@ pub struct Seen {
     pub too_small: u64,
     /// Answers of the test operation: yes, no, 10, 11.
     pub tests: [u64; 4],
+    /// Answers of the latest operation: times, of these those given, 9, 10, 11.
+    pub latest: [u64; 5],
 }
 
 // ------------------------------------------- The reference's answers as words
@@ -80,6 +83,27 @@ pub fn test_answer(answer: Result<bool, Refusal>) -> u32 {
     }
 }
 
+pub fn latest_answer(answer: &Result<Reached, NoPlan>) -> LatestAnswer {
+    let mut words = [UNTOUCHED; 9];
+    match answer {
+        Ok(reached) => {
+            words[..7].fill(0);
+            words[0] = reached.count as i64;
+            words[1..=reached.times.len()].copy_from_slice(&reached.times);
+            LatestAnswer { code: 0, words }
+        }
+        Err(refused) => {
+            // The word of 9's count alone.
+            let planned = plan_answer(&Err(*refused));
+            words[0] = planned.words[3];
+            LatestAnswer {
+                code: planned.code,
+                words,
+            }
+        }
+    }
+}
+
 pub fn same_answer(answer: &Result<Compared, NotCompared>) -> SameAnswer {
     let mut words = [UNTOUCHED; 4];
     let (code, at, refused) = match answer {
@@ -120,13 +144,17 @@ pub fn compare_sheet(
     same("kept", &kept_answer(&survey), &(tried.kept)(sheet))?;
     let mut lines = Vec::new();
     match &survey {
-        Err(number) => compare_refused_plan(tried, sheet, *number, random)?,
+        Err(number) => {
+            compare_refused_plan(tried, sheet, *number, random)?;
+            compare_latest(tried, sheet, None, random, &mut seen)?;
+        }
         Ok(survey) => {
             let read = &survey.tables.sheet;
             seen.size = Some((read.panels, read.triggers));
             if survey.selections() <= LISTED_SELECTIONS {
                 lines = survey.lines();
                 compare_plans(tried, sheet, survey, &lines, random, &mut seen)?;
+                compare_latest(tried, sheet, Some((survey, &lines)), random, &mut seen)?;
                 seen.listed = true;
             }
         }
@@ -165,6 +193,19 @@ fn compare_refused_plan(
     same("space after a refused plan", &before, &space)
 }
 
+/// The words of a space that holds a list, and of any space.
+fn enough_and_any(needed: usize, random: &mut Random) -> [usize; 2] {
+    let enough = needed + *random.pick(&[0, 0, 1, 6, 7, 30]);
+    let any = match random.below(5) {
+        0 => 0,
+        1 => needed - 1,
+        2 => needed - reference::LINE_WORDS,
+        3 => random.below(needed),
+        _ => needed + random.below(100),
+    };
+    [enough, any]
+}
+
 /// Plans once with a space that holds the list and once with any space.
 fn compare_plans(
     tried: &Operations,
@@ -174,16 +215,7 @@ fn compare_plans(
     random: &mut Random,
     seen: &mut Seen,
 ) -> Result<(), String> {
-    let needed = lines.len() * reference::LINE_WORDS;
-    let enough = needed + *random.pick(&[0, 0, 1, 6, 7, 30]);
-    let any = match random.below(5) {
-        0 => 0,
-        1 => needed - 1,
-        2 => needed - reference::LINE_WORDS,
-        3 => random.below(needed),
-        _ => needed + random.below(100),
-    };
-    for words in [enough, any] {
+    for words in enough_and_any(lines.len() * reference::LINE_WORDS, random) {
         let mut wanted_space = lent_space(random, words);
         let mut space = wanted_space.clone();
         let wanted = plan_answer(&reference::finish_plan(survey, lines, &mut wanted_space));
@@ -320,6 +352,73 @@ fn move_to_limit(times: &mut [i64], random: &mut Random) {
     times.iter_mut().for_each(|time| *time += by);
 }
 
+// ---------------------------------------------------------------- The latest timing
+
+/// Asks for the latest timing in spaces that hold the list or hardly do not. A sheet without a list
+/// is a refused one.
+fn compare_latest(
+    tried: &Operations,
+    sheet: &[u8],
+    listed: Option<(&Survey, &[Line])>,
+    random: &mut Random,
+    seen: &mut Seen,
+) -> Result<(), String> {
+    let triggers = reference::read(sheet).map_or(2, |sheet| sheet.triggers);
+    let lines = listed.map_or(&[][..], |(_, lines)| lines);
+    let needed = lines.len().max(1) * reference::LINE_WORDS;
+    for words in enough_and_any(needed, random) {
+        let given = timing_to_reach(triggers, lines, random);
+        let mut wanted_space = lent_space(random, words);
+        let mut space = wanted_space.clone();
+        let wanted = match (reference::admitted(sheet, &given), listed) {
+            (Err(number), _) => Err(NoPlan::Refused(number)),
+            (Ok(_), Some((survey, lines))) => {
+                latest::finish(survey, lines, &given, &mut wanted_space)
+            }
+            (Ok(_), None) => unreachable!("a sheet that is refused admits no timing"),
+        };
+        let got = (tried.latest)(sheet, &given, &mut space);
+        let what = format!("latest below {given:?}, {words} words lent");
+        same(&what, &latest_answer(&wanted), &got)?;
+        same(&format!("{what}, the space"), &wanted_space, &space)?;
+        count_latest(&wanted, &given, seen);
+    }
+    Ok(())
+}
+
+fn count_latest(answer: &Result<Reached, NoPlan>, given: &[i64], seen: &mut Seen) {
+    match answer {
+        Ok(reached) => {
+            seen.latest[0] += 1;
+            seen.latest[1] += u64::from(reached.times == given);
+        }
+        Err(NoPlan::SpaceTooSmall(_)) => seen.latest[2] += 1,
+        Err(NoPlan::Refused(10)) => seen.latest[3] += 1,
+        Err(NoPlan::Refused(11)) => seen.latest[4] += 1,
+        Err(NoPlan::Refused(_)) => {}
+    }
+}
+
+/// A timing as for a test, often with some times far from the tightest ones: later or earlier,
+/// anywhere, or at the limits.
+fn timing_to_reach(n: usize, lines: &[Line], random: &mut Random) -> Vec<i64> {
+    const LIMIT: i64 = reference::LONGEST_TIME;
+    let mut times = timing_to_test(n, lines, random);
+    let manner = random.below(6);
+    for time in &mut times {
+        if random.chance(50) {
+            match manner {
+                0 => *time = time.saturating_add(random.between(0, 5)),
+                1 => *time = time.saturating_add(random.between(-300_000, 300_000)),
+                2 => *time = random.between(-LIMIT, LIMIT),
+                3 => *time = *random.pick(&[-LIMIT, LIMIT]),
+                _ => {}
+            }
+        }
+    }
+    times
+}
+
 // ---------------------------------------------------------------- The search
 
 /// What the search saw.
@@ -327,6 +426,7 @@ fn move_to_limit(times: &mut [i64], random: &mut Random) {
 pub struct Searched {
     pub sheets: u64,
     pub timings: u64,
+    pub latest: u64,
     pub pairs: u64,
     pub equal_pairs: u64,
 }
@@ -349,6 +449,10 @@ pub fn compare_pair(
         let sheet = draft.write();
         let tested = |x: &[i64]| tested_tightest(tried, &sheet, x);
         searched.timings += search::check(draft, &plan, random, tested)?;
+        if let Ok(found) = &plan {
+            search_latest(tried, draft, found, random)?;
+            searched.latest += 1;
+        }
         plans.push(plan);
     }
     let wanted = match &plans[..] {
@@ -367,6 +471,25 @@ pub fn compare_pair(
     let found = (tried.same)(&one.write(), &other.write(), &mut left, &mut right);
     same("two sheets by search", &wanted, &found.code)?;
     Ok(searched)
+}
+
+/// The latest timing that the implementation tried gives is the one that the search finds.
+fn search_latest(
+    tried: &Operations,
+    draft: &Draft,
+    found: &Found,
+    random: &mut Random,
+) -> Result<(), String> {
+    let given: Vec<i64> = (0..draft.triggers())
+        .map(|_| random.between(-4, 4))
+        .collect();
+    let wanted = Reached {
+        count: found.lines.len(),
+        times: search::latest(draft, found, &given)?,
+    };
+    let got = (tried.latest)(&draft.write(), &given, &mut [0; SEARCH_SPACE]);
+    let what = format!("latest below {given:?} by search");
+    same(&what, &latest_answer(&Ok(wanted)), &got)
 }
 
 /// The plan of the implementation tried, as the search sees it.

@@ -1,6 +1,6 @@
 //! The functions under test, from the static library `libplanner_c.a`.
 
-use crate::under_test::{KeptAnswer, PlanAnswer, SameAnswer, UNTOUCHED};
+use crate::under_test::{KeptAnswer, LatestAnswer, PlanAnswer, SameAnswer, UNTOUCHED};
 
 unsafe extern "C" {
     fn tuzhelar_plan(
@@ -22,6 +22,16 @@ unsafe extern "C" {
         sheet_len: usize,
         times: *const i64,
         times_len: usize,
+    ) -> u32;
+    fn tuzhelar_latest(
+        sheet: *const u8,
+        sheet_len: usize,
+        times: *const i64,
+        times_len: usize,
+        space: *mut i32,
+        space_len: usize,
+        answer: *mut i64,
+        answer_len: usize,
     ) -> u32;
     fn tuzhelar_same(
         first: *const u8,
@@ -65,6 +75,24 @@ pub fn kept(sheet: &[u8]) -> KeptAnswer {
 pub fn test(sheet: &[u8], times: &[i64]) -> u32 {
     // SAFETY: as in `plan`.
     unsafe { tuzhelar_test(sheet.as_ptr(), sheet.len(), times.as_ptr(), times.len()) }
+}
+
+pub fn latest(sheet: &[u8], given: &[i64], space: &mut [i32]) -> LatestAnswer {
+    let mut words = [UNTOUCHED; 9];
+    // SAFETY: as in `plan`.
+    let code = unsafe {
+        tuzhelar_latest(
+            sheet.as_ptr(),
+            sheet.len(),
+            given.as_ptr(),
+            given.len(),
+            space.as_mut_ptr(),
+            space.len(),
+            words.as_mut_ptr(),
+            words.len(),
+        )
+    };
+    LatestAnswer { code, words }
 }
 
 pub fn same(first: &[u8], second: &[u8], left: &mut [i32], right: &mut [i32]) -> SameAnswer {

@@ -1,13 +1,14 @@
 //! The reference in the place of an implementation under test, to try the comparison itself.
 
-use crate::compare::{kept_answer, plan_answer, same_answer, test_answer};
-use crate::reference;
-use crate::under_test::{KeptAnswer, Operations, PlanAnswer, SameAnswer};
+use crate::compare::{kept_answer, latest_answer, plan_answer, same_answer, test_answer};
+use crate::under_test::{KeptAnswer, LatestAnswer, Operations, PlanAnswer, SameAnswer};
+use crate::{latest, reference};
 
 pub const REFERENCE: Operations = Operations {
     plan,
     kept,
     test,
+    latest,
     same,
 };
 
@@ -21,6 +22,10 @@ pub fn kept(sheet: &[u8]) -> KeptAnswer {
 
 pub fn test(sheet: &[u8], times: &[i64]) -> u32 {
     test_answer(reference::test(sheet, times))
+}
+
+pub fn latest(sheet: &[u8], given: &[i64], space: &mut [i32]) -> LatestAnswer {
+    latest_answer(&latest::latest(sheet, given, space))
 }
 
 pub fn same(first: &[u8], second: &[u8], left: &mut [i32], right: &mut [i32]) -> SameAnswer {

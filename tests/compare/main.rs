@@ -10,6 +10,7 @@ mod compare;
 #[cfg(linked)]
 mod ffi;
 mod itself;
+mod latest;
 mod reference;
 mod search;
 mod sheets;
@@ -193,6 +194,7 @@ struct Tally {
     listed: u64,
     too_small: u64,
     tests: [u64; 4],
+    latest: [u64; 5],
     searched: Searched,
     /// Two sheets: same, other timings, other numbers of triggers, first refused, second refused, and
     /// how often it was known that the same timings are tightest.
@@ -265,7 +267,8 @@ impl Tally {
         }
         self.listed += u64::from(seen.listed);
         self.too_small += seen.too_small;
-        for (sum, count) in self.tests.iter_mut().zip(seen.tests) {
+        let sums = self.tests.iter_mut().chain(&mut self.latest);
+        for (sum, count) in sums.zip(seen.tests.into_iter().chain(seen.latest)) {
             *sum += count;
         }
     }
@@ -295,10 +298,18 @@ impl Tally {
         println!("plannings refused with 9: {}", self.too_small);
         let [yes, no, ten, eleven] = self.tests;
         println!("tested timings yes {yes}, no {no}, 10: {ten}, 11: {eleven}");
+        let [found, given, nine, ten, eleven] = self.latest;
+        println!(
+            "latest timings {found}, of these as given {given}, 9: {nine}, 10: {ten}, 11: {eleven}"
+        );
         let searched = &self.searched;
         println!(
-            "searched {} sheets, {} timings; {} pairs, {} with equal lists",
-            searched.sheets, searched.timings, searched.pairs, searched.equal_pairs
+            "searched {} sheets, {} timings, {} latest ones; {} pairs, {} with equal lists",
+            searched.sheets,
+            searched.timings,
+            searched.latest,
+            searched.pairs,
+            searched.equal_pairs
         );
         let [same, other, unlike, first, second] = self.two;
         println!(
@@ -317,6 +328,7 @@ impl std::ops::AddAssign for Searched {
     fn add_assign(&mut self, more: Self) {
         self.sheets += more.sheets;
         self.timings += more.timings;
+        self.latest += more.latest;
         self.pairs += more.pairs;
         self.equal_pairs += more.equal_pairs;
     }

@@ -429,9 +429,12 @@ pub struct Survey {
 
 /// "Reading's refusals, then 8."
 pub fn survey(sheet: &[u8]) -> Result<Survey, Refusal> {
-    let tables = tables(read(sheet)?)?;
+    Ok(walked(tables(read(sheet)?)?))
+}
+
+pub fn walked(tables: Tables) -> Survey {
     let walk = walk(&tables);
-    Ok(Survey { tables, walk })
+    Survey { tables, walk }
 }
 
 impl Survey {
@@ -554,9 +557,8 @@ pub fn same(
     Ok((likeness, [p.count, q.count]))
 }
 
-/// "Testing a timing": "Reading's, then 10: not n components; 11: one beyond ±1,000,000,000; then 8.
-/// Otherwise yes exactly when the timing is tightest, else no."
-pub fn test(sheet: &[u8], times: &[i64]) -> Result<bool, Refusal> {
+/// "Reading's, then 10: not n components; 11: one beyond ±1,000,000,000; then 8."
+pub fn admitted(sheet: &[u8], times: &[i64]) -> Result<Tables, Refusal> {
     let sheet = read(sheet)?;
     if times.len() != sheet.triggers {
         return Err(10);
@@ -567,7 +569,12 @@ pub fn test(sheet: &[u8], times: &[i64]) -> Result<bool, Refusal> {
     {
         return Err(11);
     }
-    let tables = tables(sheet)?;
+    tables(sheet)
+}
+
+/// "Testing a timing": the refusals above. "Otherwise yes exactly when the timing is tightest, else no."
+pub fn test(sheet: &[u8], times: &[i64]) -> Result<bool, Refusal> {
+    let tables = admitted(sheet, times)?;
     Ok(keeps_order(&tables.sheet, times) && deviation(&tables.sheet, times) == tables.deviation)
 }
 

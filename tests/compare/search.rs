@@ -15,6 +15,9 @@
 //!   x(k) − x(j) ≥ line(k) − line(j), so C = D, the largest component absolutely.
 //! - Where two such sets differ, one system of the first holds with one rule of each system of the
 //!   second broken, and a broken rule is again one, with C + 1.
+//! - The latest tightest timing below a given one fulfils one of the systems for Δ, and each of its
+//!   components is a given one, at the end of a path of its rules: they differ by at most as much as
+//!   the given ones and the n − 1 rules.
 
 use crate::sheets::{Draft, Random};
 
@@ -215,6 +218,27 @@ fn check_combinations(
         }
     }
     Ok(())
+}
+
+/// Document 02, No. 1: of the tightest timings "none of whose components exceeds the given one" the
+/// one that is "at least as late, component by component, as every other". "One always exists."
+pub fn latest(draft: &Draft, found: &Found, given: &[i64]) -> Result<Vec<i64>, String> {
+    let n = draft.triggers();
+    let apart = given.iter().max().expect("there is a trigger") - given.iter().min().unwrap();
+    let mut latest = [i64::MIN; TRIGGERS];
+    for x in timings(n, window(draft, &found.lines) + apart) {
+        if is_tightest(draft, found.deviation, &x[..n]) {
+            // Moved as late as the given times let it.
+            let by = given.iter().zip(x).map(|(g, x)| g - x).min();
+            let by = by.expect("there is a trigger");
+            (0..n).for_each(|j| latest[j] = latest[j].max(x[j] + by));
+        }
+    }
+    let latest = latest[..n].to_vec();
+    if !is_tightest(draft, found.deviation, &latest) {
+        return Err(format!("given {given:?}, no timing is the latest"));
+    }
+    Ok(latest)
 }
 
 /// Demand 3: the lists are the same exactly when every timing is tightest on both sheets or on

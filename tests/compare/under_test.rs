@@ -1,21 +1,23 @@
-//! The implementation under test, behind four safe functions:
+//! The implementation under test, behind five safe functions:
 //! - `plan(sheet: &[u8], space: &mut [i32]) -> PlanAnswer`
 //! - `kept(sheet: &[u8]) -> KeptAnswer`
 //! - `test(sheet: &[u8], times: &[i64]) -> u32`
+//! - `latest(sheet: &[u8], given: &[i64], space: &mut [i32]) -> LatestAnswer`
 //! - `same(first: &[u8], second: &[u8], left: &mut [i32], right: &mut [i32]) -> SameAnswer`
 //!
 //! Built with `--cfg linked` they call the static library, otherwise the reference itself.
 
 #[cfg(linked)]
-pub use crate::ffi::{kept, plan, same, test};
+pub use crate::ffi::{kept, latest, plan, same, test};
 #[cfg(not(linked))]
-pub use crate::itself::{kept, plan, same, test};
+pub use crate::itself::{kept, latest, plan, same, test};
 
-/// The four operations of one implementation.
+/// The five operations of one implementation.
 pub struct Operations {
     pub plan: fn(&[u8], &mut [i32]) -> PlanAnswer,
     pub kept: fn(&[u8]) -> KeptAnswer,
     pub test: fn(&[u8], &[i64]) -> u32,
+    pub latest: fn(&[u8], &[i64], &mut [i32]) -> LatestAnswer,
     pub same: fn(&[u8], &[u8], &mut [i32], &mut [i32]) -> SameAnswer,
 }
 
@@ -24,6 +26,7 @@ pub const UNDER_TEST: Operations = Operations {
     plan,
     kept,
     test,
+    latest,
     same,
 };
 
@@ -52,6 +55,14 @@ pub struct PlanAnswer {
 pub struct KeptAnswer {
     pub code: u32,
     pub words: [i64; 18],
+}
+
+/// 0 or the refusal, and the answer's words after the call: count, six times (0 for those that are not
+/// there) and two words that stay.
+#[derive(Debug, PartialEq, Eq)]
+pub struct LatestAnswer {
+    pub code: u32,
+    pub words: [i64; 9],
 }
 
 /// What the sheets are or the refusal, and the answer's words after the call: the two counts and two

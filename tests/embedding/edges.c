@@ -18,6 +18,8 @@ static const char CIRCLE[] = "panels=1\ntriggers=1\nlag=5\nfloor=0\ndue=0\nafter
 static const char EXCHANGED[] = "panels=2\ntriggers=2\nlag=4,1\nlag=2,0\nfloor=2,5\ndue=1,2\nafter=-,-\nafter=-,-\n";
 static const char LATER[] = "panels=2\ntriggers=2\nlag=2,0\nlag=4,1\nfloor=5,2\ndue=1,3\nafter=-,-\nafter=-,-\n";
 static const char ONE[] = "panels=1\ntriggers=1\nlag=5\nfloor=0\ndue=0\nafter=-\n";
+/* Trigger 2 comes at least 1 after trigger 1. */
+static const char AFTER[] = "panels=1\ntriggers=2\nlag=0,0\nfloor=0\ndue=0,0\nafter=-,-\nafter=1,-\n";
 static const int32_t LINES[2 * TUZHELAR_LINE_WORDS] = {
     2, -1, 0,               TUZHELAR_ABSENT, TUZHELAR_ABSENT, TUZHELAR_ABSENT, TUZHELAR_ABSENT,
     2, 0,  TUZHELAR_ABSENT, TUZHELAR_ABSENT, TUZHELAR_ABSENT, TUZHELAR_ABSENT, TUZHELAR_ABSENT,
@@ -32,6 +34,8 @@ static const int32_t ONE_LINE[TUZHELAR_LINE_WORDS] = {
 static const int64_t TWO_AND_TWO[TUZHELAR_SAME_WORDS] = {2, 2}, TWO_AND_ONE[TUZHELAR_SAME_WORDS] = {2, 1};
 static const int64_t PLANNED[TUZHELAR_PLAN_WORDS] = {2, 2, 1, 2};
 static const int64_t KEPT[TUZHELAR_KEPT_WORDS] = {2, 2, 1, 2, 1, 1, 3, 2, 0, 0, 0, 0, 0, 0, 0, 0};
+static const int64_t WISHED[TUZHELAR_MOST] = {0, 2, 0, 0, 0, 0};
+static const int64_t LATEST[TUZHELAR_LATEST_WORDS] = {2, 0, 1, 0, 0, 0, 0};
 
 static int passed, failed;
 
@@ -148,6 +152,79 @@ static void lengths(void)
     check("test, 11 before 8", 0, tested(CIRCLE, times, 1) == TUZHELAR_TIME);
 }
 
+/* A space and an answer, for the latest times. */
+static int32_t listed[SPACE];
+static int64_t reached[ANSWER];
+
+static uint32_t latest(const char *sheet, const int64_t *times, size_t times_length, size_t space_length, size_t answer_length)
+{
+    untouched(listed, reached);
+    return tuzhelar_latest(bytes(sheet), strlen(sheet), times, times_length, listed, space_length, reached, answer_length);
+}
+
+/* A refusal leaves the space and the answer; 9 gives the count needed and nothing else. */
+static int left_but(size_t written)
+{
+    static const int64_t needed[1] = {2};
+    return space_holds(listed, LINES, 0) && answer_holds(reached, needed, written);
+}
+
+/* The latest times, for every length of the space and the answer. */
+static void reaching(void)
+{
+    const size_t lines = 2 * TUZHELAR_LINE_WORDS;
+    size_t length;
+    for (length = 0; length <= SPACE; length++) {
+        int holds = length >= lines;
+        check("latest, words of space", length, latest(WHOLE, WISHED, 2, length, ANSWER) == (holds ? TUZHELAR_DONE : TUZHELAR_SPACE));
+        check("latest, the space", length, holds ? space_holds(listed, LINES, lines) : left_but(1));
+        check("latest, the answer beside it", length, !holds || answer_holds(reached, LATEST, TUZHELAR_LATEST_WORDS));
+        check("latest, 8 before 9", length, latest(CIRCLE, WISHED, 1, length, ANSWER) == TUZHELAR_ORDER && left_but(0));
+        check("latest, 10 before 9", length, latest(WHOLE, WISHED, 3, length, ANSWER) == TUZHELAR_COMPONENTS && left_but(0));
+    }
+    for (length = 0; length <= ANSWER; length++) {
+        check("latest, words of answer", length, latest(WHOLE, WISHED, 2, SPACE, length) == TUZHELAR_DONE);
+        check("latest, the answer", length, answer_holds(reached, LATEST, least(length, TUZHELAR_LATEST_WORDS)));
+        check("latest, the space beside it", length, space_holds(listed, LINES, lines));
+        check("latest, 9", length, latest(WHOLE, WISHED, 2, lines - 1, length) == TUZHELAR_SPACE && left_but(least(length, 1)));
+        check("latest, no space", length, latest(WHOLE, WISHED, 2, 0, length) == TUZHELAR_SPACE && left_but(least(length, 1)));
+        check("latest, 2", length, latest("", WISHED, 2, SPACE, length) == TUZHELAR_FORM && left_but(0));
+        check("latest, 8", length, latest(CIRCLE, WISHED, 1, SPACE, length) == TUZHELAR_ORDER && left_but(0));
+        check("latest, 10", length, latest(WHOLE, WISHED, 1, SPACE, length) == TUZHELAR_COMPONENTS && left_but(0));
+    }
+}
+
+/* The times that are given: as many as are lent, and up to the limits. */
+static void reaching_times(void)
+{
+    const int64_t limit = TUZHELAR_LAST_TIME;
+    int64_t times[ANSWER] = {0};
+    size_t length;
+    for (length = 0; length <= ANSWER; length++) {
+        check("latest, times lent", length,
+              latest(WHOLE, times, length, SPACE, ANSWER) == (length == 2 ? TUZHELAR_DONE : TUZHELAR_COMPONENTS));
+        check("latest, times lent for one trigger", length,
+              latest(CIRCLE, times, length, SPACE, ANSWER) == (length == 1 ? TUZHELAR_ORDER : TUZHELAR_COMPONENTS));
+        check("latest, 2 before 10", length, latest("", times, length, SPACE, ANSWER) == TUZHELAR_FORM);
+    }
+    check("latest, none is above", 0, latest(ONE, times, 1, SPACE, ANSWER) == TUZHELAR_DONE && reached[0] == 1 && reached[1] == 0);
+    times[0] = times[1] = limit;
+    check("latest, the limit", 0, latest(WHOLE, times, 2, SPACE, ANSWER) == TUZHELAR_DONE && reached[1] == limit && reached[2] == limit);
+    times[0] = -limit;
+    check("latest, both limits", 0, latest(WHOLE, times, 2, SPACE, ANSWER) == TUZHELAR_DONE);
+    check("latest, both limits", 1, reached[1] == -limit && reached[2] == 1 - limit);
+    times[1] = -limit;
+    check("latest, below the limit", 0, latest(AFTER, times, 2, SPACE, ANSWER) == TUZHELAR_DONE);
+    check("latest, below the limit", 1, reached[1] == -limit - 1 && reached[2] == -limit);
+    check("latest, below the limit", 2, tested(AFTER, reached + 1, 2) == TUZHELAR_TIME);
+    times[1] = limit + 1;
+    check("latest, 11", 0, latest(WHOLE, times, 2, SPACE, ANSWER) == TUZHELAR_TIME && left_but(0));
+    check("latest, 11 before 9", 0, latest(WHOLE, times, 2, 0, ANSWER) == TUZHELAR_TIME && left_but(0));
+    check("latest, 10 before 11", 0, latest(WHOLE, times, 3, SPACE, ANSWER) == TUZHELAR_COMPONENTS && left_but(0));
+    times[0] = INT64_MIN;
+    check("latest, 11 before 8", 0, latest(CIRCLE, times, 1, SPACE, ANSWER) == TUZHELAR_TIME && left_but(0));
+}
+
 /* Two spaces and an answer, for comparing. */
 static int32_t left[SPACE], right[SPACE];
 static int64_t compared[ANSWER];
@@ -237,6 +314,8 @@ static void sheets(void)
               tuzhelar_kept_table(sheet, length).refusal == (wanted == TUZHELAR_SPACE ? TUZHELAR_DONE : wanted));
         check("sheet of this length, test", length,
               tuzhelar_test_timing(sheet, length, NULL, 0) == (wanted == TUZHELAR_SPACE ? TUZHELAR_COMPONENTS : wanted));
+        check("sheet of this length, latest", length,
+              tuzhelar_latest_timing(sheet, length, WISHED, 2, &word, 1).refusal == wanted && word == UNTOUCHED);
         free(sheet);
     }
 }
@@ -301,6 +380,58 @@ static void layer(void)
     check("seven times, unread", 0, tuzhelar_test_timing(WHOLE, whole, (const int64_t *)8, 7) == TUZHELAR_COMPONENTS);
     check("the most times, unread", 0, tuzhelar_test_timing(WHOLE, whole, (const int64_t *)8, SIZE_MAX) == TUZHELAR_COMPONENTS);
     check("too long a sheet, unread", 0, tuzhelar_test_timing((const void *)8, 2049, times, 2) == TUZHELAR_TOO_LONG);
+}
+
+static int no_times(const int64_t *times)
+{
+    size_t j;
+    for (j = 0; j < TUZHELAR_MOST; j++) {
+        if (times[j] != 0) {
+            return 0;
+        }
+    }
+    return 1;
+}
+
+/* The layer for the latest times: null pointers, absurd lengths, and the sheet or the times inside the space. */
+static void layer_for_latest(void)
+{
+    union {
+        char sheet[sizeof WHOLE];
+        int64_t times[2];
+        int32_t words[SPACE];
+    } shared;
+    const size_t whole = strlen(WHOLE);
+    struct tuzhelar_reached found;
+    size_t i;
+    untouched(listed, reached);
+    for (i = 0; i < 3; i++) {
+        size_t length = i == 0 ? 0 : i == 1 ? whole : SIZE_MAX;
+        found = tuzhelar_latest_timing(NULL, length, WISHED, 2, listed, SPACE);
+        check("no sheet, latest", length, found.refusal == TUZHELAR_FORM && found.count == 0 && no_times(found.times) && left_but(0));
+        found = tuzhelar_latest_timing(WHOLE, whole, NULL, length, listed, SPACE);
+        check("no times, latest", length, found.refusal == TUZHELAR_COMPONENTS && found.count == 0 && left_but(0));
+        found = tuzhelar_latest_timing(WHOLE, whole, WISHED, 2, NULL, length);
+        check("no space, latest", length, found.refusal == TUZHELAR_SPACE && found.count == 2 && no_times(found.times));
+    }
+    found = tuzhelar_latest_timing(WHOLE, SIZE_MAX, WISHED, 2, listed, SPACE);
+    check("the longest sheet, latest", 0, found.refusal == TUZHELAR_TOO_LONG && left_but(0));
+    /* Nothing is read through these pointers: they lead nowhere. */
+    found = tuzhelar_latest_timing(WHOLE, whole, (const int64_t *)8, 7, listed, SPACE);
+    check("seven times, unread, latest", 0, found.refusal == TUZHELAR_COMPONENTS && left_but(0));
+    found = tuzhelar_latest_timing(WHOLE, whole, (const int64_t *)8, SIZE_MAX, listed, SPACE);
+    check("the most times, unread, latest", 0, found.refusal == TUZHELAR_COMPONENTS && left_but(0));
+
+    found = tuzhelar_latest_timing(WHOLE, whole, WISHED, 2, listed, SPACE);
+    check("latest", 0, found.refusal == TUZHELAR_DONE && found.count == 2 && space_holds(listed, LINES, 2 * TUZHELAR_LINE_WORDS));
+    check("latest", 1, memcmp(found.times, LATEST + 1, sizeof found.times) == 0);
+    memcpy(shared.sheet, WHOLE, whole);
+    found = tuzhelar_latest_timing(shared.sheet, whole, WISHED, 2, shared.words, SPACE);
+    check("sheet in the space, latest", 0, found.refusal == TUZHELAR_DONE && memcmp(shared.words, LINES, sizeof LINES) == 0);
+    memcpy(shared.times, WISHED, sizeof shared.times);
+    found = tuzhelar_latest_timing(WHOLE, whole, shared.times, 2, shared.words, SPACE);
+    check("times in the space", 0, found.refusal == TUZHELAR_DONE && memcmp(shared.words, LINES, sizeof LINES) == 0);
+    check("times in the space", 1, memcmp(found.times, LATEST + 1, sizeof found.times) == 0);
 }
 
 /* The layer for two sheets: null pointers, absurd lengths and sheets inside the spaces. */
@@ -369,9 +500,12 @@ static void meanings(void)
 int main(void)
 {
     lengths();
+    reaching();
+    reaching_times();
     comparing();
     sheets();
     layer();
+    layer_for_latest();
     layer_for_two();
     meanings();
     printf("%d passed, %d failed\n", passed, failed);

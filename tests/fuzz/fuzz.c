@@ -6,7 +6,8 @@
  * For each sheet: what the functions return is what the reader returns where it refuses; all of them are 8 exactly when the after
  * rules have a circle above 0; no byte or word that is not theirs is touched; a second planning into just enough words gives the same list,
  * and into fewer 9 with the same count; times that are tested have the answer that the meaning of the sheet gives; what the list makes is
- * tightest; and it is compared with a second sheet, often one that means the same or nearly so (pairs.c).
+ * tightest; the latest times that are no later than given ones are those that the meaning gives (latest.c); and it is compared with a second
+ * sheet, often one that means the same or nearly so (pairs.c).
  * The last line is: N passed, M failed. A sheet that fails is written with its number, so that it can be tried alone.
  */
 #define _DEFAULT_SOURCE
@@ -18,6 +19,7 @@
 #include <time.h>
 #include <unistd.h>
 
+#include "latest.h"
 #include "lent.h"
 #include "meaning.h"
 #include "pairs.h"
@@ -202,9 +204,11 @@ static void check_refused(struct random *random, uint32_t refusal)
     times[below(random, MOST_TIMES)] = (int64_t)next_random(random);
     expect(try_test(random, times, times_length) == refusal, "testing's refusal is not the reader's");
     expect(try_many(SIZE_MAX - times_length) == refusal, "testing's refusal with many times is not the reader's");
+    check_latest_refused(random, &text, times, times_length, refusal);
+    check_latest_many(&text, SIZE_MAX - times_length, refusal);
 }
 
-/* Times that testing refuses: 10 before 11, and both before 8. */
+/* Times that testing refuses, and reaching for the latest too: 10 before 11, and both before 8. */
 static void check_times_refused(struct random *random, int n)
 {
     int64_t times[MOST_TIMES] = {0}, beyond = TUZHELAR_LAST_TIME + between(random, 1, 1000);
@@ -212,13 +216,18 @@ static void check_times_refused(struct random *random, int n)
     /* Zeros that are not lent must not be made up. */
     if (count != (size_t)n) {
         expect(try_test(random, times, count) == TUZHELAR_COMPONENTS, "a wrong number of times is not 10");
+        check_latest_refused(random, &text, times, count, TUZHELAR_COMPONENTS);
     }
     times[below(random, n)] = chance(random, 30) ? INT64_MIN : chance(random, 50) ? beyond : -beyond;
     expect(try_test(random, times, (size_t)n) == TUZHELAR_TIME, "a time beyond the limit is not 11");
+    check_latest_refused(random, &text, times, (size_t)n, TUZHELAR_TIME);
     if (count != (size_t)n) {
         expect(try_test(random, times, count) == TUZHELAR_COMPONENTS, "a wrong number of times, with one beyond the limit, is not 10");
+        check_latest_refused(random, &text, times, count, TUZHELAR_COMPONENTS);
     }
-    expect(try_many(count > MOST ? count : SIZE_MAX - count) == TUZHELAR_COMPONENTS, "more times than triggers can be are not 10");
+    count = count > MOST ? count : SIZE_MAX - count;
+    expect(try_many(count) == TUZHELAR_COMPONENTS, "more times than triggers can be are not 10");
+    check_latest_many(&text, count, TUZHELAR_COMPONENTS);
 }
 
 /* A good sheet whose order no times keep. */
@@ -236,6 +245,7 @@ static void check_no_order(struct random *random, const struct tables *tables)
         times[j] = between(random, -TUZHELAR_LAST_TIME, TUZHELAR_LAST_TIME);
     }
     expect(try_test(random, times, (size_t)tables->triggers) == TUZHELAR_ORDER, "the kept table is 8 and testing is not");
+    check_latest_refused(random, &text, times, (size_t)tables->triggers, TUZHELAR_ORDER);
 }
 
 /* The kept table's words: sizes and bits fit the sheet. */
@@ -380,6 +390,9 @@ static void check_planned(struct random *random, const struct tables *tables, co
     if (wrong == NULL) {
         check_times(random, tables, lines, count, kept->words[0]);
     }
+    if (wrong == NULL) {
+        check_latest(random, &text, tables, lines, count, kept->words[0]);
+    }
 }
 
 /* A sheet that reading takes. */
@@ -492,6 +505,8 @@ static void print_met(void)
            met.planned, met.too_small);
     printf("times: yes: %" PRIu64 ", no: %" PRIu64 ", 8: %" PRIu64 ", 10: %" PRIu64 ", 11: %" PRIu64 "\n", met.tested[TUZHELAR_YES],
            met.tested[TUZHELAR_NO], met.tested[TUZHELAR_ORDER], met.tested[TUZHELAR_COMPONENTS], met.tested[TUZHELAR_TIME]);
+    printf("latest times: found: %" PRIu64 ", of these as given: %" PRIu64 ", by the meaning alone: %" PRIu64 "; 9: %" PRIu64 "\n",
+           met_latest.found, met_latest.given, met_latest.by_meaning, met_latest.too_small);
     for (i = 0; i < 10; i++) {
         refused_first += met.compared[i];
         refused_second += met.compared[TUZHELAR_SECOND + i];
@@ -520,7 +535,8 @@ int main(int argc, char **argv)
     space_area = make_area(PROGRAM_WORDS * sizeof(int32_t));
     answer_area = make_area(ANSWER_WORDS * sizeof(int64_t));
     times_area = make_area(MOST_TIMES * sizeof(int64_t));
-    if (!guarded(&sheet_area) || !guarded(&space_area) || !guarded(&answer_area) || !guarded(&times_area) || !make_pairs()) {
+    if (!guarded(&sheet_area) || !guarded(&space_area) || !guarded(&answer_area) || !guarded(&times_area) || !make_latest() ||
+        !make_pairs()) {
         fprintf(stderr, "fuzz: the pages around the memory lent are not guarded\n");
         return 2;
     }

@@ -16,14 +16,10 @@ int keeps_order(const struct tables *tables, const int64_t *times)
     return 1;
 }
 
-int64_t deviation(const struct tables *tables, const int64_t *times)
+int64_t early(const struct tables *tables, const int64_t *times)
 {
-    int64_t late = NONE, early = NONE;
+    int64_t early = NONE;
     int i, j;
-    for (j = 0; j < tables->triggers; j++) {
-        int64_t by = times[j] - tables->due[j];
-        late = by > late ? by : late;
-    }
     for (i = 0; i < tables->panels; i++) {
         int64_t landing = NONE;
         if (tables->floor[i] == NONE) {
@@ -36,7 +32,18 @@ int64_t deviation(const struct tables *tables, const int64_t *times)
         }
         early = tables->floor[i] - landing > early ? tables->floor[i] - landing : early;
     }
-    return late + early;
+    return early;
+}
+
+int64_t deviation(const struct tables *tables, const int64_t *times)
+{
+    int64_t late = NONE;
+    int j;
+    for (j = 0; j < tables->triggers; j++) {
+        int64_t by = times[j] - tables->due[j];
+        late = by > late ? by : late;
+    }
+    return late + early(tables, times);
 }
 
 /* The largest sums over ever more triggers on the way. */

@@ -7,6 +7,9 @@
 /* Whether times keep every after rule. */
 int keeps_order(const struct tables *tables, const int64_t *times);
 
+/* The largest p(i) - y(i) over panels with a floor. */
+int64_t early(const struct tables *tables, const int64_t *times);
+
 int64_t deviation(const struct tables *tables, const int64_t *times);
 
 /* Whether the after rules have a circle that adds up to more than 0. */

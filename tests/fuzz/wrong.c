@@ -6,7 +6,7 @@
 
 #include "tuzhelar.h"
 
-#define FAULTS 33
+#define FAULTS 44
 
 uint32_t __real_tuzhelar_plan(const uint8_t *sheet, size_t sheet_length, int32_t *space, size_t space_length, int64_t *answer,
                               size_t answer_length);
@@ -21,6 +21,11 @@ uint32_t __real_tuzhelar_same(const uint8_t *first, size_t first_length, const u
                               size_t left_length, int32_t *right, size_t right_length, int64_t *answer, size_t answer_length);
 uint32_t __wrap_tuzhelar_same(const uint8_t *first, size_t first_length, const uint8_t *second, size_t second_length, int32_t *left,
                               size_t left_length, int32_t *right, size_t right_length, int64_t *answer, size_t answer_length);
+
+uint32_t __real_tuzhelar_latest(const uint8_t *sheet, size_t sheet_length, const int64_t *times, size_t times_length, int32_t *space,
+                                size_t space_length, int64_t *answer, size_t answer_length);
+uint32_t __wrap_tuzhelar_latest(const uint8_t *sheet, size_t sheet_length, const int64_t *times, size_t times_length, int32_t *space,
+                                size_t space_length, int64_t *answer, size_t answer_length);
 
 static volatile uint8_t read_byte;
 
@@ -196,6 +201,58 @@ uint32_t __wrap_tuzhelar_same(const uint8_t *first, size_t first_length, const u
     }
     if (fault(33) && second_length > 0) {
         read_byte = second[second_length]; /* a byte past the second sheet */
+    }
+    return number;
+}
+
+/* Faults of the latest times that were found. */
+static void wrong_times(const int64_t *times, size_t n, int32_t *space, int64_t *answer)
+{
+    size_t j;
+    for (j = 0; j < n; j++) {
+        if (fault(34)) {
+            answer[1 + j] = times[j]; /* the times that were given */
+        }
+        if (fault(35)) {
+            answer[1 + j]--; /* tightest, and not the latest */
+        }
+    }
+    if (fault(36)) {
+        answer[n]++; /* one time later */
+    }
+    if (fault(37) && n < TUZHELAR_MOST) {
+        answer[1 + n] = 1; /* an unused one */
+    }
+    if (fault(38)) {
+        answer[0]--; /* a line not counted */
+    }
+    if (fault(39)) {
+        space[TUZHELAR_LINE_WORDS * answer[0] - 1]++; /* another list than planning's */
+    }
+}
+
+uint32_t __wrap_tuzhelar_latest(const uint8_t *sheet, size_t sheet_length, const int64_t *times, size_t times_length, int32_t *space,
+                                size_t space_length, int64_t *answer, size_t answer_length)
+{
+    uint32_t number = reading(sheet, sheet_length, __real_tuzhelar_latest(sheet, sheet_length, times, times_length, space, space_length,
+                                                                          answer, answer_length));
+    if (number == TUZHELAR_DONE && answer_length >= TUZHELAR_LATEST_WORDS) {
+        wrong_times(times, times_length, space, answer);
+    }
+    if (fault(40) && number == TUZHELAR_SPACE && answer_length > 1) {
+        answer[1] = 0; /* 9 gives more than the count */
+    }
+    if (fault(41) && number == TUZHELAR_SPACE && space_length > 0) {
+        space[0] = 0; /* 9 writes */
+    }
+    if (fault(42) && number == TUZHELAR_TIME && __real_tuzhelar_kept(sheet, sheet_length, answer, 0) == TUZHELAR_ORDER) {
+        return TUZHELAR_ORDER; /* 8 before 11 */
+    }
+    if (fault(43) && number == TUZHELAR_COMPONENTS && space_length < TUZHELAR_LINE_WORDS) {
+        return TUZHELAR_SPACE; /* 9 before 10 */
+    }
+    if (fault(44) && times_length > TUZHELAR_MOST) {
+        read_byte = (uint8_t)times[0]; /* times that are too many are read */
     }
     return number;
 }

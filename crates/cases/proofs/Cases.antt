@@ -1,6 +1,7 @@
--- Document 01's cases marked P as one table about the operations themselves: for each the sheet, what is lent, what the operation returns and
--- what it leaves. A case holds where the operation's contract allows nothing else. `Learnt` of an operation is its contract as a caller has
--- it: the toolchain reads it from the `ensures` in the source, so that another contract there makes another claim here.
+-- Document 01's cases marked P, and cases of document 02's No. 1, as one table about the operations themselves: for each the sheet, what is
+-- lent, what the operation returns and what it leaves. A case holds where the operation's contract allows nothing else. `Learnt` of an
+-- operation is its contract as a caller has it: the toolchain reads it from the `ensures` in the source, so that another contract there
+-- makes another claim here.
 use mathlib.Core.Path.{_≡_, refl, ap, sym, _∙_}
 use mathlib.Core.Bool.{Bool, true, false, decide}
 use mathlib.Core.List.{List, [], _∷_, _++_}
@@ -44,6 +45,9 @@ use Rattle.sheet.specs.Times.{some-beyond}
 use Rattle.timing.specs.Times.{component}
 use Rattle.timing.specs.declared.Timing.{Timing}
 use Rattle.sheet.specs.Ordered.{ordered}
+use Rattle.sheet.specs.Admitted.{admitted}
+use Rattle.sheet.proofs.Latest.{latest-exists}
+use Rattle.cue.specs.Latest.{fit, made, latest}
 use Rattle.planning.specs.Planning.{planning, space-after, plan-answer}
 use Rattle.keeping.specs.Keeping.{keeping, kept-answer}
 use Rattle.testing.specs.Testing.{answer, testing, test-answer}
@@ -51,18 +55,24 @@ use Rattle.tables.specs.Held.{Says}
 use Rattle.sheet.specs.Meaning as sheets
 use Rattle.keeping.specs.declared.KeptTable.{KeptTable}
 use Rattle.planning.specs.declared.CuePlan.{CuePlan}
+use Rattle.reaching.specs.Reaching.{reaching, reached-space, reach-answer}
+use Rattle.reaching.specs.declared.Reached.{Reached}
 use Rattle.testing.specs.declared.Tested.{Tested}
 use Rattle.testing.specs.declared.Tested.the-variants.{Yes, No}
 use Rattle.testing.proofs.TestLaws.{tested-one, testing-says}
+use Rattle.sheet.proofs.OrderedLaws.{ordered-got}
+use Rattle.sheet.proofs.AdmittedLaws.{admitted-on}
 use Rattle.keeping.proofs.kept_table.Reads as kept_table
 use Rattle.planning.proofs.plan.Reads as plan
 use Rattle.testing.proofs.test_timing.Reads as test_timing
+use Rattle.reaching.proofs.latest_timing.Reads as latest_timing
 
 -- ---- what a case says
 pub data Case : Type 0 where
   plans : (sheet : String) (lent : List ℤ) (answer : CuePlan) (left : List ℤ) → Case
   keeps : (sheet : String) (answer : KeptTable) → Case
   tests : (sheet : String) (times : List ℤ) (answer : Tested) → Case
+  reaches : (sheet : String) (times lent : List ℤ) (answer : Reached) (left : List ℤ) → Case
 
 -- whatever references a caller hands over to these bytes and words: what the contract allows is the case's answer, and what is left
 abbrev pub CaseHolds : Case → Type 0
@@ -73,6 +83,10 @@ CaseHolds (keeps s r) = (κs : Lfts 1) (sheet : RefT (List ℕ)) (q : KeptTable)
 CaseHolds (tests s times r) = (κs : Lfts 1) (sheet : RefT (List ℕ)) (timing : Timing) (rest : List ℤ) (q : Tested) →
     sheet .now ≡ bytes s → timing ≡ record { count = length times; at = times ++ rest } →
     test_timing.Learnt κs (sheet, (timing, tt)) q (sheet, (timing, tt)) → q ≡ r
+CaseHolds (reaches s times lent r left) =
+    (κs : Lfts 2) (sheet : RefT (List ℕ)) (timing : Timing) (rest : List ℤ) (before after : RefT (List ℤ)) (q : Reached) →
+    sheet .now ≡ bytes s → timing ≡ record { count = length times; at = times ++ rest } → before .now ≡ lent →
+    latest_timing.Learnt κs (sheet, (timing, (before, tt))) q (sheet, (timing, (after, tt))) → (q ≡ r) × (after .now ≡ left)
 
 infixr 4 _then_
 pub data Every (P : Case → Type 0) : List Case → Type 0 where
@@ -89,6 +103,19 @@ full c = record { refusal = 9; triggers = 0; deviation = pos 0; steps = 0; selec
 
 abbrev no-plan : ℕ → CuePlan
 no-plan k = record { refusal = k; triggers = 0; deviation = pos 0; steps = 0; selections = 0; count = 0 }
+
+-- lines and timing; 9 and the count needed; any other refusal
+abbrev timing-of-six : List ℤ → Timing
+timing-of-six l = record { count = length l; at = l ++ replicate (6 - length l) (pos 0) }
+
+abbrev reached : ℕ → List ℤ → Reached
+reached c l = record { refusal = 0; count = c; timing = timing-of-six l }
+
+abbrev no-room : ℕ → Reached
+no-room c = record { refusal = 9; count = c; timing = timing-of-six [] }
+
+abbrev not-reached : ℕ → Reached
+not-reached k = record { refusal = k; count = 0; timing = timing-of-six [] }
 
 -- of each panel on the sheet; 0 past them
 abbrev six-of : List ℕ → List ℕ
@@ -128,7 +155,11 @@ one-floor = "panels=2\ntriggers=2\nlag=0,-\nlag=-,0\nfloor=0,-\ndue=0,0\nafter=-
 abbrev whole-case : String
 whole-case = "panels=2\ntriggers=2\nlag=2,0\nlag=4,1\nfloor=5,2\ndue=1,2\nafter=-,-\nafter=-,-\n"
 
--- what document 01 gives of a case, and the definition's value where it gives none
+abbrev whole-lines : List ℤ
+whole-lines = two (negsuc 0) (pos 0) ++ two (pos 0) absent-word
+
+-- what document 01 gives of a case, and the definition's value where it gives none; of reaching, the README's wishes, a timing below the
+-- limit on wishes, and each refusal before the next
 abbrev pub cases : List Case
 cases =
     plans (one-by-one "-") (old 9) (planned 1 (negsuc 4) 1 1 1) (one (pos 0) ++ old 2) ∷
@@ -137,7 +168,7 @@ cases =
     plans (one-by-one "-1") (old 7) (planned 1 (negsuc 4) 1 1 1) (one (pos 0)) ∷
     plans ordered-by (old 14) (planned 2 (pos 0) 2 2 2) (two absent-word (pos 0) ++ two (negsuc 0) (pos 0)) ∷
     plans one-floor (old 15) (planned 2 (pos 0) 1 1 2) (two (pos 0) absent-word ++ two (pos 0) (pos 0) ++ old 1) ∷
-    plans whole-case (old 14) (planned 2 (pos 2) 2 1 2) (two (negsuc 0) (pos 0) ++ two (pos 0) absent-word) ∷
+    plans whole-case (old 14) (planned 2 (pos 2) 2 1 2) whole-lines ∷
     plans whole-case (old 7) (full 2) (old 7) ∷
     plans whole-case (old 13) (full 2) (old 13) ∷
     keeps (one-by-one "-") (kept-triggers (negsuc 4) 1 1 (1 ∷ []) (1 ∷ [])) ∷
@@ -150,6 +181,15 @@ cases =
     tests whole-case (pos 0 ∷ pos 0 ∷ []) Yes ∷
     tests whole-case (pos 0 ∷ pos 1 ∷ []) Yes ∷
     tests whole-case (pos 0 ∷ pos 2 ∷ []) No ∷
+    reaches whole-case (pos 0 ∷ pos 2 ∷ []) (old 15) (reached 2 (pos 0 ∷ pos 1 ∷ [])) (whole-lines ++ old 1) ∷
+    reaches whole-case (pos 1 ∷ pos 2 ∷ []) (old 14) (reached 2 (pos 1 ∷ pos 2 ∷ [])) whole-lines ∷
+    reaches ordered-by (negsuc 999_999_999 ∷ negsuc 999_999_999 ∷ []) (old 14) (reached 2 (negsuc 1_000_000_000 ∷ negsuc 999_999_999 ∷ []))
+    (two absent-word (pos 0) ++ two (negsuc 0) (pos 0)) ∷
+    reaches whole-case (pos 0 ∷ pos 2 ∷ []) (old 13) (no-room 2) (old 13) ∷
+    reaches (one-by-one "1") (pos 0 ∷ []) [] (not-reached 8) [] ∷
+    reaches (one-by-one "1") (pos 1_000_000_001 ∷ []) (old 7) (not-reached 11) (old 7) ∷
+    reaches whole-case (pos 1_000_000_001 ∷ []) (old 7) (not-reached 10) (old 7) ∷
+    reaches "panels=7\n" (pos 0 ∷ []) (old 7) (not-reached 3) (old 7) ∷
     []
 
 -- ---- a case holds by the value of its definition
@@ -157,6 +197,8 @@ abbrev Computed : Case → Type 0
 Computed (plans s lent r left) =
     (plan-answer (planning (bytes s) lent) ≡ r) × (space-after (planning (bytes s) lent) lent ≡ left)
 Computed (keeps s r) = kept-answer (keeping (bytes s)) ≡ r
+Computed (reaches s times lent r left) = (rest : List ℤ) → let o = reaching (bytes s) (length times) (component (times ++ rest)) lent in
+    (reach-answer o ≡ r) × (reached-space o lent ≡ left)
 Computed (tests s times r) = (rest : List ℤ) → test-answer r ≡ testing (bytes s) (length times) (component (times ++ rest))
 
 holds : (c : Case) → Computed c → CaseHolds c
@@ -168,6 +210,14 @@ holds (keeps s r) e = λ κs sheet q b f. f ∙ ap (λ s. kept-answer (keeping s
 holds (tests s times r) e = λ κs sheet timing rest q b t h.
     tested-one q r (h ∙ ap (λ s. testing s (timing .count) (component (timing .at))) b ∙
     ap (λ (t : Timing). testing (bytes s) (t .count) (component (t .at))) t ∙ sym (e rest))
+holds (reaches s times lent r left) e = λ κs sheet timing rest before after q b t l (f, v). let (x, y) = e rest in (
+  f ∙ ap (λ s. reach-answer (reaching s (timing .count) (component (timing .at)) (before .now))) b ∙
+      ap (λ (t : Timing). reach-answer (reaching (bytes s) (t .count) (component (t .at)) (before .now))) t ∙
+      ap (λ l. reach-answer (reaching (bytes s) (length times) (component (times ++ rest)) l)) l ∙ x,
+  v ∙ ap (λ s. reached-space (reaching s (timing .count) (component (timing .at)) (before .now)) (before .now)) b ∙
+      ap (λ (t : Timing). reached-space (reaching (bytes s) (t .count) (component (t .at)) (before .now)) (before .now)) t ∙
+      ap (λ l. reached-space (reaching (bytes s) (length times) (component (times ++ rest)) l) l) l ∙ y,
+)
 
 all-hold : {l : List Case} → Every Computed l → Every CaseHolds l
 all-hold done = done
@@ -204,7 +254,8 @@ whole-ordered = decide-yes (orderly? whole) tt
 
 -- ---- the whole table
 pub cases-hold : Every CaseHolds cases
-unfolding planning space-after keeping kept-byte byte-of kept-count testing tightest? keeps? Keeps same-entry? deviation shortfall ordered orderly? line-words
+unfolding reaching reached-space admitted latest-exists latest made fit planning space-after keeping kept-byte byte-of kept-count
+    testing tightest? keeps? Keeps same-entry? deviation shortfall ordered orderly? line-words
     list-words read sheet.lines sheet.line rows sections checked any ended items item signed value behind literal bytes least leastE steps
     selections lines minimal needed? others combination? asked? met? under-dec fixings walk kept cut serves-as-well floor-panels through pull pullE
     overdue need seed ray candidate candidates no-gain? gain-or mm mv star power idm normal sup supL at line put sift each mapL sum val inv _⊗_
@@ -218,6 +269,8 @@ cases-hold =
     (λ rest. whole-says 0 rest refl true (tightest-cue whole _ .1 (decide-yes (asked 0 rest) tt))) then
     (λ rest. whole-says 1 rest refl true (tightest-cue whole _ .1 (decide-yes (asked 1 rest) tt))) then
     (λ rest. whole-says 2 rest refl false (λ t. decide-of (asked 2 rest) (tightest-cue whole _ .0 t))) then
+    (λ rest. (refl, refl)) then (λ rest. (refl, refl)) then (λ rest. (refl, refl)) then (λ rest. (refl, refl)) then
+    (λ rest. (refl, refl)) then (λ rest. (refl, refl)) then (λ rest. (refl, refl)) then (λ rest. (refl, refl)) then
     done)
   where
     asked : (b : ℕ) (rest : List ℤ) → Dec (Tightest 2 (cue-of whole) (component (pos 0 ∷ pos b ∷ rest)))
@@ -226,4 +279,7 @@ cases-hold =
     whole-says : (b : ℕ) (rest : List ℤ) → some-beyond 2 (component (pos 0 ∷ pos b ∷ rest)) ≡ false → (v : Bool) →
         Says (sheets.Tightest whole (component (pos 0 ∷ pos b ∷ rest))) v →
         answer v ≡ testing (bytes whole-case) 2 (component (pos 0 ∷ pos b ∷ rest))
-    whole-says b rest near v h = testing-says (bytes whole-case) 2 (component (pos 0 ∷ pos b ∷ rest)) whole [] refl refl near whole-ordered v h
+    whole-says b rest near v h =
+        let X = component (pos 0 ∷ pos b ∷ rest) in
+        testing-says (bytes whole-case) 2 X whole []
+        (admitted-on (bytes whole-case) 2 X whole [] refl refl near ∙ ordered-got (bytes whole-case) whole [] refl whole-ordered) v h

@@ -1,2 +1,2 @@
--- Document 01's P cases.
+-- Cases of the operations.
 pub mod Cases

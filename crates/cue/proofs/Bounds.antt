@@ -20,12 +20,14 @@ use Rattle.maxplus.proofs.LineLaws.{at-line}
 use Rattle.cue.specs.Cue.{Cue, timing, overdue, shortfall}
 use Rattle.cue.specs.Method.{Selection, through, pullE, pull, mark, leastE, least, ask, selections, need, seed, ray, candidate}
 use Rattle.cue.specs.Method.{candidates, lines}
+use Rattle.cue.specs.Latest.{made, fit, latest}
 use Rattle.cue.specs.Sizes.{size-limit, line-down}
 use Rattle.cue.specs.Results.{Above, Below, Within, Signed32, Limited, Results}
 use Rattle.cue.proofs.Deviation.{overdue-at, pull-is, due-pull, mv-through, mark-keeps}
 use Rattle.cue.proofs.Candidates.{candidate-of, candidates-normal, selection-trigger, selection-panel, selection-serving}
 use Rattle.cue.proofs.Candidates.{ray-is-from, ray-overdue}
-use Rattle.cue.proofs.Extreme.{in-lines}
+use Rattle.cue.proofs.Extreme.{in-lines, lines-normal}
+use Rattle.cue.proofs.Room.{fit-from, fit-top}
 
 above-num : {k : ℕ} (z : ℤ) → dn z ≤ k + up z → Above k (num z)
 above-num {k} z h = record { above = λ y e. subst (λ y. dn y ≤ k + up y) (num-inj e) h }
@@ -95,6 +97,12 @@ above-supL : {A : Type 0} (l : List A) {k : ℕ} (f : A → E) → ((a : A) → 
 above-supL l f h = record {
   above = λ z e. let (a, ha, r) = supL-at l f (≼-back e) in
       h a ha .above z (≼-anti (supL-ub l f a ha ▸ ≼-of e) r);
+}
+
+below-supL : {A : Type 0} (l : List A) {k : ℕ} (f : A → E) → ((a : A) → In a l → Below k (f a)) → Below k (supL l f)
+below-supL l f h = record {
+  below = λ z e. let (a, ha, r) = supL-at l f (≼-back e) in
+      h a ha .below z (≼-anti (supL-ub l f a ha ▸ ≼-of e) r);
 }
 
 above-⊕ : {k : ℕ} (a b : E) → Above k a → Above k b → Above k (a ⊕ b)
@@ -288,6 +296,30 @@ results-six n L B P np l six =
       candidates = candidate-within n 5 L B P l six np;
       components = line-within n 5 L B P l six np;
     }
+
+-- ---- the latest timing, where G lies from −a to b
+module _ (n : ℕ) (P : Cue) (G : ℕ → ℤ) (a b : ℕ) (g : (j : ℕ) → j < n → Within a b (num (G j))) where
+  pub fit-within : (c : Line n) → In c (lines n P) → Within a b (num (fit n G c))
+  fit-within c hc =
+      let t = lines-normal n P c hc in
+      let l = fit-from n G c t (neg (pos a)) (λ i hi. omega (arith, up-neg (pos a), g i hi .low .above _ refl)) in
+      let h = fit-top n G c t in
+      record {
+        low = above-num _ (omega (arith, l, up-neg (pos a)));
+        high = below-num _ (omega (arith, h, g (t .top) (t .here) .high .below _ refl));
+      }
+
+  -- a line goes down from there
+  pub latest-within : (L B : ℕ) → NoGain n (P .order) → Limited n L B P → n ≤ size-limit →
+      (j : ℕ) → j < n → Within (a + line-down L B) b (num (latest n P G j))
+  unfolding latest made
+  latest-within L B np l six j hj =
+      let part = results-six n L B P np l six .components in
+      record {
+        low = above-val _ (above-supL (lines n P) _ (λ c hc. above-⊗ (num (fit n G c)) (at n c j) (fit-within c hc .low) (part c hc j hj .low)));
+        high = below-val _ (below-supL (lines n P) _
+            (λ c hc. below-more (omega arith) (below-⊗ (num (fit n G c)) (at n c j) (fit-within c hc .high) (part c hc j hj .high))));
+      }
 
 -- ---- signed 32 bits, wherever the largest of the sizes fits
 pub signed32 : {k l : ℕ} {a : E} → k < 2 ^ 31 → l < 2 ^ 31 → Within k l a → Signed32 a

@@ -1,4 +1,4 @@
--- What document 01 says of its method, each a theorem: here only the statements, each with the name of its proof.
+-- What document 01 says of its method, and document 02 of timings, each a theorem: here only the statements, each with the name of its proof.
 -- n triggers, P and Q tables. What is meant (Meaning) stands on one side, what the method finds (Method) on the other; least n P is Δ.
 use mathlib.Core.Path.{_≡_}
 use mathlib.Core.Logic.{_↔_}
@@ -14,6 +14,8 @@ use Rattle.maxplus.specs.Line.{Line, at, ltL}
 use Rattle.maxplus.specs.Normal.{Normal}
 use Rattle.maxplus.specs.Sorted.{Sorted}
 use Rattle.maxplus.specs.Combination.{Weighed, Combination}
+use Rattle.maxplus.specs.Latest.{LatestOf}
+use Rattle.maxplus.proofs.LatestLaws.{latest-one}
 use Rattle.maxplus.proofs.LineLaws.{strict}
 use Rattle.cue.specs.Minimal.{others}
 use Rattle.cue.specs.Cue.{Cue, timing}
@@ -21,6 +23,7 @@ use Rattle.cue.specs.Vectors.{Keeps, deviation, Tightest, Readable}
 use Rattle.cue.specs.Sizes.{size-limit, geometric, line-down}
 use Rattle.cue.specs.Results.{Within, Limited, Signed32, Results}
 use Rattle.cue.specs.Method.{Entries, Selection, least, floor-panels, walk, steps, candidates, lines}
+use Rattle.cue.specs.Latest.{latest}
 use Rattle.cue.proofs.Order.{keeps-iff-unchanged}
 use Rattle.cue.proofs.Deviation.{at-least, least-reached, tightest-least, order-possible}
 use Rattle.cue.proofs.Cone.{Cone}
@@ -31,6 +34,7 @@ use Rattle.cue.specs.Closures.{Common}
 use Rattle.cue.proofs.Closure.{extreme-closure, lines-common, lines-by-closure}
 use Rattle.cue.proofs.Bounds.{results-six, results-32}
 use Rattle.cue.proofs.Weights.{tightest-weighed}
+use Rattle.cue.proofs.Latest.{latest-is}
 use Rattle.cue.proofs.TwoSheets.{lists-equal, written, TightestOf, written-lists-equal}
 
 -- ---- "Timings that keep the order exist exactly when no diagonal entry of powers 1 to n is above 0."
@@ -68,6 +72,14 @@ module _ (n : ℕ) (P : Cue) (R : Readable n P) (np : NoGain n (P .order)) where
   -- ---- demand 2: tightest exactly when whole-number weights, one for each line, make it the largest of weight + line
   pub demand-2 : (X : ℕ → ℤ) → Tightest n P X ↔ Weighed n (lines n P) X
   demand-2 = tightest-weighed n P R np
+
+  -- ---- document 02, No. 1: "the tightest timing none of whose components exceeds the given one and which is at least as late, component
+  -- by component, as every other such timing. One always exists": it is the formula's, and there is no other
+  pub latest-reachable : (G : ℕ → ℤ) → LatestOf n (Tightest n P) G (latest n P G)
+  latest-reachable = latest-is n P R np
+
+  pub latest-unique : (G X : ℕ → ℤ) → LatestOf n (Tightest n P) G X → (j : ℕ) → j < n → X j ≡ latest n P G j
+  latest-unique G X h = latest-one h (latest-is n P R np G)
 
   -- ---- "The list holds each distinct candidate that is no combination of the other distinct candidates, where here weights may also be
   -- absent. … It is sorted by component 1, then 2 and so on, absent lowest."

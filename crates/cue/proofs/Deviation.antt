@@ -34,7 +34,7 @@ short-E absent b (num p) g s e h k = absurd (absent-not (e .1))
 short-E (num a) absent (num p) g s e h k = ≼-absent _
 short-E (num a) (num b) (num p) g s e h k = omega (arith, up-add g b, up-neg a, up-add p (neg a), up-neg b, up-add p (neg b), up-add g s)
 
-swap-E : (b : E) (x y : ℤ) → num x ⊗ b ≼ num y → b ⊗ num (neg y) ≼ num (neg x)
+pub swap-E : (b : E) (x y : ℤ) → num x ⊗ b ≼ num y → b ⊗ num (neg y) ≼ num (neg x)
 unfolding _⊗_
 swap-E absent x y h = ≼-absent _
 swap-E (num b) x y h = omega (arith, up-add x b, up-neg y, up-neg x, up-add b (neg y))

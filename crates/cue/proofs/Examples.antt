@@ -1,4 +1,4 @@
--- Three small sheets, computed from the definitions: what they give is what a changed definition would not.
+-- Four small sheets, computed from the definitions: what they give is what a changed definition would not.
 use mathlib.Core.Path.{_≡_, refl}
 use mathlib.Core.List.{List, [], _∷_}
 use Prim.Native.Nat.{ℕ, zero, suc}
@@ -20,6 +20,7 @@ use Rattle.cue.specs.Minimal.{others, needed?, minimal}
 use Rattle.cue.specs.Cue.{Cue, overdue, shortfall}
 use Rattle.cue.specs.Method.{through, pullE, pull, leastE, least, floor-panels, serves-as-well, cut, walk, fixings, kept, kept-byte}
 use Rattle.cue.specs.Method.{selections, steps, need, seed, ray, candidate, candidates, lines}
+use Rattle.cue.specs.Latest.{made, fit, latest}
 
 -- row 1, 2, … of entries; what is not written is absent
 abbrev row : List E → Vec
@@ -52,6 +53,14 @@ shown n P = (
 abbrev zero-lag : E
 zero-lag = num (pos 0)
 
+-- two times, and the latest that a wish leaves in reach
+abbrev pair : ℤ → ℤ → ℕ → ℤ
+pair a b zero = a
+pair a b (suc j) = b
+
+abbrev reached : Cue → (ℕ → ℤ) → ℤ × ℤ
+reached P G = let X = latest 2 P G in (X 0, X 1)
+
 -- two panels that ask the same of two equal triggers: a trigger that serves the second as well as the first is taken for both
 abbrev alike : Cue
 alike = sheet ((zero-lag ∷ zero-lag ∷ []) ∷ (zero-lag ∷ zero-lag ∷ []) ∷ []) (zero-lag ∷ zero-lag ∷ []) []
@@ -64,11 +73,23 @@ one-floor = sheet ((zero-lag ∷ absent ∷ []) ∷ (absent ∷ zero-lag ∷ [])
 abbrev followed : Cue
 followed = sheet ((absent ∷ zero-lag ∷ []) ∷ []) (zero-lag ∷ []) ((absent ∷ num (pos 1) ∷ []) ∷ [])
 
+-- document 01's whole case, with its due marks; README has the two wishes
+abbrev whole : Cue
+whole = record {
+  panels = 2;
+  lag = table ((num (pos 2) ∷ num (pos 0) ∷ []) ∷ (num (pos 4) ∷ num (pos 1) ∷ []) ∷ []);
+  floor = row (num (pos 5) ∷ num (pos 2) ∷ []);
+  due = pair (pos 1) (pos 2);
+  order = table [];
+}
+
 computed : (shown 2 alike ≡ (pos 0, 3 ∷ 3 ∷ [], 4, 2, (absent, (unit, tt)) ∷ (unit, (absent, tt)) ∷ [])) ×
     (shown 2 one-floor ≡ (pos 0, 1 ∷ 0 ∷ [], 1, 1, (unit, (absent, tt)) ∷ (unit, (unit, tt)) ∷ [])) ×
-    (shown 2 followed ≡ (pos 1, 2 ∷ [], 1, 1, (unit, (num (negsuc 0), tt)) ∷ []))
+    (shown 2 followed ≡ (pos 1, 2 ∷ [], 1, 1, (unit, (num (negsuc 0), tt)) ∷ [])) ×
+    (reached whole (pair (pos 0) (pos 2)) ≡ (pos 0, pos 1)) ×
+    (reached whole (pair (pos 1) (pos 2)) ≡ (pos 1, pos 2))
 unfolding least leastE shortfall through pull pullE overdue kept kept-byte byte-of floor-panels serves-as-well cut walk fixings selections steps need seed ray
     candidate candidates lines minimal needed? others combination? asked? met? under-dec normal star power idm mm mv sup supL each mapL sum
     at line put sift strict same? ltE-cmp ltL-cmp ≼-dec z-dec present-dec all-or all-dec any-dec dec-× dec-→ dec-¬ decLe _⊗_ _⊕_ inv val
-    maxz _+z_ neg
-computed = (refl, refl, refl)
+    maxz _+z_ neg made fit latest
+computed = (refl, refl, refl, refl, refl)

@@ -23,9 +23,12 @@
 --
 -- A test that needs no other line (LocalTest, Closure), and lines that need no walk (Covering): see extreme-closure and lines-covered.
 --
--- Weights (Weights). For a timing x of K and a line l the largest weight that fits, the least x(j) − l(j), is a whole number, as x has no
+-- Weights (Room, Weights). For a timing x of K and a line l the largest weight that fits, the least x(j) − l(j), is a whole number, as x has no
 -- absent component and l not only such; with these weights, one for each line, the lines make x. Conversely whole-number weights for all
 -- lines make a vector of K without absent component, since r is made of the lines.
+--
+-- The latest timing (Room, Latest). Whatever the weights, what the lines make lies below G exactly when each weight fits its line below G,
+-- and larger weights make a later timing. So the largest weights that fit make the latest tightest timing below G.
 --
 -- Two sheets (Cone, TwoSheets). The timings of K determine K: for v in K and any timing g of K, v ⊕ (g − k) is a timing of K for every k; if
 -- it is in the other cone for every k, so is v, since the conditions are inequalities and the part with −k falls below every number. Equal
@@ -42,10 +45,13 @@ pub mod Extreme
 pub mod LocalTest
 pub mod Closure
 pub mod Covering
+pub mod Room
+pub mod Weights
+pub mod Latest
 pub mod Bounds
 pub mod Few
 pub mod WrittenLaws
-pub mod Weights
+pub mod StandingLaws
 pub mod TwoSheets
 pub mod Demands
 pub mod Examples

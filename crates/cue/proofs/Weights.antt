@@ -1,67 +1,49 @@
 -- A timing is tightest exactly when whole-number weights, one for every line, make it the largest of weight + line.
 -- The weight of a line is the largest that fits; it is a number because a line has a component that is there.
-use mathlib.Core.Path.{_≡_, refl, ap, sym, _∙_}
+use mathlib.Core.Path.{_≡_, refl, ap, _∙_}
 use mathlib.Core.Logic.{_↔_}
 use mathlib.Core.List.{List}
-use Prim.Native.Nat.{ℕ, _<_}
-use native.Mathlib.Omega.{arith}
+use Prim.Native.Nat.{ℕ}
 use lib.IntN.{ℤ}
-use Rattle.maxplus.specs.Whole.{neg}
-use Rattle.maxplus.specs.Entry.{E, absent, num, _≼_, _⊗_, Present, val}
+use Rattle.maxplus.specs.Whole.{_≤z_, _+z_, neg}
+use Rattle.maxplus.specs.Entry.{num, _≼_, _⊗_, inv}
 use Rattle.maxplus.specs.Finite.{In}
-use Rattle.maxplus.specs.Tables.{sup, supL, NoGain}
+use Rattle.maxplus.specs.Tables.{NoGain}
 use Rattle.maxplus.specs.Line.{Line, at}
 use Rattle.maxplus.specs.Normal.{Normal}
 use Rattle.maxplus.specs.Combination.{Weighed}
-use Rattle.maxplus.proofs.WholeLaws.{up-add, up-neg}
-use Rattle.maxplus.proofs.EntryLaws.{_▸_, ≼-anti, ≼-absent, ≼-of, ≼-back, ⊗-unit, val-of}
-use Rattle.maxplus.proofs.SupLaws.{sup-ub, sup-lub, supL-ub, supL-lub}
-use Rattle.maxplus.proofs.CombinationLaws.{Span}
+use Rattle.maxplus.proofs.WholeLaws.{z-refl}
+use Rattle.maxplus.proofs.EntryLaws.{_▸_, ≼-anti, ≼-of, ≼-back, ⊗-left, num-≼, num-⊗, inv-num}
+use Rattle.maxplus.proofs.SupLaws.{supL-ub, supL-lub}
+use Rattle.maxplus.proofs.CombinationLaws.{weight-fits, weight-meets, Under, Span}
 use Rattle.cue.specs.Cue.{Cue, timing}
 use Rattle.cue.specs.Vectors.{Tightest, Readable}
 use Rattle.cue.specs.Method.{lines}
+use Rattle.cue.specs.Latest.{fit}
 use Rattle.cue.proofs.Cone.{tightest-cone}
 use Rattle.cue.proofs.Extreme.{lines-normal, lines-meet, cone-combination-of-lines}
-
-fits-E : (c : E) (x s : ℤ) → c ⊗ num (neg x) ≼ num s → num (neg s) ⊗ c ≼ num x
-unfolding _⊗_
-fits-E absent x s h = ≼-absent _
-fits-E (num c) x s h = omega (arith, up-neg x, up-add c (neg x), up-neg s, up-add (neg s) c)
-
-meets-E : (ci cj : E) (xi xj : ℤ) → ci ⊗ num xj ≼ num xi ⊗ cj → ci ⊗ num (neg xi) ≼ cj ⊗ num (neg xj)
-unfolding _⊗_
-meets-E absent cj xi xj h = ≼-absent _
-meets-E (num ci) absent xi xj h = absurd (h .un)
-meets-E (num ci) (num cj) xi xj h = omega (arith, up-add ci xj, up-add xi cj, up-neg xi, up-neg xj, up-add ci (neg xi), up-add cj (neg xj))
-
-meet-E : (c : E) (x s : ℤ) → Present c → num s ≼ c ⊗ num (neg x) → num x ≼ num (neg s) ⊗ c
-unfolding _⊗_
-meet-E absent x s p h = absurd (h .un)
-meet-E (num c) x s p h = omega (arith, up-neg x, up-add c (neg x), up-neg s, up-add (neg s) c)
+use Rattle.cue.proofs.Room.{fit-largest}
 
 module _ (n : ℕ) where
-  weigh : (L : List (Line n)) → ((c : Line n) → In c L → Normal n c) → (X : ℕ → ℤ) → Span n L (timing X) → Weighed n L X
-  weigh L nL X s = record { weight = λ c. neg (slack c); is = λ j hj. ≼-anti (up-to j hj) (supL-lub L _ (λ c hc. fit c hc j hj)) }
+  -- a line that lies below X, shifted to meet it at j, meets it there with the weight that fits
+  fit-meets : (X : ℕ → ℤ) (c : Line n) → Normal n c → (j : ℕ) (a : ℤ) → at n c j ≡ num a → Under n j c (timing X) →
+      num (X j) ≼ num (fit n X c) ⊗ at n c j
+  fit-meets X c t j a ea u = ≼-back (weight-meets (at n c j) (num (X j)) (a, ea)) ▸ ⊗-left _ (≼-of ew ▸ num-≼ fits)
     where
-      slackE : Line n → E
-      slackE c = sup n (λ i. at n c i ⊗ num (neg (X i)))
+      ew : num (X j) ⊗ inv (at n c j) ≡ num (X j +z neg a)
+      ew = ap (λ e. num (X j) ⊗ inv e) ea ∙ ap (λ e. num (X j) ⊗ e) (inv-num a) ∙ num-⊗ (X j) (neg a)
 
-      slack : Line n → ℤ
-      slack c = val (slackE c)
+      fits : X j +z neg a ≤z fit n X c
+      fits = fit-largest n X c t (X j +z neg a) .0
+          (λ i hi. ⊗-left _ (≼-back ew) ▸ weight-fits (at n c i) (at n c j) (num (X i)) (num (X j)) (u i hi))
 
-      slack-is : (c : Line n) → In c L → slackE c ≡ num (slack c)
-      slack-is c hc = let t = nL c hc in
-          val-of (slackE c) (≼-of (sym (⊗-unit _) ∙ ap (λ e. e ⊗ num (neg (X (t .top)))) (sym (t .zero-there))) ▸
-          sup-ub n (λ i. at n c i ⊗ num (neg (X i))) (t .top) (t .here))
-
-      fit : (c : Line n) → In c L → (j : ℕ) → j < n → num (neg (slack c)) ⊗ at n c j ≼ num (X j)
-      fit c hc j hj = fits-E (at n c j) (X j) (slack c) (sup-ub n (λ i. at n c i ⊗ num (neg (X i))) j hj ▸ ≼-of (slack-is c hc))
-
-      up-to : (j : ℕ) → j < n → num (X j) ≼ supL L (λ c. num (neg (slack c)) ⊗ at n c j)
-      up-to j hj = let (c, hc, pc, lc) = s j hj (X j, refl) in
-          (meet-E (at n c j) (X j) (slack c) pc (≼-back (slack-is c hc) ▸
-          sup-lub n _ (λ i hi. meets-E (at n c i) (at n c j) (X i) (X j) (lc i hi)))) ▸
-          supL-ub L (λ c. num (neg (slack c)) ⊗ at n c j) c hc
+  weigh : (L : List (Line n)) → ((c : Line n) → In c L → Normal n c) → (X : ℕ → ℤ) → Span n L (timing X) → Weighed n L X
+  weigh L nL X s = record {
+    weight = fit n X;
+    is = λ j hj. let (c, hc, (a, ea), u) = s j hj (X j, refl) in
+        ≼-anti (fit-meets X c (nL c hc) j a ea u ▸ supL-ub L (λ c. num (fit n X c) ⊗ at n c j) c hc)
+        (supL-lub L _ (λ c hc. fit-largest n X c (nL c hc) (fit n X c) .1 (z-refl _) j hj));
+  }
 
 module _ (n : ℕ) (P : Cue) (R : Readable n P) (np : NoGain n (P .order)) where
   pub tightest-weighed : (X : ℕ → ℤ) → Tightest n P X ↔ Weighed n (lines n P) X

@@ -4,7 +4,9 @@ pub mod Cue
 pub mod Vectors
 pub mod Method
 pub mod Written
+pub mod Latest
 pub mod Sizes
 pub mod Results
+pub mod Standing
 pub mod Closures
 pub mod Visited

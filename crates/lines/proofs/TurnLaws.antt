@@ -8,7 +8,7 @@ use lib.ListN.{length, drop, length-append}
 use Rattle.maxplus.specs.Line.{Line}
 use Rattle.cue.specs.Cue.{Cue}
 use Rattle.cue.specs.Method.{lines}
-use Rattle.cue.specs.Written.{line-size, list-words}
+use Rattle.cue.specs.Written.{line-size, list-words, with-list}
 use Rattle.cue.proofs.WrittenLaws.{list-words-length}
 use Rattle.tables.specs.Lines.{line-of, Sized}
 use Rattle.candidates.specs.declared.Marks.{Marks}
@@ -25,7 +25,7 @@ use Rattle.lines.proofs.ListingLaws.{above-blank, filled-few, filled-al
 use Rattle.cue.specs.Sizes.{most-lines}
 
 -- words at the front
-laid-front : (before : List ℤ) (n : ℕ) (L : List (Line n)) → laid before 0 (list-words n L) ≡ list-words n L ++ drop (line-size * length L) before
+laid-front : (before : List ℤ) (n : ℕ) (L : List (Line n)) → laid before 0 (list-words n L) ≡ with-list n L before
 unfolding laid
 laid-front before n L = let e : 0 + length (list-words n L) ≡ line-size * length L = omega (arith, list-words-length n L) in
     ap (λ k. list-words n L ++ drop k before) e

@@ -1,11 +1,11 @@
 -- How the list stands in the lent space, or does not fit.
 use mathlib.Core.Path.{_≡_}
-use mathlib.Core.List.{List, _++_}
-use Prim.Native.Nat.{ℕ, _*_, _/_, _≤_, _<_}
+use mathlib.Core.List.{List}
+use Prim.Native.Nat.{ℕ, _/_, _≤_, _<_}
 use lib.IntN.{ℤ}
-use lib.ListN.{length, drop}
+use lib.ListN.{length}
 use Rattle.maxplus.specs.Line.{Line}
-use Rattle.cue.specs.Written.{line-size, list-words}
+use Rattle.cue.specs.Written.{line-size, with-list}
 use Rattle.lines.specs.declared.Listed.{Listed}
 use Rattle.lines.specs.declared.Listed.the-variants.{Lines, NoRoom}
 
@@ -13,5 +13,5 @@ use Rattle.lines.specs.declared.Listed.the-variants.{Lines, NoRoom}
 -- changes
 abbrev pub Answers : (n : ℕ) → List (Line n) → List ℤ → List ℤ → Listed → Type 0
 Answers n L before after (Lines k) = (k ≡ length L) × (length L ≤ length before / line-size) ×
-    (after ≡ list-words n L ++ drop (line-size * length L) before)
+    (after ≡ with-list n L before)
 Answers n L before after (NoRoom k) = (k ≡ length L) × (length before / line-size < length L) × (after ≡ before)

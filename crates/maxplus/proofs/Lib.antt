@@ -1,5 +1,6 @@
 -- Laws of max-plus algebra, in the order in which one file builds on another.
 pub mod WholeLaws
+pub mod LatestLaws
 pub mod EntryLaws
 pub mod FiniteLaws
 pub mod EachLaws

@@ -1,14 +1,15 @@
 -- Laws of the largest: an upper bound, the least one, and attained. Nothing else is used of it.
 use mathlib.Core.Path.{_≡_, refl, ap, _∙_}
 use mathlib.Core.Logic.{_⊎_, inl, inr}
-use mathlib.Core.List.{List, [], _∷_}
+use mathlib.Core.List.{List, [], _∷_, _++_}
 use Prim.Native.Nat.{ℕ, zero, suc, _<_}
 use native.Mathlib.Omega.{arith}
 use native.Mathlib.Decide.{ℕ-discrete}
 use lib.IntN.{ℤ}
 use Rattle.maxplus.specs.Entry.{E, num, _≼_, _⊗_, _⊕_}
-use Rattle.maxplus.specs.Finite.{In}
+use Rattle.maxplus.specs.Finite.{In, each}
 use Rattle.maxplus.specs.Tables.{sup, supL}
+use Rattle.maxplus.proofs.FiniteLaws.{in-app, in-left, in-right}
 use Rattle.maxplus.proofs.EntryLaws.{_▸_, ≼-anti, ≼-absent, ≼-of, ≼-back, ⊕-l, ⊕-r, ⊕-or, ⊕-lub, ⊗-comm, ⊗-absent, distrib}
 
 pub sup-ub : (n : ℕ) (f : ℕ → E) (j : ℕ) → j < n → f j ≼ sup n f
@@ -82,3 +83,21 @@ module _ {A : Type 0} where
   unfolding supL
   supL-⊗ a [] f = ⊗-absent a
   supL-⊗ a (b ∷ l) f = distrib a (f b) (supL l f) ∙ ap (λ x. a ⊗ f b ⊕ x) (supL-⊗ a l f)
+
+  pub supL-same : (l : List A) {f g : A → E} → ((a : A) → In a l → f a ≡ g a) → supL l f ≡ supL l g
+  supL-same l {f} {g} h = ≼-anti (supL-lub l f (λ a k. ≼-of (h a k) ▸ supL-ub l g a k)) (supL-lub l g (λ a k. ≼-back (h a k) ▸ supL-ub l f a k))
+
+  -- the largest over a list of k places is the largest over its places
+  supL-end : (l : List A) (a : A) (f : A → E) → supL (l ++ a ∷ []) f ≡ f a ⊕ supL l f
+  supL-end l a f = ≼-anti
+      (supL-lub (l ++ a ∷ []) f (λ b h. elim (in-app l (a ∷ []) b h) [
+        | inl i ↦ supL-ub l f b i ▸ ⊕-r _ _
+        | inr i ↦ elim i [ inl e ↦ rw e (⊕-l _ _) | inr j ↦ absurd j ]
+      ]))
+      (⊕-lub (supL-ub (l ++ a ∷ []) f a (in-right l (a ∷ []) a (inl refl)))
+      (supL-lub l f (λ b h. supL-ub (l ++ a ∷ []) f b (in-left l (a ∷ []) b h))))
+
+  pub supL-each : (k : ℕ) (g : ℕ → A) (f : A → E) → supL (each k (λ i. g i ∷ [])) f ≡ sup k (λ i. f (g i))
+  unfolding sup supL each
+  supL-each zero g f = refl
+  supL-each (suc k) g f = supL-end (each k (λ i. g i ∷ [])) (g k) f ∙ ap (λ x. f (g k) ⊕ x) (supL-each k g f)

@@ -36,6 +36,9 @@ up-neg (pos zero) = omega arith
 up-neg (pos (suc n)) = omega arith
 up-neg (negsuc n) = omega arith
 
+pub neg-neg : (a : ℤ) → neg (neg a) ≡ a
+neg-neg a = z-eq _ _ (omega (arith, up-neg a, up-neg (neg a)))
+
 pub z-refl : (a : ℤ) → a ≤z a
 z-refl a = omega arith
 

@@ -8,3 +8,4 @@ pub mod Normal
 pub mod Sorted
 pub mod Above
 pub mod Combination
+pub mod Latest

@@ -28,7 +28,7 @@ use Rattle.sheet.specs.Good.{Good}
 use Rattle.sheet.proofs.Good.{read-good}
 use Rattle.advice.specs.Advice.{advice}
 use Rattle.writing.specs.Texts.{plan-text, refusal-text, full-text}
-use Rattle.writing.specs.Writing.{Stands}
+use Rattle.cue.specs.Standing.{Stands}
 use Rattle.planning.specs.Planning.{PlanOutcome, planned, full, refused, plan-of, planning, space-after, plan-answer}
 use Rattle.sheet.specs.Ordered.{ordered}
 use Rattle.planning.specs.Demands.{Planned}

@@ -7,13 +7,12 @@ use lib.Dec.{eqb}
 use lib.IntN.{ℤ, pos}
 use lib.ListN.{set}
 use lib.Seq.{sets}
-use borrow.Author.Tests.{eq-eqb, ne-eqb}
 use Rattle.sheet.proofs.Decided.{alike?}
 use Rattle.planning.specs.Planning.{planning, plan-answer}
 use Rattle.planning.specs.declared.CuePlan.{CuePlan}
 use Rattle.comparing.specs.Comparing.{Comparison, answer, unlike, first-refused, second-refused, compare-answer, compares, comparing}
 use Rattle.comparing.specs.declared.Compared.{Compared}
-use Rattle.planner_c.specs.Words.{compare-number, needed-words, compare-words}
+use Rattle.planner_c.specs.Words.{compare-number, compare-words}
 use Rattle.cue.specs.Sizes.{most-lines}
 use Rattle.planner_c.specs.Inner.{Counted}
 use Rattle.planner_c.proofs.Few.{count-few}
@@ -35,18 +34,9 @@ counted s₁ s₂ left right e = subst Counted (sym e) (compares-counted (plan-a
     (decide (alike? s₁ s₂)) (count-few s₁ left) (count-few s₂ right))
 
 -- ---- the words
-module _ (lent : List ℤ) where
-  pub two-stored : {a b : List ℤ} {v w : ℤ} (c d : ℕ) → v ≡ pos c → a ≡ set lent 0 v → w ≡ pos d → b ≡ set a 1 w →
-      b ≡ sets lent 0 (pos c ∷ pos d ∷ [])
-  two-stored c d ev ea ew eb = eb ∙ rw (ea, ev, ew) refl
-
-  pub needed-stored : {a : List ℤ} {v : ℤ} (at k c : ℕ) → k ≡ 9 → v ≡ pos c → a ≡ set lent at v → a ≡ needed-words at k c lent
-  unfolding needed-words
-  needed-stored at k c h ev ea = ea ∙ rw (ev, eq-eqb k 9 h) refl
-
-  pub none-needed : (at k c : ℕ) → ¬ (k ≡ 9) → lent ≡ needed-words at k c lent
-  unfolding needed-words
-  none-needed at k c f = rw (ne-eqb k 9 f) refl
+pub two-stored : (lent : List ℤ) {a b : List ℤ} {v w : ℤ} (c d : ℕ) → v ≡ pos c → a ≡ set lent 0 v → w ≡ pos d → b ≡ set a 1 w →
+    b ≡ sets lent 0 (pos c ∷ pos d ∷ [])
+two-stored lent c d ev ea ew eb = eb ∙ rw (ea, ev, ew) refl
 
 -- ---- an answer under another name
 pub counted-as : {r q : Compared} → Counted (compare-answer r) → r ≡ q → Counted (compare-answer q)

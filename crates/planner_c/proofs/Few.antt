@@ -14,10 +14,15 @@ use Rattle.cue.specs.Sizes.{most-lines}
 use Rattle.cue.proofs.Few.{lines-few}
 use Rattle.sheet.specs.Sheet.{Got, got, Sheet, read}
 use Rattle.sheet.specs.Sheet as sheet
-use Rattle.sheet.specs.Cue.{cue-of, Orderly, orderly?}
+use Rattle.sheet.specs.Meaning.{Timing}
+use Rattle.sheet.specs.Cue.{cue-of, Orderly, orderly?, sheet-lines}
+use Rattle.sheet.specs.Admitted.{admitted}
 use Rattle.sheet.proofs.Good.{read-good}
+use Rattle.sheet.proofs.AdmittedLaws.{admitted-as}
 use Rattle.planning.specs.Planning.{planned, full, plan-of, planning, plan-answer}
 use Rattle.keeping.specs.Keeping.{kept-of, keeping, kept-answer}
+use Rattle.reaching.specs.Reaching.{reached, reach-of, reaching, reach-answer}
+use Rattle.reaching.specs.Reaching as reaches
 use Rattle.sheet.specs.Ordered.{ordered}
 use Rattle.cue.specs.Written.{line-size}
 use Rattle.cue.specs.Sizes.{size-limit}
@@ -65,3 +70,19 @@ module _ (s : List ℕ) where
           let n = t .triggers in
           let P = cue-of t in
           rw (length-each {A = ℕ × ℕ} (t .panels) (λ i. (kept-byte n P (least n P) i, kept-count n P (least n P) i))) hm
+
+  pub reach-few : (count : ℕ) (G : Timing) (space : List ℤ) → reach-answer (reaching s count G space) .count ≤ most-lines
+  unfolding reaching
+  reach-few count G space = go (admitted s count G) refl
+    where
+      either : (n : ℕ) (X : Timing) (L : List (Line n)) (b : Bool) → length L ≤ most-lines →
+          reach-answer (cond b (reached n X L) (reaches.full (length L))) .count ≤ most-lines
+      either n X L true h = h
+      either n X L false h = h
+
+      go : (g : Got Sheet) (e : admitted s count G ≡ g) → reach-answer (reach-of s count G (length space / line-size) g e) .count ≤ most-lines
+      go (sheet.refused k) e = omega arith
+      go (got t r) e =
+          let good = read-good s t r (admitted-as s count G t r e .read-is) in
+          either _ _ (sheet-lines t) (leb (length (sheet-lines t)) (length space / line-size))
+          (lines-few (t .triggers) (cue-of t) (good .triggers-few) (good .panels-few))

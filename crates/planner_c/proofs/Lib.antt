@@ -1,5 +1,6 @@
--- How words are stored, how far the numbers of an answer go, the times that are tested, and what comparing answers.
+-- How words are stored, how far the numbers of an answer go, the times that are lent, and what comparing and reaching answer.
 pub mod Storing
 pub mod Few
-pub mod Times
+pub mod TimesLaws
 pub mod CompareLaws
+pub mod ReachLaws

@@ -15,13 +15,13 @@ use Rattle.maxplus.specs.Finite.{each}
 use borrow.Author.Tests.{eq-eqb, ne-eqb}
 use Rattle.keeping.specs.declared.KeptTable.{KeptTable}
 use Rattle.planning.specs.declared.CuePlan.{CuePlan}
-use Rattle.planner_c.specs.Words.{pairs, plan-words, kept-words}
+use Rattle.planner_c.specs.Words.{pairs, plan-words, kept-words, needed-words}
 
 -- a word comes back as it was
 pub back : {z t : ℤ} → mag z < 2 ^ hbits w64 → z ≡ t → toZ w64 (ofZ w64 z) ≡ t
 back h e = toZ-ofZ (record { sfits = h }) ∙ e
 
-sets-append : (vs ws l : List ℤ) (i k : ℕ) → i + length vs ≡ k → sets l i (vs ++ ws) ≡ sets (sets l i vs) k ws
+pub sets-append : (vs ws l : List ℤ) (i k : ℕ) → i + length vs ≡ k → sets l i (vs ++ ws) ≡ sets (sets l i vs) k ws
 sets-append [] ws l i k e = ap (λ k. sets l k ws) (let q : i ≡ k = omega arith in q)
 sets-append (v ∷ vs) ws l i k e = sets-append vs ws (set l i v) (suc i) k (omega arith)
 
@@ -42,6 +42,16 @@ pub panel-more : (lent : List ℤ) {l a z : List ℤ} {v w : ℤ} (m : ℕ) (byt
     v ≡ pos (getD bytes m 0) → a ≡ set l (4 + 2 * m) v → w ≡ pos (getD counts m 0) → z ≡ set a (5 + 2 * m) w →
     z ≡ sets lent 4 (pairs (m + 1) bytes counts)
 panel-more lent m bytes counts el ev ea ew ez = ez ∙ rw (ea, ew, el, ev) (pairs-more lent m bytes counts)
+
+-- ---- a count needed
+module _ (lent : List ℤ) where
+  pub needed-stored : {a : List ℤ} {v : ℤ} (at k c : ℕ) → k ≡ 9 → v ≡ pos c → a ≡ set lent at v → a ≡ needed-words at k c lent
+  unfolding needed-words
+  needed-stored at k c h ev ea = ea ∙ rw (ev, eq-eqb k 9 h) refl
+
+  pub none-needed : (at k c : ℕ) → ¬ (k ≡ 9) → lent ≡ needed-words at k c lent
+  unfolding needed-words
+  none-needed at k c f = rw (ne-eqb k 9 f) refl
 
 -- ---- planning's answer
 module _ (r : CuePlan) (lent : List ℤ) where

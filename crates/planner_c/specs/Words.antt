@@ -7,11 +7,14 @@ use lib.IntN.{ℤ, pos}
 use lib.ListN.{getD}
 use lib.Seq.{sets}
 use Rattle.maxplus.specs.Finite.{each}
+use Rattle.cue.specs.Sizes.{six}
+use Rattle.timing.specs.Times.{component}
 use Rattle.testing.specs.Testing.{TestOutcome, answer, refused}
 use Rattle.keeping.specs.declared.KeptTable.{KeptTable}
 use Rattle.planning.specs.declared.CuePlan.{CuePlan}
 use Rattle.comparing.specs.Comparing.{Comparison, unlike, first-refused, second-refused}
 use Rattle.comparing.specs.Comparing as comparison
+use Rattle.reaching.specs.declared.Reached.{Reached}
 
 -- Words are stored from a place on; one that is past the end is dropped, and the rest stays (`sets`). The words of an answer are results,
 -- which C can return by a pointer only, and not lent space: document 01's "leaves the rest" and "changes no lent byte or word" are about that.
@@ -57,3 +60,8 @@ compare-words (comparison.answer b c d) lent = sets lent 0 (pos c ∷ pos d ∷ 
 compare-words (unlike c d) lent = sets lent 0 (pos c ∷ pos d ∷ [])
 compare-words (first-refused k c) lent = needed-words 0 k c lent
 compare-words (second-refused k c) lent = needed-words 1 k c lent
+
+-- the number of lines and the timing's six components, 0 for the unused ones; for 9 the count needed in the first place
+unfoldable pub reach-words : Reached → List ℤ → List ℤ
+reach-words r lent =
+    cond (eqb (r .refusal) 0) (sets lent 0 (pos (r .count) ∷ six (component (r .timing .at)))) (needed-words 0 (r .refusal) (r .count) lent)

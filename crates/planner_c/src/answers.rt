@@ -2,11 +2,10 @@
 ghost use mathlib.Core.Path.{_≡_};
 ghost use Prim.Native.Nat.{_≤_};
 ghost use lib.IntN.{pos};
-ghost use lib.ListN.{length, set};
+ghost use lib.ListN.{set};
 ghost use lib.Seq.{sets};
-ghost use Rattle.timing.specs.Times.{component};
-ghost use Rattle.planner_c.specs.Words.{pairs, plan-words, kept-words};
-ghost use Rattle.cue.specs.Sizes.{size-limit, six, most-lines};
+ghost use Rattle.planner_c.specs.Words.{pairs, plan-words, kept-words, needed-words};
+ghost use Rattle.cue.specs.Sizes.{size-limit, most-lines};
 use keeping::KeptTable;
 use planning::CuePlan;
 
@@ -36,6 +35,16 @@ pub fn put(lent: &mut [i64], at: usize, v: i64)
 {
     if at < lent.len() {
         lent[at] = v;
+    }
+}
+
+// For 9 the count needed, at a place.
+pub fn put_needed(lent: &mut [i64], at: usize, number: u8, count: usize)
+    requires { ⌜ count ≤ most-lines ⌝ }
+    ensures { λ _. ⌜ now (lent .exit) ≡ needed-words at number count (now (lent .entry)) ⌝ }
+{
+    if number == 9 {
+        put(lent, at, count_word(count));
     }
 }
 
@@ -79,28 +88,4 @@ fn put_panels(lent: &mut [i64], kept: [u8; 6], counts: [u8; 6])
         put(lent, 5 + 2 * i, byte_word(counts[i]));
         i += 1;
     }
-}
-
-// The time at a place, 0 where none is lent.
-fn time(lent: &[i64], j: usize) -> i64
-    ensures { λ r. ⌜ r ≡ component (now (lent .entry)) j ⌝ }
-{
-    if j < lent.len() { lent[j] } else { 0 }
-}
-
-// A timing's six components. More than six are no sheet's, so that they are not read.
-pub fn six_times(lent: &[i64]) -> [i64; 6]
-    ensures { λ r. ⌜ (length (now (lent .entry)) ≤ size-limit → r ≡ six (component (now (lent .entry)))) ⌝ }
-{
-    if lent.len() > 6 {
-        return [0; 6];
-    }
-    [
-        time(lent, 0),
-        time(lent, 1),
-        time(lent, 2),
-        time(lent, 3),
-        time(lent, 4),
-        time(lent, 5),
-    ]
 }

@@ -5,11 +5,12 @@ ghost use Prim.Native.Nat.{_≤_};
 ghost use lib.IntN.{pos};
 ghost use lib.Seq.{sets};
 ghost use Rattle.comparing.specs.Comparing.{compare-answer};
-ghost use Rattle.planner_c.specs.Words.{compare-number, compare-words, needed-words};
+ghost use Rattle.planner_c.specs.Words.{compare-number, compare-words};
 ghost use Rattle.cue.specs.Sizes.{most-lines};
 ghost use Rattle.planner_c.specs.Inner.{Counted};
 use crate::answers::count_word;
 use crate::answers::put;
+use crate::answers::put_needed;
 use comparing::Compared;
 
 // 100, 101 or 102 with the two numbers of lines, or a refusal, to which 200 is added for the second sheet; with 9 goes the count needed.
@@ -48,13 +49,4 @@ fn put_counts(lent: &mut [i64], first: usize, second: usize)
 {
     put(lent, 0, count_word(first));
     put(lent, 1, count_word(second));
-}
-
-fn put_needed(lent: &mut [i64], at: usize, number: u8, count: usize)
-    requires { ⌜ count ≤ most-lines ⌝ }
-    ensures { λ _. ⌜ now (lent .exit) ≡ needed-words at number count (now (lent .entry)) ⌝ }
-{
-    if number == 9 {
-        put(lent, at, count_word(count));
-    }
 }

@@ -1,22 +1,25 @@
 // The operations for C and Rust. Nothing is asked of a length: a word that does not fit an answer is dropped, and as many times are
-// tested as are lent.
+// taken as are lent.
 ghost use mathlib.Core.Path.{_≡_};
 ghost use lib.ListN.{length};
 ghost use Rattle.testing.specs.Testing.{testing};
 ghost use Rattle.planning.specs.Planning.{planning, space-after, plan-answer};
 ghost use Rattle.keeping.specs.Keeping.{keeping, kept-answer};
 ghost use Rattle.comparing.specs.Comparing.{comparing, compared-space};
+ghost use Rattle.reaching.specs.Reaching.{reaching, reached-space, reach-answer};
 ghost use Rattle.timing.specs.Times.{component};
-ghost use Rattle.planner_c.specs.Words.{plan-words, kept-words, test-number, compare-number, compare-words};
-use crate::answers::six_times;
+ghost use Rattle.planner_c.specs.Words.{plan-words, kept-words, test-number, compare-number, compare-words, reach-words};
 use crate::answers::write_kept;
 use crate::answers::write_plan;
 use crate::compared::answer_compared;
+use crate::reached::write_reached;
+use crate::times::lent_timing;
 use testing::Tested;
-use timing::Timing;
 
 mod answers;
 mod compared;
+mod reached;
+mod times;
 
 // 0 or the refusal. The list goes to the front of the space, deviation, steps, selections and count to the answer; for 9 the count alone.
 #[no_mangle]
@@ -47,16 +50,35 @@ pub extern "C" fn tuzhelar_kept(sheet: &[u8], answer: &mut [i64]) -> u32
 pub extern "C" fn tuzhelar_test(sheet: &[u8], times: &[i64]) -> u32
     ensures { λ r. ⌜ r ≡ test-number (testing (now (sheet .entry)) (length (now (times .entry))) (component (now (times .entry)))) ⌝ }
 {
-    let at = six_times(times);
-    let timing = Timing {
-        count: times.len(),
-        at: at,
-    };
-    match testing::test_timing(sheet, timing) {
+    match testing::test_timing(sheet, lent_timing(times)) {
         Tested::Yes => 100,
         Tested::No => 101,
         Tested::Refused(k) => k as u32,
     }
+}
+
+// 0 or the refusal. The list goes to the front of the space, its number of lines and the six components of the latest tightest timing
+// that is no later than the times to the answer; for 9 the count needed alone.
+#[no_mangle]
+pub extern "C" fn tuzhelar_latest(
+    sheet: &[u8],
+    times: &[i64],
+    space: &mut [i32],
+    answer: &mut [i64],
+) -> u32
+    ensures returned { λ r. ⌜ r ≡ reach-answer
+        (reaching (now (sheet .entry)) (length (now (times .entry))) (component (now (times .entry))) (now (space .entry))) .refusal ⌝ }
+    ensures listed { λ r. ⌜ now (space .exit) ≡ reached-space
+        (reaching (now (sheet .entry)) (length (now (times .entry))) (component (now (times .entry))) (now (space .entry)))
+        (now (space .entry)) ⌝ }
+    ensures answered { λ r. ⌜ now (answer .exit) ≡ reach-words (reach-answer
+        (reaching (now (sheet .entry)) (length (now (times .entry))) (component (now (times .entry))) (now (space .entry))))
+        (now (answer .entry)) ⌝ }
+{
+    let wish = lent_timing(times);
+    let r = reaching::latest_timing(sheet, wish, space);
+    write_reached(answer, r);
+    r.refusal as u32
 }
 
 // 100 if the same timings are tightest on both sheets, 101 if they are not, 102 if the numbers of triggers differ; or the first sheet's

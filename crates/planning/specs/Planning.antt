@@ -1,12 +1,12 @@
 -- What planning returns and leaves in the lent space (document 01, "What each operation may refuse").
-use mathlib.Core.List.{List, _++_}
+use mathlib.Core.List.{List}
 use mathlib.Core.Bool.{cond}
-use Prim.Native.Nat.{ℕ, _*_, _/_}
+use Prim.Native.Nat.{ℕ, _/_}
 use lib.Dec.{leb}
 use lib.IntN.{ℤ, pos}
-use lib.ListN.{length, drop}
+use lib.ListN.{length}
 use Rattle.maxplus.specs.Line.{Line}
-use Rattle.cue.specs.Written.{line-size, list-words}
+use Rattle.cue.specs.Written.{line-size, with-list}
 use Rattle.sheet.specs.Sheet.{Got, got, Sheet}
 use Rattle.sheet.specs.Cue.{sheet-least, sheet-steps, sheet-selections, sheet-lines}
 use Rattle.sheet.specs.Ordered.{ordered}
@@ -31,7 +31,7 @@ planning s space = plan-of (length space / line-size) (ordered s)
 
 -- "writes exactly the list at the front of the space and leaves the rest"; "A refusal … changes no lent byte or word."
 unfoldable pub space-after : PlanOutcome → List ℤ → List ℤ
-space-after (planned n D k l L) space = list-words n L ++ drop (line-size * length L) space
+space-after (planned n D k l L) space = with-list n L space
 space-after (full k) space = space
 space-after (refused k) space = space
 

@@ -120,7 +120,7 @@ pub fn prepare(
 }
 
 // A refusal, and nothing made.
-fn not_prepared(refusal: u8) -> Prepared
+pub fn not_prepared(refusal: u8) -> Prepared
     ensures { λ r. ⌜ r .refusal ≡ refusal ⌝ }
 {
     let cue = CueWords {

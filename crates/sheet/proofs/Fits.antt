@@ -41,7 +41,7 @@ within-sup : (n : ℕ) {k : ℕ} (f : ℕ → E) → ((j : ℕ) → j < n → Wi
 within-sup n f h = record { low = above-sup n f (λ j q. h j q .low); high = below-sup n f (λ j q. h j q .high) }
 
 -- ---- a timing that is tested
-near : (X : Timing) (n : ℕ) → some-beyond n X ≡ false → (j : ℕ) → j < n → Within far-limit far-limit (num (X j))
+pub near : (X : Timing) (n : ℕ) → some-beyond n X ≡ false → (j : ℕ) → j < n → Within far-limit far-limit (num (X j))
 near X n e j h =
     let b : beyond (X j) ≡ false = rw (each-at n j X (pos 0) h) at (none-at beyond (pos 0) (each n (λ j. X j ∷ [])) j e (rw (length-each n X) h)) in
     let (p, q) = none-or (ltb far-limit (up (X j))) (ltb far-limit (dn (X j))) b in

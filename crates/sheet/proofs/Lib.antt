@@ -3,7 +3,9 @@ pub mod LineLaws
 pub mod SectionLaws
 pub mod Good
 pub mod OrderedLaws
+pub mod AdmittedLaws
 pub mod Seam
 pub mod Demands
 pub mod Decided
 pub mod Fits
+pub mod Latest

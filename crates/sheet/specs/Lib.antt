@@ -8,4 +8,5 @@ pub mod Cue
 pub mod Good
 pub mod Ordered
 pub mod Times
+pub mod Admitted
 pub mod Fits

@@ -1,10 +1,11 @@
--- What a sheet means (document 01, "One cue in one house"). Nothing here knows of star, selections or lines.
+-- What a sheet means (document 01, "One cue in one house", and document 02). Nothing here knows of star, selections or lines.
 use mathlib.Core.Logic.{_↔_}
 use Prim.Native.Nat.{ℕ, _<_}
 use lib.IntN.{ℤ}
 use Rattle.maxplus.specs.Whole.{neg}
 use Rattle.maxplus.specs.Entry.{E, num, _≼_, _⊗_, inv}
 use Rattle.maxplus.specs.Tables.{sup, Vec, mv}
+use Rattle.maxplus.specs.Latest.{LatestOf}
 use Rattle.sheet.specs.Sheet.{Sheet}
 
 -- "A timing is n whole numbers x, milliseconds, of any size": X 0 … X (n − 1), whatever stands past them
@@ -38,6 +39,11 @@ module _ (S : Sheet) where
   pub record Tightest (X : Timing) : Type 0 where
     pub keeps : Keeps X
     pub least : (Y : Timing) → Keeps Y → deviation X ≼ deviation Y
+
+  -- "the tightest timing none of whose components exceeds the given one and which is at least as late, component by component, as every
+  -- other such timing" (document 02, No. 1): X, where G is given
+  abbrev pub Latest : Timing → Timing → Type 0
+  Latest G X = LatestOf triggers Tightest G X
 
 -- "every timing is tightest on both sheets or on neither" (demand 3)
 abbrev pub SameTimings : Sheet → Sheet → Type 0

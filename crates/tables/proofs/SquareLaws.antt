@@ -64,9 +64,9 @@ unfolding sup meantV
 row-none f = record { at = λ j h. rw (blank-word j) entry-zero }
 
 pub row-more : {n : ℕ} {x r : List ℕ} {s : E} {y : Vec} (f : ℕ → Vec) (k : ℕ) → HoldsV n (λ j. sup k (λ k. f k j)) x → Raised n s y x r →
-    ((j : ℕ) → s ⊗ y j ≡ f k j) → HoldsV n (λ j. sup (k + 1) (λ k. f k j)) r
+    ((j : ℕ) → j < n → s ⊗ y j ≡ f k j) → HoldsV n (λ j. sup (k + 1) (λ k. f k j)) r
 unfolding sup
-row-more f k h s e = record { at = λ j i. rw (add-one, ← h .at j i, ← e j) (s .at j i) }
+row-more f k h s e = record { at = λ j i. rw (add-one, ← h .at j i, ← e j i) (s .at j i) }
 
 -- ---- bounds
 pub close-within : {k l : ℕ} {e : E} (c v : ℕ) → entry v ≡ e → k ≤ c → l ≤ c → Within k l e → Close c v

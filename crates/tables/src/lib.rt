@@ -102,7 +102,7 @@ fn row_product(row: [u64; 6], b: &[[u64; 6]; 6], n: usize) -> [u64; 6]
 }
 
 // Raises each place of r to y shifted. Most entries of an after table are absent, and shifting by them adds nothing.
-fn raise(r: &mut [u64; 6], shift: u64, y: [u64; 6], n: usize)
+pub fn raise(r: &mut [u64; 6], shift: u64, y: [u64; 6], n: usize)
     requires { ⌜ (n ≤ size-limit) × Near shift × CloselyV n far y × (length (now r) ≡ 6) ⌝ }
     ensures { λ _. ⌜ Raised n (entry shift) (meantV y) (now (r .entry)) (now (r .exit)) ⌝ }
 {

@@ -15,25 +15,15 @@ pub enum Tested {
 pub fn test_timing(bytes: &[u8], timing: Timing) -> Tested
     ensures { λ r. ⌜ test-answer r ≡ testing (now (bytes .entry)) (timing .count) (component (timing .at)) ⌝ }
 {
-    let reading = reading::read_sheet(bytes);
-    if reading.refusal != 0 {
-        return Tested::Refused(reading.refusal);
-    }
-    let sheet = reading.sheet;
-    if timing.count != sheet.triggers {
-        return Tested::Refused(10);
-    }
-    if timing::limit::beyond(timing, sheet.triggers) {
-        return Tested::Refused(11);
-    }
     let blank = [0u64; 6];
     let mut order = [blank; 6];
     let mut lag = [blank; 6];
     let mut star = [blank; 6];
     let mut gains = [blank; 6];
     let mut needs = [blank; 6];
-    let prepared = preparing::prepare(
-        reading,
+    let prepared = admitting::admit(
+        bytes,
+        timing,
         &mut order,
         &mut lag,
         &mut star,
@@ -41,7 +31,7 @@ pub fn test_timing(bytes: &[u8], timing: Timing) -> Tested
         &mut needs,
     );
     if prepared.refusal != 0 {
-        return Tested::Refused(8);
+        return Tested::Refused(prepared.refusal);
     }
     let cue = prepared.cue;
     let marked = prepared.marked;

@@ -1,18 +1,23 @@
-// The texts that the programs write, put into lent bytes: of a plan, of a kept table, of a refusal. Each function returns the place
-// behind what it wrote. A number has at most 20 bytes, and the room asked for is a round number above the longest text.
+// The texts that the programs write, put into lent bytes: of a plan, of a kept table, of a timing, of a refusal. Each function returns the
+// place behind what it wrote. A number has at most 20 bytes, and the room asked for is a round number above the longest text.
 ghost use mathlib.Core.Path.{_≡_};
 ghost use mathlib.Core.List.{List, [], _∷_};
 ghost use Prim.Native.Nat.{_+_, _*_, _≤_};
+ghost use lib.IntN.{pos};
 ghost use lib.ListN.{length, take, getD};
 ghost use Rattle.maxplus.specs.Finite.{each};
 ghost use Rattle.maxplus.specs.Line.{Line};
-ghost use Rattle.writing.specs.Texts.{plan-text, kept-text, refusal-text, full-text};
-ghost use Rattle.writing.specs.Writing.{Writes, Stands};
+ghost use Rattle.writing.specs.Texts.{plan-text, kept-text, latest-text, refusal-text, full-text};
+ghost use Rattle.cue.specs.Standing.{Stands};
+ghost use Rattle.writing.specs.Writing.{Writes};
 ghost use Rattle.cue.specs.Written.{line-size};
 use crate::lines::put_lines;
 use crate::lines::put_panels;
+use crate::lines::put_times;
 use writing::natural_field;
 use writing::number_field;
+use writing::put_byte;
+use writing::put_bytes;
 
 mod lines;
 
@@ -61,6 +66,16 @@ pub fn kept_text(
     end = put_panels(out, end, panels, kept, counts);
     end = natural_field(out, end, b"steps=", steps);
     natural_field(out, end, b"selections=", selections)
+}
+
+// The text of a timing: 7 bytes of key, at most 126 of times and commas, LF.
+pub fn latest_text(out: &mut [u8], n: usize, times: [i64; 6]) -> usize
+    requires { ⌜ (200 ≤ length (now out)) × (n ≤ 6) ⌝ }
+    ensures { λ r. ⌜ Writes (now (out .exit)) r (latest-text n (λ j. getD times j (pos 0))) ⌝ }
+{
+    let key = put_bytes(out, 0, b"latest=");
+    let end = put_times(out, key, n, times);
+    put_byte(out, end, b'\n')
 }
 
 // The text of a refusal: one field, 8 bytes of key and at most 21 behind it.

@@ -1,32 +1,34 @@
-// Lines of items put at a place of the lent bytes: the plan's lines from their words, a kept table's panels.
+// Items put at a place of the lent bytes: the plan's lines from their words, a kept table's panels, the times of a timing.
 ghost use mathlib.Core.List.{[], _∷_};
-ghost use Prim.Native.Nat.{_+_, _*_, _≤_};
+ghost use Prim.Native.Nat.{_+_, _*_, _≤_, _<_};
+ghost use lib.IntN.{pos};
 ghost use lib.ListN.{length, getD};
 ghost use Rattle.maxplus.specs.Finite.{each};
-ghost use Rattle.writing.specs.Numerals.{item};
-ghost use Rattle.writing.specs.Texts.{line-texts, panel-texts};
-ghost use Rattle.writing.specs.Writing.{Puts, entry, next-item, items, line-at, lines-of};
+ghost use Rattle.writing.specs.Numerals.{numeral};
+ghost use Rattle.writing.specs.Texts.{joined, line-texts, panel-texts};
+ghost use Rattle.cue.specs.Standing.{line-at, lines-of};
+ghost use Rattle.writing.specs.Writing.{Puts, comma, items};
 ghost use Rattle.cue.specs.Written.{line-size};
 use words::LINE_SIZE;
 use writing::put_byte;
 use writing::put_bytes;
 use writing::put_item;
 use writing::put_natural;
+use writing::put_number;
 
-// An item of a line, with a comma before it unless it is the first.
-fn put_next_item(out: &mut [u8], at: usize, j: usize, w: i32) -> usize
-    requires { ⌜ at + 25 ≤ length (now out) ⌝ }
-    ensures { λ r. ⌜ Puts (now (out .entry)) (now (out .exit)) at r (next-item j (item (entry w))) ⌝ }
-    ensures short { λ r. ⌜ r ≤ at + 12 ⌝ }
+// What stands before the j-th item, counted from 0: a comma, unless it is the first.
+fn put_comma(out: &mut [u8], at: usize, j: usize) -> usize
+    requires { ⌜ at < length (now out) ⌝ }
+    ensures { λ r. ⌜ Puts (now (out .entry)) (now (out .exit)) at r (comma j) ⌝ }
+    ensures short { λ r. ⌜ r ≤ at + 1 ⌝ }
 {
     if j == 0 {
-        return put_item(out, at, w);
+        return at;
     }
-    let behind = put_byte(out, at, b',');
-    put_item(out, behind, w)
+    put_byte(out, at, b',')
 }
 
-// The items of the line whose seven words begin at `from`: at most 12 bytes each with the comma, and put_next_item asks 25 for the sixth.
+// The items of the line whose seven words begin at `from`: at most 12 bytes each with the comma, and put_item asks 24 for the sixth.
 fn put_items(out: &mut [u8], at: usize, words: &[i32], from: usize, n: usize) -> usize
     requires { ⌜ (at + 90 ≤ length (now out)) × (n ≤ 6) × (from + line-size ≤ length (now words)) ⌝ }
     ensures { λ r. ⌜ Puts (now (out .entry)) (now (out .exit)) at r (items n (line-at n (now (words .entry)) from)) ⌝ }
@@ -35,7 +37,8 @@ fn put_items(out: &mut [u8], at: usize, words: &[i32], from: usize, n: usize) ->
     let mut end = at;
     let mut j: usize = 0;
     while j < n {
-        end = put_next_item(out, end, j, words[from + 1 + j]);
+        let behind = put_comma(out, end, j);
+        end = put_item(out, behind, words[from + 1 + j]);
         j += 1;
     }
     end
@@ -90,6 +93,22 @@ pub fn put_panels(out: &mut [u8], at: usize, panels: usize, kept: [u8; 6], count
     while i < panels {
         end = put_panel(out, end, kept[i], counts[i]);
         i += 1;
+    }
+    end
+}
+
+// The first n components of a timing: at most 21 bytes each with the comma, and put_number asks 24 for the sixth.
+pub fn put_times(out: &mut [u8], at: usize, n: usize, times: [i64; 6]) -> usize
+    requires { ⌜ (at + 140 ≤ length (now out)) × (n ≤ 6) ⌝ }
+    ensures { λ r. ⌜ Puts (now (out .entry)) (now (out .exit)) at r (joined (each n (λ j. numeral (getD times j (pos 0)) ∷ []))) ⌝ }
+    ensures short { λ r. ⌜ r ≤ at + 126 ⌝ }
+{
+    let mut end = at;
+    let mut j: usize = 0;
+    while j < n {
+        let behind = put_comma(out, end, j);
+        end = put_number(out, behind, times[j]);
+        j += 1;
     }
     end
 }

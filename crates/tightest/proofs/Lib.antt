@@ -1,3 +1,2 @@
--- Laws of the argument's times and of the text that is written.
-pub mod TimesLaws
+-- Laws of the text that is written.
 pub mod OutputLaws

@@ -1,4 +1,2 @@
--- How the argument's times are read, and what the program writes.
-pub mod Times
-pub mod Inner
+-- What the program writes.
 pub mod Output

@@ -10,15 +10,6 @@ use testing::Tested;
 use text::Ends;
 use timing::Timing;
 
-mod argument;
-
-// How many numbers the argument has, and the first six; or that it is no list of numerals.
-pub struct Components {
-    pub numerals: bool,
-    pub count: usize,
-    pub at: [i64; 6],
-}
-
 // What the program writes for a test's answer; the place behind it.
 fn answer(tested: Tested, out: &mut [u8; 64]) -> usize
     ensures { λ r. ⌜ Counts r (now (out .exit)) ⌝ }

@@ -1,5 +1,5 @@
 -- The word of a component that is not beyond the limit.
-use mathlib.Core.Path.{_≡_, sym, _∙_}
+use mathlib.Core.Path.{_≡_}
 use mathlib.Core.Bool.{false}
 use Prim.Native.Nat.{ℕ, _≤_}
 use native.Mathlib.Omega.{arith}
@@ -8,9 +8,8 @@ use lib.Dec.{ltb}
 use lib.IntN.{ℤ}
 use Rattle.maxplus.specs.Whole.{up, dn}
 use Rattle.maxplus.specs.Entry.{num}
-use Rattle.maxplus.proofs.EntryLaws.{num-inj}
 use Rattle.words.specs.Words.{word, entry, Close}
-use Rattle.words.proofs.Laws.{entry-word, close-of}
+use Rattle.words.proofs.Laws.{number-word}
 use Rattle.sheet.proofs.LineLaws.{none-or}
 use Rattle.sheet.specs.Times.{far-limit, beyond}
 
@@ -19,11 +18,5 @@ module _ (x : ℤ) (b : beyond x ≡ false) where
   near = let e = none-or (ltb far-limit (up x)) (ltb far-limit (dn x)) b in (ltb-false _ _ (e .0), ltb-false _ _ (e .1))
 
   -- it stands for the component, and is not far from the word of 0
-  word-is : entry (word (num x)) ≡ num x
-  word-is = entry-word (num x) (λ z e. rw (← num-inj e) (let h = near in omega arith))
-
-  word-close : Close far-limit (word (num x))
-  word-close = close-of far-limit (word (num x)) (λ z e. rw (← num-inj (sym word-is ∙ e)) (let h = near in (omega arith, omega arith)))
-
   pub component-word : (v : ℕ) → v ≡ word (num x) → (entry v ≡ num x) × Close far-limit v
-  component-word v e = rw e (word-is, word-close)
+  component-word v e = number-word far-limit x v (omega arith) (near .0) (near .1) e

@@ -1,9 +1,13 @@
-// A timing's components as words.
+// A timing's components as words, and back.
 ghost use mathlib.Core.Path.{_≡_};
 ghost use mathlib.Core.Bool.{false};
-ghost use Prim.Native.Nat.{_≤_};
+ghost use Prim.Native.Nat.{ℕ, _≤_};
+ghost use lib.IntN.{ℤ};
+ghost use Rattle.cue.specs.Cue.{timing};
 ghost use Rattle.sheet.specs.Times.{some-beyond};
-ghost use Rattle.timing.specs.Times.{component, TimingWords};
+ghost use Rattle.tables.specs.Held.{HoldsV, CloselyV};
+ghost use Rattle.words.specs.Words.{far};
+ghost use Rattle.timing.specs.Times.{component, TimingWords, timing-of};
 ghost use Rattle.cue.specs.Sizes.{size-limit};
 use crate::Timing;
 use words::LineWords;
@@ -21,4 +25,19 @@ pub fn words_of(timing: Timing, n: usize) -> LineWords
         j += 1;
     }
     LineWords { count: n, at: r }
+}
+
+// The timing of the numbers that the first words stand for, 0 past them.
+pub fn numbers_of(x: LineWords) -> Timing
+    requires { ⌜ (x .count ≤ size-limit) × ((X : ℕ → ℤ) × HoldsV (x .count) (timing X) (x .at)) × CloselyV (x .count) far (x .at) ⌝ }
+    ensures { λ r. ⌜ ((X : ℕ → ℤ) → HoldsV (x .count) (timing X) (x .at) → r ≡ timing-of (x .count) X) ⌝ }
+{
+    let n = x.count;
+    let mut at = [0i64; 6];
+    let mut j: usize = 0;
+    while j < n {
+        at[j] = words::number(x.at[j]);
+        j += 1;
+    }
+    Timing { count: n, at: at }
 }

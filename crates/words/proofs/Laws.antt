@@ -173,6 +173,12 @@ unfolding entry
 close-of c zero h = close-none c
 close-of c (suc v) h = let k = h (away (suc v)) refl in let s = up-sub (suc v) bias in record { high = omega arith; low = λ q. omega arith }
 
+-- the word of a number no further from 0 than c
+pub number-word : (c : ℕ) (a : ℤ) (v : ℕ) → c ≤ far → up a ≤ c → dn a ≤ c → v ≡ word (num a) → (entry v ≡ num a) × Close c v
+number-word c a v f h k e =
+    let is = ap entry e ∙ entry-word (num a) (λ z q. let p = ap dn (num-inj q) in omega arith) in
+    (is, close-of c v (λ z q. let p = num-inj (sym is ∙ q) in rw (← p) (omega arith, omega arith)))
+
 pub of-close : (c v : ℕ) → Close c v → (z : ℤ) → entry v ≡ num z → (dn z ≤ c + up z) × (up z ≤ c + dn z)
 unfolding entry
 of-close c zero h z e = absurd (absent-not e)

@@ -6,6 +6,7 @@ ghost use lib.IntN.{pos};
 ghost use Rattle.maxplus.specs.Whole.{up, dn, neg};
 ghost use Rattle.maxplus.specs.Entry.{num, _⊗_, _⊕_, inv, present?, val};
 ghost use Rattle.cue.specs.Written.{signed};
+ghost use Rattle.cue.specs.Standing.{of-signed};
 ghost use Rattle.words.specs.Words.{word, entry, far, signed-far, Close, Near};
 
 // The word of the number 0.
@@ -129,4 +130,15 @@ pub fn signed(a: u64) -> i32
         return (a - BIAS) as i32;
     }
     -((BIAS - a) as i32)
+}
+
+// The entry of a signed word in a lent space.
+pub fn of_signed(a: i32) -> u64
+    ensures is { λ r. ⌜ entry r ≡ of-signed a ⌝ }
+    ensures close { λ r. ⌜ Close signed-far r ⌝ }
+{
+    if a == ABSENT {
+        return 0;
+    }
+    of_number(a as i64)
 }

@@ -7,7 +7,7 @@ use Prim.Native.Nat.{ℕ, suc, _+_, _^_, _≤_, _<_}
 use native.Mathlib.Numerals.{add-one}
 use native.Mathlib.Decide.{ℕ-discrete}
 use native.Mathlib.Omega.{arith}
-use borrow.Author.Tests.{ltb-true, le-ltb, eq-eqb, ne-eqb}
+use borrow.Author.Tests.{ltb-true, le-ltb}
 use lib.IntN.{ℤ, pos, negsuc, natAbs, _-ℤ_}
 use lib.ListN.{length}
 use lib.Signed.{ltZ}
@@ -17,34 +17,25 @@ use mir.Facts.{toZ-ofZ, toZ-pos}
 use Rattle.maxplus.specs.Entry.{absent, num}
 use Rattle.sheet.specs.Text.{bytes}
 use Rattle.writing.specs.Numerals.{natural, numeral, item}
-use Rattle.writing.specs.Writing.{entry}
+use Rattle.cue.specs.Standing.{of-signed}
+use Rattle.cue.proofs.StandingLaws.{of-signed-absent, of-signed-number}
 use Rattle.writing.proofs.NumeralLaws.{signed-length}
 
--- ---- a component's word: absent where it is the least number, and nowhere else
-pub entry-absent : (w : ℤ) → SFits w32 w → ofZ w32 w ≡ 0x8000_0000 → entry w ≡ absent
-unfolding entry
-entry-absent (pos v) f e = let x : ⊥ = omega arith in absurd x
-entry-absent (negsuc v) f e = rw (eq-eqb v 0x7fff_ffff (omega arith))
-
-pub entry-number : (w : ℤ) → SFits w32 w → (ofZ w32 w ≡ 0x8000_0000 → ⊥) → entry w ≡ num w
-unfolding entry
-entry-number (pos v) f n = refl
-entry-number (negsuc v) f n = rw (ne-eqb v 0x7fff_ffff (λ e. n (omega arith)))
-
-entry-or : (w : ℤ) → SFits w32 w → (entry w ≡ absent) ⊎ (entry w ≡ num w)
-entry-or w f = go (ℕ-discrete (ofZ w32 w) 0x8000_0000)
+-- ---- a component's word
+of-signed-or : (w : ℤ) → SFits w32 w → (of-signed w ≡ absent) ⊎ (of-signed w ≡ num w)
+of-signed-or w f = go (ℕ-discrete (ofZ w32 w) 0x8000_0000)
   where
-    go : Dec (ofZ w32 w ≡ 0x8000_0000) → (entry w ≡ absent) ⊎ (entry w ≡ num w)
-    go (yes e) = inl (entry-absent w f e)
-    go (no n) = inr (entry-number w f n)
+    go : Dec (ofZ w32 w ≡ 0x8000_0000) → (of-signed w ≡ absent) ⊎ (of-signed w ≡ num w)
+    go (yes e) = inl (of-signed-absent w f e)
+    go (no n) = inr (of-signed-number w f n)
 
-pub item-32 : (w : ℤ) → SFits w32 w → length (item (entry w)) ≤ 11
+pub item-32 : (w : ℤ) → SFits w32 w → length (item (of-signed w)) ≤ 11
 unfolding bytes
-item-32 w f = ⊎-elim (λ e. rw e (omega arith)) (λ e. rw e (signed-length 9 w (omega (arith, f .sfits)))) (entry-or w f)
+item-32 w f = ⊎-elim (λ e. rw e (omega arith)) (λ e. rw e (signed-length 9 w (omega (arith, f .sfits)))) (of-signed-or w f)
 
 -- a word that is passed on is read back from its bits
-pub item-back : {w : ℤ} → SFits w32 w → item (entry (toZ w32 (ofZ w32 w))) ≡ item (entry w)
-item-back f = ap (λ z. item (entry z)) (toZ-ofZ f)
+pub item-back : {w : ℤ} → SFits w32 w → item (of-signed (toZ w32 (ofZ w32 w))) ≡ item (of-signed w)
+item-back f = ap (λ z. item (of-signed z)) (toZ-ofZ f)
 
 -- ---- a number's sign, as the machine tests and turns it: v is −1 − size, or size
 abbrev back : ℤ → ℤ

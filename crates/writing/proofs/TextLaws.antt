@@ -13,7 +13,8 @@ use Rattle.maxplus.proofs.LineLaws.{at-line}
 use Rattle.sheet.specs.Text.{bytes}
 use Rattle.writing.specs.Numerals.{natural, item}
 use Rattle.writing.specs.Texts.{field, joined, line-texts, panel-texts}
-use Rattle.writing.specs.Writing.{Puts, next-item, items, entry, line-at, lines-of}
+use Rattle.cue.specs.Standing.{of-signed, line-at, lines-of}
+use Rattle.writing.specs.Writing.{Puts, comma, items}
 use Rattle.writing.proofs.PutLaws.{put-nothing, then, put-as}
 use Rattle.cue.specs.Written.{line-size}
 
@@ -52,23 +53,23 @@ module _ (f : ℕ → List ℕ) where
   unfolding joined each
   items-none = refl
 
-  pub items-more : (j : ℕ) → joined (each (suc j) (λ i. f i ∷ [])) ≡ joined (each j (λ i. f i ∷ [])) ++ next-item j (f j)
+  pub items-more : (j : ℕ) → joined (each (suc j) (λ i. f i ∷ [])) ≡ joined (each j (λ i. f i ∷ [])) ++ (comma j ++ f j)
   unfolding joined each
   items-more zero = refl
   items-more (suc j) = joined-more (f (suc j)) (each (suc j) (λ i. f i ∷ [])) (let e = length-each (suc j) f in omega arith)
 
-pub item-behind : (j : ℕ) (v : List ℕ) → ¬ (j ≡ 0) → bytes "," ++ v ≡ next-item j v
-item-behind zero v n = absurd (n refl)
-item-behind (suc j) v n = refl
+pub comma-first : (j : ℕ) → j ≡ 0 → [] ≡ comma j
+comma-first zero e = refl
+comma-first (suc j) e = let x : ⊥ = omega arith in absurd x
 
-pub item-first : (j : ℕ) (v : List ℕ) → j ≡ 0 → v ≡ next-item j v
-item-first zero v e = refl
-item-first (suc j) v e = let x : ⊥ = omega arith in absurd x
+pub comma-behind : (j : ℕ) → ¬ (j ≡ 0) → bytes "," ≡ comma j
+comma-behind zero n = absurd (n refl)
+comma-behind (suc j) n = refl
 
 -- the i-th item of a line is its word's
-pub item-of : (n : ℕ) (ws : List ℤ) (from i : ℕ) → i < n → item (entry (getD ws (from + 1 + i) (pos 0))) ≡ item (at n (line-at n ws from) i)
+pub item-of : (n : ℕ) (ws : List ℤ) (from i : ℕ) → i < n → item (of-signed (getD ws (from + 1 + i) (pos 0))) ≡ item (at n (line-at n ws from) i)
 unfolding line-at
-item-of n ws from i h = ap item (sym (at-line n (λ j. entry (getD ws (from + 1 + j) (pos 0))) i h))
+item-of n ws from i h = ap item (sym (at-line n (λ j. of-signed (getD ws (from + 1 + j) (pos 0))) i h))
 
 -- ---- lines
 pub line-text : (n : ℕ) (c : Line n) → bytes "line=" ++ items n c ++ bytes "\n" ≡ line-texts n (c ∷ [])

@@ -1,4 +1,4 @@
--- The texts that the programs write (document 01, "Whole case"): of a plan, of a kept table, of a refusal.
+-- The texts that the programs write (document 01, "Whole case"): of a plan, of a kept table, of a timing, of a refusal.
 use mathlib.Core.List.{List, [], _∷_, _++_}
 use Prim.Native.Nat.{ℕ}
 use lib.IntN.{ℤ}
@@ -37,6 +37,10 @@ panel-texts (p ∷ P) = field (bytes "kept=") (joined (natural (p .0) ∷ natura
 unfoldable pub kept-text : ℤ → List (ℕ × ℕ) → ℕ → ℕ → List ℕ
 kept-text D P k l =
     field (bytes "deviation=") (numeral D) ++ panel-texts P ++ field (bytes "steps=") (natural k) ++ field (bytes "selections=") (natural l)
+
+-- of the n times of a timing, such as `latest=0,1` (document 02, No. 1)
+unfoldable pub latest-text : ℕ → (ℕ → ℤ) → List ℕ
+latest-text n X = field (bytes "latest=") (joined (each n (λ j. numeral (X j) ∷ [])))
 
 -- "A refusal is written `refused=` and its number, LF"
 unfoldable pub refusal-text : ℕ → List ℕ

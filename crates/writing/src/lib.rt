@@ -4,7 +4,8 @@ ghost use Prim.Native.Nat.{_+_, _<_, _≤_};
 ghost use lib.ListN.{length};
 ghost use Rattle.writing.specs.Numerals.{natural, numeral, item};
 ghost use Rattle.writing.specs.Texts.{field};
-ghost use Rattle.writing.specs.Writing.{Puts, entry};
+ghost use Rattle.cue.specs.Standing.{of-signed};
+ghost use Rattle.writing.specs.Writing.{Puts};
 
 // The word of an absent component.
 const ABSENT: i32 = -0x8000_0000;
@@ -58,7 +59,7 @@ pub fn put_number(out: &mut [u8], at: usize, v: i64) -> usize
 // A component's word, a number or a lone minus for absent: at most 11 bytes.
 pub fn put_item(out: &mut [u8], at: usize, w: i32) -> usize
     requires { ⌜ at + 24 ≤ length (now out) ⌝ }
-    ensures { λ r. ⌜ Puts (now (out .entry)) (now (out .exit)) at r (item (entry w)) ⌝ }
+    ensures { λ r. ⌜ Puts (now (out .entry)) (now (out .exit)) at r (item (of-signed w)) ⌝ }
     ensures short { λ r. ⌜ r ≤ at + 11 ⌝ }
 {
     if w == ABSENT {

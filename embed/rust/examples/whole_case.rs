@@ -1,11 +1,11 @@
-//! The whole case from Rust: plans it, chooses times from its lines, tests them, and compares it with
-//! another sheet.
+//! The whole case from Rust: plans it, chooses times from its lines, tests them, finds the latest that
+//! are no later than wished, and compares it with another sheet.
 //!
 //!     rt staticlib planner_c
 //!     cargo run --offline --manifest-path embed/rust/Cargo.toml --example whole_case
 
 use std::error::Error;
-use tuzhelar::{LINE_WORDS, Refusal, kept, plan, same, test};
+use tuzhelar::{LINE_WORDS, Refusal, kept, latest, plan, same, test};
 
 const SHEET: &[u8] = b"panels=2
 triggers=2
@@ -60,13 +60,14 @@ fn main() -> Result<(), Box<dyn Error>> {
         );
     }
 
-    // Times that were wished need not be tightest. The nearest below them come from the list.
+    // Times that were wished need not be tightest. These are the latest that are, of those no later.
     let wished = [0, 2];
-    let times = planned.latest(&wished).expect("one wish for each trigger");
+    let reached = latest(SHEET, &wished, &mut space)?;
     println!(
-        "wished {wished:?}, tightest {}; instead {times:?}, tightest {}",
+        "wished {wished:?}, tightest {}; instead {:?}, tightest {}",
         test(SHEET, &wished)?,
-        test(SHEET, &times)?
+        reached.times(),
+        test(SHEET, reached.times())?
     );
 
     for (i, panel) in kept(SHEET)?.panels().iter().enumerate() {

@@ -27,6 +27,16 @@ unsafe extern "C" {
         times: *const i64,
         times_length: usize,
     ) -> u32;
+    fn tuzhelar_latest(
+        sheet: *const u8,
+        sheet_length: usize,
+        times: *const i64,
+        times_length: usize,
+        space: *mut i32,
+        space_length: usize,
+        answer: *mut i64,
+        answer_length: usize,
+    ) -> u32;
     fn tuzhelar_same(
         first: *const u8,
         first_length: usize,
@@ -71,6 +81,22 @@ pub fn kept(sheet: &[u8], answer: &mut [i64]) -> u32 {
 pub fn test(sheet: &[u8], times: &[i64]) -> u32 {
     // SAFETY: as in `plan`; both slices are only read.
     unsafe { tuzhelar_test(sheet.as_ptr(), sheet.len(), times.as_ptr(), times.len()) }
+}
+
+pub fn latest(sheet: &[u8], times: &[i64], space: &mut [i32], answer: &mut [i64]) -> u32 {
+    // SAFETY: as in `plan`; the times are only read.
+    unsafe {
+        tuzhelar_latest(
+            sheet.as_ptr(),
+            sheet.len(),
+            times.as_ptr(),
+            times.len(),
+            space.as_mut_ptr(),
+            space.len(),
+            answer.as_mut_ptr(),
+            answer.len(),
+        )
+    }
 }
 
 pub fn same(

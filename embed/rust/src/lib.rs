@@ -1,6 +1,6 @@
 //! Tuzhelar, the proved planner for surtitle cues, behind safe functions.
 //!
-//! The four operations are proved, from the bytes of a sheet to the words written; this crate only calls
+//! The five operations are proved, from the bytes of a sheet to the words written; this crate only calls
 //! them (`ffi`) and gives names to the words. Slices of any length and content have an answer.
 //!
 //! `rt staticlib planner_c` writes the library that is linked; `build.rs` says where it is looked for.
@@ -18,7 +18,7 @@
 //!
 //! // Times that were wished, and the latest tightest ones that are not later.
 //! assert_eq!(tuzhelar::test(sheet, &[0, 2]), Ok(false));
-//! assert_eq!(plan.latest(&[0, 2]), Some(vec![0, 1]));
+//! assert_eq!(tuzhelar::latest(sheet, &[0, 2], &mut space)?.times(), [0, 1]);
 //!
 //! // Whether the same times are tightest on another sheet, here the same with its panels exchanged.
 //! let other = b"panels=2\ntriggers=2\nlag=4,1\nlag=2,0\nfloor=2,5\ndue=1,2\nafter=-,-\nafter=-,-\n";
@@ -29,10 +29,12 @@
 #![deny(missing_docs, unsafe_code)]
 
 mod ffi;
+mod latest;
 mod plan;
 mod refusal;
 mod same;
 
+pub use latest::{Latest, latest};
 pub use plan::{Line, Plan};
 pub use refusal::Refusal;
 pub use same::{Compared, Likeness, SheetRefusal};

@@ -105,27 +105,6 @@ impl<'a> Plan<'a> {
         }
         times.into_iter().collect()
     }
-
-    /// The latest tightest times of which none is later than wished: each line takes the largest weight that
-    /// lifts no component above its wish. Where the wished times are tightest themselves, these are they.
-    ///
-    /// `None` if there are not as many wishes as triggers, or if a number has no 64-bit form.
-    pub fn latest(&self, wished: &[i64]) -> Option<Vec<i64>> {
-        if wished.len() != self.triggers() {
-            return None;
-        }
-        let weight = |line: Line| {
-            let mut weight = i64::MAX;
-            for (wish, component) in wished.iter().zip(line.components()) {
-                if let Some(component) = component {
-                    weight = weight.min(wish.checked_sub(i64::from(*component))?);
-                }
-            }
-            Some(weight)
-        };
-        let weights: Vec<i64> = self.lines().map(weight).collect::<Option<_>>()?;
-        self.times(&weights)
-    }
 }
 
 impl fmt::Display for Plan<'_> {

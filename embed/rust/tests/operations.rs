@@ -1,7 +1,7 @@
 //! The operations on document 01's cases, and on slices of every length.
 
 use tuzhelar::{KeptPanel, LINE_WORDS, Likeness, Refusal, SHEET_BYTES, SheetRefusal};
-use tuzhelar::{kept, plan, same, test};
+use tuzhelar::{kept, latest, plan, same, test};
 
 const WHOLE: &[u8] =
     b"panels=2\ntriggers=2\nlag=2,0\nlag=4,1\nfloor=5,2\ndue=1,2\nafter=-,-\nafter=-,-\n";
@@ -104,6 +104,7 @@ fn a_sheet_of_any_length() {
         assert_eq!(plan(sheet, &mut space).err(), wanted);
         assert_eq!(kept(sheet).err(), wanted);
         assert_eq!(test(sheet, &[0, 0]).err(), wanted);
+        assert_eq!(latest(sheet, &[0, 0], &mut space).err(), wanted);
         assert!(wanted.is_none() || space == [UNTOUCHED; 14]);
         let (first, second) = (
             wanted.map(SheetRefusal::First),
@@ -238,22 +239,16 @@ fn lines_and_times() {
     assert!(lines.is_sorted());
     assert_eq!(planned.lines().len(), 2);
 
-    // All times from −3 to 3 that are tightest are made from the lines, and those made are tightest.
+    // Times that are made from the lines are tightest.
     for first in -3..=3 {
         for second in -3..=3 {
             let made = planned.times(&[first, second]).unwrap();
             assert_eq!(test(WHOLE, &made), Ok(true));
-            let wished = [first, second];
-            let latest = planned.latest(&wished).unwrap();
-            assert!(latest[0] <= first && latest[1] <= second);
-            assert_eq!(latest == wished, test(WHOLE, &wished).unwrap());
         }
     }
     assert_eq!(planned.times(&[0]), None);
     assert_eq!(planned.times(&[0, 0, 0]), None);
     assert_eq!(planned.times(&[i64::MIN, 0]), None);
-    assert_eq!(planned.latest(&[0]), None);
-    assert_eq!(planned.latest(&[i64::MAX, i64::MAX]), None);
 }
 
 #[test]

@@ -47,7 +47,7 @@ loop-again : tie.Need-loop-again Inv-loop μ-loop
 unfolding meant meantV
 loop-again c =
     let l : tie.At-loop Inv-loop μ-loop = search in
-    (omega arith, c .raise .ensures .size, row-more _ (l .loop .k) (l .loop .inv .2) (c .raise .ensures) (λ j. refl))
+    (omega arith, c .raise .ensures .size, row-more _ (l .loop .k) (l .loop .inv .2) (c .raise .ensures) (λ j h. refl))
 
 returns : tie.Need-returns Inv-loop μ-loop
 returns c = let e : c .before .loop .k ≡ c .before .before .args .n = omega arith in rw e at (c .before .loop .inv .2)

@@ -7,7 +7,8 @@ use mir.Facts.{sfits-widen, toZ-ofZ}
 use Rattle.sheet.specs.Text.{bytes}
 use Rattle.writing.specs.Numerals.{numeral, item}
 use Rattle.writing.proofs.PutLaws.{put-as, put-short}
-use Rattle.writing.proofs.SignedLaws.{entry-absent, entry-number, item-32}
+use Rattle.cue.proofs.StandingLaws.{of-signed-absent, of-signed-number}
+use Rattle.writing.proofs.SignedLaws.{item-32}
 use Rattle.writing.proofs.put_item.Statement.{statement}
 use Rattle.writing.proofs.put_item.Tie as tie
 
@@ -24,7 +25,7 @@ returns c =
     let k : tie.Then1 = search in
     let start : tie.Start = search in
     let f = start .fits .w in
-    put-short (item-32 _ f) (put-as (ap item (sym (entry-absent _ f (k .if1 .taken)))) (at-put-byte .put-byte .ensures))
+    put-short (item-32 _ f) (put-as (ap item (sym (of-signed-absent _ f (k .if1 .taken)))) (at-put-byte .put-byte .ensures))
 
 cast-put-number : tie.Need-cast-put-number
 cast-put-number c = let f = c .before .before .before .fits .w in rw (toZ-ofZ f) (sfits-widen tt f)
@@ -41,7 +42,7 @@ returns-2 c =
     let k : tie.Else1 = search in
     let start : tie.Start = search in
     let f = start .fits .w in
-    let e = entry-number _ f (k .if1 .left) in
+    let e = of-signed-number _ f (k .if1 .left) in
     let back = ap (λ z. toZ w64 (ofZ w64 z)) (toZ-ofZ f) ∙ toZ-ofZ (sfits-widen {w′ = w64} tt f) in
     put-short (item-32 _ f) (put-as (ap numeral back ∙ sym (ap item e)) (at-put-number .put-number .ensures .0))
 

@@ -6,8 +6,8 @@ use lib.IntN.{ℤ, pos}
 use lib.ListN.{getD}
 use mir.Syntax.{w32}
 use mir.Val.{SFits}
-use Rattle.writing.specs.Writing.{next-item, line-at}
-use Rattle.writing.proofs.PutLaws.{put-as}
+use Rattle.cue.specs.Standing.{line-at}
+use Rattle.writing.proofs.PutLaws.{then, put-as}
 use Rattle.writing.proofs.SignedLaws.{item-back}
 use Rattle.writing.proofs.TextLaws.{Grown, grown-none, grown-more, first-items, items-none, items-more, item-of}
 use Rattle.text.proofs.lines.put_items.Statement.{statement}
@@ -22,20 +22,23 @@ abbrev μ-loop : tie.MeasureT-loop
 loop-holds : tie.Need-loop-holds Inv-loop μ-loop
 loop-holds c = (omega arith, grown-none _ 12 _ _ (items-none _) (omega arith))
 
-add-put-next-item : tie.Need-add-put-next-item Inv-loop μ-loop
-add-put-next-item c = omega arith
+put-comma-requires : tie.Need-put-comma-requires Inv-loop μ-loop
+put-comma-requires c κs = omega arith
 
-add-put-next-item-2 : tie.Need-add-put-next-item-2 Inv-loop μ-loop
-add-put-next-item-2 c = omega arith
+add-put-item : tie.Need-add-put-item Inv-loop μ-loop
+add-put-item c = omega arith
 
-mul-put-next-item : tie.Need-mul-put-next-item Inv-loop μ-loop
-mul-put-next-item c = omega arith
+add-put-item-2 : tie.Need-add-put-item-2 Inv-loop μ-loop
+add-put-item-2 c = omega arith
 
-shared-slice-copy-out-put-next-item : tie.Need-shared-slice-copy-out-put-next-item Inv-loop μ-loop
-shared-slice-copy-out-put-next-item c = omega arith
+mul-put-item : tie.Need-mul-put-item Inv-loop μ-loop
+mul-put-item c = omega arith
 
-put-next-item-requires : tie.Need-put-next-item-requires Inv-loop μ-loop
-put-next-item-requires c κs = omega arith
+shared-slice-copy-out-put-item : tie.Need-shared-slice-copy-out-put-item Inv-loop μ-loop
+shared-slice-copy-out-put-item c = omega arith
+
+put-item-requires : tie.Need-put-item-requires Inv-loop μ-loop
+put-item-requires c κs = omega arith
 
 add-j : tie.Need-add-j Inv-loop μ-loop
 add-j c = omega arith
@@ -45,18 +48,20 @@ loop-less c = omega arith
 
 loop-again : tie.Need-loop-again Inv-loop μ-loop
 loop-again c =
-    let at-put-next-item : tie.After-put-next-item Inv-loop μ-loop = search in
-    let at-put-next-item-arg2 : tie.After-put-next-item-arg2 Inv-loop μ-loop = search in
+    let put : tie.After-put-item Inv-loop μ-loop = search in
+    let read : tie.After-put-item-arg2 Inv-loop μ-loop = search in
+    let before : tie.After-put-comma Inv-loop μ-loop = search in
     let k : tie.In-loop Inv-loop μ-loop = search in
     let at-loop : tie.At-loop Inv-loop μ-loop = search in
     let start : tie.Start Inv-loop μ-loop = search in
     let a = start .args in
-    let p = at-put-next-item .put-next-item .ensures in
+    let b = before .put-comma .ensures in
+    let p = put .put-item .ensures in
     let l = at-loop .loop in
     let word : ℤ = getD (a .words .now) (a .from + 1 + l .j) (pos 0) in
-    let f : SFits w32 word = record { sfits = at-put-next-item-arg2 .put-next-item-arg2 .given } in
+    let f : SFits w32 word = record { sfits = read .put-item-arg2 .given } in
     let e = item-back f ∙ item-of (a .n) (a .words .now) (a .from) (l .j) (k .loop-test .taken) in
-    (omega arith, grown-more _ 12 (items-more _ _) (l .inv .1) (put-as (ap (next-item (l .j)) e) (p .0)) (p .1))
+    (omega arith, grown-more _ 12 (items-more _ _) (l .inv .1) (then (b .0) (put-as e (p .0))) (omega (arith, b .1, p .1)))
 
 same-length : tie.Need-same-length Inv-loop μ-loop
 same-length c = c .before .loop .inv .1 .puts .same-length
@@ -74,11 +79,12 @@ put-items-spec =
     Inv-loop
     μ-loop
     loop-holds
-    add-put-next-item
-    add-put-next-item-2
-    mul-put-next-item
-    shared-slice-copy-out-put-next-item
-    put-next-item-requires
+    put-comma-requires
+    add-put-item
+    add-put-item-2
+    mul-put-item
+    shared-slice-copy-out-put-item
+    put-item-requires
     add-j
     loop-less
     loop-again

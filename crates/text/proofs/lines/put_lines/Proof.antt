@@ -3,7 +3,7 @@ use mathlib.Core.Path.{_≡_}
 use Prim.Native.Nat.{_-_, _≤_}
 use native.Mathlib.Omega.{arith}
 use Rattle.writing.specs.Texts.{line-texts}
-use Rattle.writing.specs.Writing.{lines-of}
+use Rattle.cue.specs.Standing.{lines-of}
 use Rattle.writing.proofs.TextLaws.{Grown, grown-none, grown-more, lines-none, lines-more}
 use Rattle.text.proofs.lines.put_lines.Statement.{statement}
 use Rattle.text.proofs.lines.put_lines.Tie as tie

@@ -1,0 +1,2 @@
+-- Laws of the argument's times.
+pub mod TimesLaws

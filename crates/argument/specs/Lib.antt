@@ -1,0 +1,3 @@
+-- How the times that a program is given as an argument are read, and what the functions that read them promise.
+pub mod Times
+pub mod Inner

@@ -1,0 +1,93 @@
+-- Document 02's No. 1 from the bytes to the timing and the words (specs/Promise states it): what is admitted has one latest timing, and the
+-- list is planning's.
+use mathlib.Core.Path.{_≡_, refl, ap, sym, subst, _∙_}
+use mathlib.Core.Bool.{Bool, true, false, cond}
+use mathlib.Core.List.{List}
+use Prim.Native.Nat.{ℕ, _/_, _≤_, _<_}
+use native.Mathlib.Omega.{arith}
+use lib.Dec.{leb}
+use lib.IntN.{ℤ, pos}
+use lib.ListN.{length}
+use Rattle.maxplus.proofs.EachLaws.{each-at}
+use Rattle.cue.specs.Sizes.{size-limit}
+use Rattle.cue.specs.Written.{line-size}
+use Rattle.sheet.specs.Sheet.{Got, got, Sheet}
+use Rattle.sheet.specs.Sheet as sheet
+use Rattle.sheet.specs.Meaning.{Timing}
+use Rattle.sheet.specs.Cue.{sheet-least, sheet-steps, sheet-selections, sheet-lines}
+use Rattle.sheet.specs.Good.{Good}
+use Rattle.sheet.specs.Admitted.{admitted}
+use Rattle.sheet.proofs.AdmittedLaws.{Admits, admitted-as}
+use Rattle.sheet.proofs.Good.{read-good}
+use Rattle.sheet.proofs.Demands.{order-kept}
+use Rattle.sheet.proofs.Latest.{latest-formula, latest-one, latest-same, latest-exists}
+use Rattle.sheet.proofs.OrderedLaws.{ordered-got}
+use Rattle.timing.specs.Times.{component, timing-of}
+use Rattle.timing.proofs.NumberLaws.{first-at}
+use Rattle.planning.specs.Planning.{PlanOutcome, planned, full, plan-of, planning, space-after, plan-answer}
+use Rattle.reaching.specs.Reaching.{ReachOutcome, reached, reaching, reached-space}
+use Rattle.reaching.specs.Reaching as outcome
+use Rattle.reaching.specs.Promise.{Succeeds, timing-reached, Reaches, One-exists, Request-1}
+use Rattle.reaching.proofs.ReachLaws.{reaching-of}
+
+-- the components that are handed back
+component-of : (n : ℕ) (X : Timing) (j : ℕ) → n ≤ size-limit → j < n → X j ≡ component (timing-of n X .at) j
+component-of n X j few h = sym (each-at 6 j _ (pos 0) (omega arith) ∙ first-at X h)
+
+module _ (s : List ℕ) (count : ℕ) (G : Timing) (space : List ℤ) (t : Sheet) (x : List ℕ) (e : admitted s count G ≡ got t x) where
+  abbrev admits : Admits s count G t x
+  admits = admitted-as s count G t x e
+
+  abbrev good : Good t
+  good = read-good s t x (admits .read-is)
+
+  abbrev room : ℕ
+  room = length space / line-size
+
+  abbrev whole : ReachOutcome
+  whole = reached (t .triggers) (latest-exists s count G t x e .0) (sheet-lines t)
+
+  abbrev plan : PlanOutcome
+  plan = planned (t .triggers) (sheet-least t) (sheet-steps t) (sheet-selections t) (sheet-lines t)
+
+  planning-is : planning s space ≡ cond (leb (length (sheet-lines t)) room) plan (full (length (sheet-lines t)))
+  unfolding planning
+  planning-is = ap (plan-of room) (ordered-got s t x (admits .read-is) (admits .orderly))
+
+  handed : (j : ℕ) → j < t .triggers → latest-exists s count G t x e .0 j ≡ timing-reached whole j
+  handed j h = component-of (t .triggers) _ j (good .triggers-few) h
+
+  -- where there is room
+  reaches : planning s space ≡ plan → Reaches s t G space whole
+  unfolding space-after reached-space
+  reaches p =
+      let latest = latest-same t good (admits .orderly) handed (latest-exists s count G t x e .1) in
+      record {
+        latest = latest;
+        only = λ X h j q. latest-one h latest j q;
+        planned = rw p tt;
+        count = ap (λ o. plan-answer o .count) (sym p);
+        list = ap (λ o. space-after o space) (sym p);
+      }
+
+  by-room : Succeeds (reaching s count G space) → Reaches s t G space (reaching s count G space)
+  by-room h = go (leb (length (sheet-lines t)) room) planning-is (reaching-of s count G space e)
+    where
+      go : (b : Bool) → planning s space ≡ cond b plan (full (length (sheet-lines t))) →
+          reaching s count G space ≡ cond b whole (outcome.full (length (sheet-lines t))) → Reaches s t G space (reaching s count G space)
+      go true p q = subst (Reaches s t G space) (sym q) (reaches p)
+      go false p q = absurd (subst Succeeds q h)
+
+same-sheet : {t u : Sheet} {r x : List ℕ} → got t r ≡ got u x → t ≡ u
+same-sheet e = cc
+
+pub request-1 : Request-1
+request-1 s t r count G space q h = go (admitted s count G) refl
+  where
+    go : (g : Got Sheet) → admitted s count G ≡ g → Reaches s t G space (reaching s count G space)
+    go (sheet.refused k) e = absurd (subst Succeeds (reaching-of s count G space e) h)
+    go (got u x) e = subst (λ t. Reaches s t G space (reaching s count G space))
+        (same-sheet (sym (admitted-as s count G u x e .read-is) ∙ q)) (by-room s count G space u x e h)
+
+pub one-exists : One-exists
+one-exists s t r e k G = (_, latest-formula t (read-good s t r e) (order-kept t .0 k) G)

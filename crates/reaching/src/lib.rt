@@ -1,0 +1,72 @@
+// Reaching for the latest tightest timing that is no later than a given one, with the list at the front of the lent space.
+ghost use mathlib.Core.Path.{_≡_};
+ghost use Rattle.timing.specs.Times.{component};
+ghost use Rattle.reaching.specs.Reaching as outcome;
+ghost use Rattle.reaching.specs.Reaching.{reaching, reached-space, reach-answer};
+use crate::weighed::combined;
+use lines::Listed;
+use timing::Timing;
+use timing::times::numbers_of;
+use timing::times::words_of;
+
+mod weighed;
+
+// A refusal, 1 to 8, 10 or 11, and nothing else; 9 and the count needed; or 0, the number of lines and the timing.
+pub struct Reached {
+    pub refusal: u8,
+    pub count: usize,
+    pub timing: Timing,
+}
+
+// The latest tightest timing none of whose components exceeds the wish's, and the sheet's lines at the front of the lent space. Only the
+// first n of the wish's six components are looked at.
+pub fn latest_timing(bytes: &[u8], wish: Timing, space: &mut [i32]) -> Reached
+    ensures answer { λ r. ⌜ r ≡ reach-answer (reaching (now (bytes .entry)) (wish .count) (component (wish .at)) (now (space .entry))) ⌝ }
+    ensures written { λ r. ⌜ now (space .exit) ≡
+        reached-space (reaching (now (bytes .entry)) (wish .count) (component (wish .at)) (now (space .entry))) (now (space .entry)) ⌝ }
+{
+    let blank = [0u64; 6];
+    let mut order = [blank; 6];
+    let mut lag = [blank; 6];
+    let mut star = [blank; 6];
+    let mut gains = [blank; 6];
+    let mut needs = [blank; 6];
+    let prepared = admitting::admit(
+        bytes,
+        wish,
+        &mut order,
+        &mut lag,
+        &mut star,
+        &mut gains,
+        &mut needs,
+    );
+    if prepared.refusal != 0 {
+        return not_reached(prepared.refusal, 0);
+    }
+    let marks = prepared.marked.marks;
+    let within = words_of(wish, marks.triggers);
+    match lines::list(space, marks, &star, &lag, &needs) {
+        Listed::NoRoom(k) => not_reached(9, k),
+        Listed::Lines(k) => Reached {
+            refusal: 0,
+            count: k,
+            timing: numbers_of(combined(space, k, within)),
+        },
+    }
+}
+
+// The answer of a refusal: its number, and with 9 the count needed.
+fn not_reached(refusal: u8, count: usize) -> Reached
+    ensures full { λ r. ⌜ (refusal ≡ 9 → r ≡ reach-answer (outcome.full count)) ⌝ }
+    ensures refused { λ r. ⌜ (count ≡ 0 → r ≡ reach-answer (outcome.refused refusal)) ⌝ }
+{
+    let none = Timing {
+        count: 0,
+        at: [0i64; 6],
+    };
+    Reached {
+        refusal: refusal,
+        count: count,
+        timing: none,
+    }
+}

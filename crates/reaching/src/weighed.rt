@@ -1,0 +1,63 @@
+// The lines in a lent space, each with the largest weight that keeps it within a wish, and the largest of these.
+ghost use mathlib.Core.Path.{_≡_};
+ghost use Prim.Native.Nat.{_+_, _*_, _≤_};
+ghost use lib.ListN.{length};
+ghost use Rattle.maxplus.specs.Entry.{inv};
+ghost use Rattle.maxplus.specs.Line.{at};
+ghost use Rattle.cue.specs.Cue.{overdue};
+ghost use Rattle.cue.specs.Sizes.{size-limit};
+ghost use Rattle.cue.specs.Standing.{line-at, lines-of};
+ghost use Rattle.cue.specs.Written.{line-size};
+ghost use Rattle.sheet.specs.Times.{far-limit};
+ghost use Rattle.words.specs.Words.{entry, signed-far, Near};
+ghost use Rattle.tables.specs.Held.{meantV, HoldsV, CloselyV};
+ghost use Rattle.tables.specs.Lines.{Carries};
+ghost use Rattle.reaching.specs.Inner.{most-within};
+use tables::largest::overdue;
+use tables::raise;
+use words::LINE_SIZE;
+use words::LineWords;
+
+// The line whose seven words begin at a place.
+fn line_at(space: &[i32], from: usize, n: usize) -> LineWords
+    requires { ⌜ (n ≤ size-limit) × (from + line-size ≤ length (now space)) ⌝ }
+    ensures { λ r. ⌜ Carries n signed-far (at n (line-at n (now (space .entry)) from)) r ⌝ }
+{
+    let mut r = [0u64; 6];
+    let mut j: usize = 0;
+    while j < n {
+        r[j] = words::of_signed(space[from + 1 + j]);
+        j += 1;
+    }
+    LineWords { count: n, at: r }
+}
+
+// The least g(j) − l(j), which is minus the largest l(j) − g(j).
+fn weight(wish: [u64; 6], line: [u64; 6], n: usize) -> u64
+    requires { ⌜ (n ≤ size-limit) × CloselyV n far-limit wish × CloselyV n signed-far line ⌝ }
+    ensures is { λ r. ⌜ entry r ≡ inv (overdue n (meantV wish) (meantV line)) ⌝ }
+    ensures near { λ r. ⌜ Near r ⌝ }
+{
+    let past = overdue(wish, line, n);
+    words::minus(words::of_number(0), past)
+}
+
+// The largest of weight + line over the first `count` lines of the space.
+pub fn combined(space: &[i32], count: usize, wish: LineWords) -> LineWords
+    requires { ⌜ (wish .count ≤ size-limit) × (line-size * count ≤ length (now space)) × CloselyV (wish .count) far-limit (wish .at) ⌝ }
+    ensures sized { λ r. ⌜ r .count ≡ wish .count ⌝ }
+    ensures made { λ r. ⌜ HoldsV (wish .count)
+        (most-within (wish .count) (meantV (wish .at)) (lines-of (wish .count) count (now (space .entry)))) (r .at) ⌝ }
+{
+    let n = wish.count;
+    let within = wish.at;
+    let mut most = [0u64; 6];
+    let mut k: usize = 0;
+    while k < count {
+        let line = line_at(space, LINE_SIZE * k, n);
+        let at = line.at;
+        raise(&mut most, weight(within, at, n), at, n);
+        k += 1;
+    }
+    LineWords { count: n, at: most }
+}

@@ -1,0 +1,114 @@
+//! Document 02, No. 1, in plain Rust: "the tightest timing none of whose components exceeds the given
+//! one and which is at least as late, component by component, as every other such timing". It is found
+//! from what a sheet means; of the method it takes the least deviation alone, and no walk or lines.
+//!
+//! Why it is found so. A timing that keeps the order is tightest when x(j) − q(j) + p(i) − y(i) ≤ Δ
+//! for every trigger j and every panel i with a floor. Landing y(i) is a(i,k) + x(k) for some k, so
+//! this says: each such panel has a trigger k with x(j) ≤ x(k) + a(i,k) + q(j) − p(i) + Δ for every j.
+//! So the tightest timings are those that, for one choice of triggers or another, fulfil rules
+//! x(j) ≤ x(k) + c; the after rules are such rules too. Lowering the given times until the rules of a
+//! choice hold gives the latest timing for that choice, or never ends. The one that is asked for is
+//! tightest, so it fulfils the rules of some choice; that choice's latest is no earlier, and no
+//! choice's latest is later, for each is tightest and exceeds no given time. So it is the largest of
+//! them, component by component.
+
+use crate::reference::{self, Line, NoPlan, Sheet, Survey, Tables};
+
+/// "On success the lent space holds the list as after planning"; the count is how much was written.
+#[derive(Clone, Debug, PartialEq, Eq)]
+pub struct Reached {
+    pub count: usize,
+    pub times: Vec<i64>,
+}
+
+/// "The refusals are those of testing, in that order, then 9."
+pub fn latest(sheet: &[u8], given: &[i64], space: &mut [i32]) -> Result<Reached, NoPlan> {
+    let tables = reference::admitted(sheet, given).map_err(NoPlan::Refused)?;
+    let survey = reference::walked(tables);
+    finish(&survey, &survey.lines(), given, space)
+}
+
+/// The end of it, once the list is known.
+pub fn finish(
+    survey: &Survey,
+    lines: &[Line],
+    given: &[i64],
+    space: &mut [i32],
+) -> Result<Reached, NoPlan> {
+    let plan = reference::finish_plan(survey, lines, space)?;
+    Ok(Reached {
+        count: plan.count,
+        times: times(&survey.tables, given),
+    })
+}
+
+fn times(tables: &Tables, given: &[i64]) -> Vec<i64> {
+    let sheet = &tables.sheet;
+    let floors: Vec<usize> = (0..sheet.panels)
+        .filter(|&i| sheet.floor[i].is_some())
+        .collect();
+    let mut rules = order_rules(sheet);
+    let mut latest = vec![i64::MIN; given.len()];
+    choose(tables, &floors, &mut rules, given.to_vec(), &mut latest);
+    latest
+}
+
+/// (j, k, c): x(j) ≤ x(k) + c.
+type Rule = (usize, usize, i64);
+
+/// "x(i) ≥ b(i,j) + x(j)", for every present b(i,j).
+fn order_rules(sheet: &Sheet) -> Vec<Rule> {
+    let n = sheet.triggers;
+    let places = (0..n).flat_map(|i| (0..n).map(move |j| (i, j)));
+    places
+        .filter_map(|(i, j)| sheet.after[i][j].map(|b| (j, i, -b)))
+        .collect()
+}
+
+/// The rules of panel i with trigger k, whose lag is a.
+fn panel_rules(tables: &Tables, i: usize, k: usize, a: i64) -> impl Iterator<Item = Rule> {
+    let due = tables.sheet.due.iter().enumerate();
+    let by = a + tables.deviation - tables.sheet.floor[i].expect("the panel has a floor");
+    due.map(move |(j, q)| (j, k, by + q.expect("due marks are present")))
+}
+
+/// Raises `latest` to the latest times for the rules and any choice of triggers for the panels that are
+/// left, none of them above `x`.
+fn choose(
+    tables: &Tables,
+    floors: &[usize],
+    rules: &mut Vec<Rule>,
+    x: Vec<i64>,
+    latest: &mut [i64],
+) {
+    let Some(x) = lowered(rules, x) else { return };
+    // More rules give no later times than these.
+    if x.iter().zip(&*latest).all(|(x, latest)| x <= latest) {
+        return;
+    }
+    let Some((&i, later)) = floors.split_first() else {
+        (0..x.len()).for_each(|j| latest[j] = latest[j].max(x[j]));
+        return;
+    };
+    for (k, lag) in tables.sheet.lag[i].iter().enumerate() {
+        if let Some(a) = *lag {
+            let before = rules.len();
+            rules.extend(panel_rules(tables, i, k, a));
+            choose(tables, later, rules, x.clone(), latest);
+            rules.truncate(before);
+        }
+    }
+}
+
+/// The latest times that fulfil the rules, none of them above `x`. Without a circle of rules that adds
+/// up to less than 0 a time is lowered along paths that repeat no trigger, so that n rounds are enough;
+/// with one there are no such times.
+fn lowered(rules: &[Rule], mut x: Vec<i64>) -> Option<Vec<i64>> {
+    for _ in 0..x.len() {
+        for &(j, k, c) in rules {
+            x[j] = x[j].min(x[k] + c);
+        }
+    }
+    let fulfilled = rules.iter().all(|&(j, k, c)| x[j] <= x[k] + c);
+    fulfilled.then_some(x)
+}
