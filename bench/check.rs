@@ -34,7 +34,7 @@ impl Tally {
     }
 
     fn compare(&mut self, sheet: &[u8], words: usize) {
-        if let Some(answer) = agreed(sheet, words) {
+        if let Some(answer) = agreed(|side| side.plan, sheet, words) {
             self.codes[answer.code as usize] += 1;
             return;
         }

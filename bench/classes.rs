@@ -1,6 +1,7 @@
 //! What is timed.
 
 use crate::hire;
+use crate::sides::{Side, Work};
 
 /// Where the stored sheets are, from the top of the repository.
 pub const SHEETS: &str = "tests/programs/sheets";
@@ -12,34 +13,52 @@ pub const WHOLE: &str = "whole";
 const HIRE: &str = "hire";
 const HIRED: usize = 1000;
 
-/// Key and name of each class that both sides plan; a key but HIRE is that of a stored sheet.
-const CLASSES: [(&str, &str); 6] = [
-    (WHOLE, "whole case"),
-    (HIRE, "1,000 sheets of request 6"),
-    ("unpruned_distinct", "46,656 selections"),
-    ("unpruned_after", "46,656 selections, after rules"),
-    ("lines_times_selections", "22,500 selections, 22 lines"),
-    ("lines72", "72 lines"),
-];
+/// The planning of a class's sheets, and the latest times asked of them.
+const PLAN: fn(&Side) -> Work = |side| side.plan;
+const LATEST: fn(&Side) -> Work = |side| side.latest;
 
-/// Sheets that are planned one after the other.
+/// Key, name, sheets and work of each class that both sides do; sheets but HIRE are a stored one.
+const CLASSES: [Kind; 8] = [
+    (WHOLE, "whole case", WHOLE, PLAN),
+    (HIRE, "1,000 sheets of request 6", HIRE, PLAN),
+    (UNPRUNED, "46,656 selections", UNPRUNED, PLAN),
+    (AFTER, "46,656 selections, after rules", AFTER, PLAN),
+    (LISTED, "22,500 selections, 22 lines", LISTED, PLAN),
+    (LINES72, "72 lines", LINES72, PLAN),
+    ("latest", "latest times, 1,000 sheets of request 6", HIRE, LATEST),
+    ("latest72", "latest times, 72 lines", LINES72, LATEST),
+];
+type Kind = (&'static str, &'static str, &'static str, fn(&Side) -> Work);
+
+const UNPRUNED: &str = "unpruned_distinct";
+const AFTER: &str = "unpruned_after";
+const LISTED: &str = "lines_times_selections";
+const LINES72: &str = "lines72";
+
+/// Sheets that are worked on one after the other.
 pub struct Class {
     pub key: &'static str,
     pub name: &'static str,
     pub sheets: Vec<Vec<u8>>,
+    pub work: fn(&Side) -> Work,
 }
 
 pub fn known(key: &str) -> bool {
-    CLASSES.iter().any(|&(known, _)| known == key)
+    CLASSES.iter().any(|&(known, ..)| known == key)
 }
 
 /// The classes that are wanted, or the stored sheet that cannot be read.
 pub fn classes(wanted: impl Fn(&str) -> bool) -> Result<Vec<Class>, String> {
-    let wanted = CLASSES.into_iter().filter(|(key, _)| wanted(key));
+    let wanted = CLASSES.into_iter().filter(|(key, ..)| wanted(key));
     wanted
-        .map(|(key, name)| {
-            let sheets = sheets(key)?;
-            Ok(Class { key, name, sheets })
+        .map(|(key, name, stored, work)| {
+            let sheets = sheets(stored)?;
+            Ok(Class {
+                key,
+                name,
+                sheets,
+                work,
+            })
         })
         .collect()
 }

@@ -10,9 +10,10 @@ use std::process::Command;
 /// Plans a class's sheets once on one side, or prepares it and plans none: what callgrind runs.
 pub fn plan_only(class: &Class, side: &Side, planned: bool) {
     let mut space = vec![0; SPACE];
+    let work = (class.work)(side);
     let sheets = if planned { &class.sheets[..] } else { &[] };
     for sheet in sheets {
-        black_box((side.plan)(black_box(sheet), &mut space));
+        black_box(work(black_box(sheet), &mut space));
     }
 }
 

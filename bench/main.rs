@@ -1,5 +1,5 @@
-//! Times planning by the proved library beside a plain Rust planner that goes the same way. Run from
-//! the top of the repository:
+//! Times planning, and asking for the latest times, by the proved library beside a plain Rust planner
+//! that goes the same way. Run from the top of the repository:
 //!
 //! - `bench [CLASS..]` writes a table of times, of all classes or of those named
 //! - `bench --count [CLASS..]` writes a table of instructions
@@ -22,7 +22,7 @@ use sides::{SIDES, SPACE};
 use std::process::ExitCode;
 
 const USAGE: &str = "usage: bench [CLASS..] | --count [CLASS..] | --check [SHEETS [SEED]] | --plans library|plain CLASS all|none
-classes: whole hire unpruned_distinct unpruned_after lines_times_selections lines72 programs";
+classes: whole hire unpruned_distinct unpruned_after lines_times_selections lines72 latest latest72 programs";
 /// What `--check` does by default.
 const CHECKED: &str = "20000";
 const SEED: &str = "1";
@@ -87,9 +87,9 @@ fn agreed_classes(keys: &[&str]) -> Outcome<Vec<Class>> {
     let classes = classes::classes(|key| chosen(keys, key))?;
     for class in &classes {
         for sheet in &class.sheets {
-            if sides::agreed(sheet, SPACE).is_none_or(|answer| answer.code != 0) {
+            if sides::agreed(class.work, sheet, SPACE).is_none_or(|answer| answer.code != 0) {
                 let text = String::from_utf8_lossy(sheet);
-                return Err(format!("{}: not the same plan of\n{text}", class.name));
+                return Err(format!("{}: not the same answer for\n{text}", class.name));
             }
         }
     }

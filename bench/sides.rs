@@ -1,33 +1,44 @@
-//! The two sides, each behind the same function: the library through its C function, and the plain
+//! The two sides, each behind the same functions: the library through its C functions, and the plain
 //! planner.
 
-use crate::plain::{self, LINE_WORDS, NoPlan};
+use crate::plain::{self, LINE_WORDS, MOST, NoPlan};
 
-/// 0 or the refusal; then deviation, steps, selections and count, 0 where a refusal leaves them out.
+/// 0 or the refusal; then planning's deviation, steps, selections and count, or the count and the
+/// latest times; 0 where there is nothing.
 #[derive(Debug, PartialEq, Eq)]
 pub struct Answer {
     pub code: u32,
-    pub words: [i64; 4],
+    pub words: [i64; 1 + MOST],
 }
+
+/// What is done with a sheet and a lent space.
+pub type Work = fn(&[u8], &mut [i32]) -> Answer;
 
 pub struct Side {
     pub name: &'static str,
-    pub plan: fn(&[u8], &mut [i32]) -> Answer,
+    pub plan: Work,
+    /// The latest times that are no later than 0 for every trigger.
+    pub latest: Work,
 }
 
 pub const SIDES: [Side; 2] = [
     Side {
         name: "library",
         plan: by_library,
+        latest: latest_by_library,
     },
     Side {
         name: "plain",
         plan: by_plain,
+        latest: latest_by_plain,
     },
 ];
 
 /// Words lent to each plan: the space of the planning program, 2,000 lines.
 pub const SPACE: usize = 2000 * LINE_WORDS;
+
+/// The times that are given where the latest are asked for, as many of them as there are triggers.
+const GIVEN: [i64; MOST] = [0; MOST];
 
 unsafe extern "C" {
     fn tuzhelar_plan(
@@ -38,10 +49,20 @@ unsafe extern "C" {
         answer: *mut i64,
         answer_len: usize,
     ) -> u32;
+    fn tuzhelar_latest(
+        sheet: *const u8,
+        sheet_len: usize,
+        times: *const i64,
+        times_len: usize,
+        space: *mut i32,
+        space_len: usize,
+        answer: *mut i64,
+        answer_len: usize,
+    ) -> u32;
 }
 
 fn by_library(sheet: &[u8], space: &mut [i32]) -> Answer {
-    let mut words = [0; 4];
+    let mut words = [0; 1 + MOST];
     // SAFETY: each pointer goes with the length of the slice it comes from, and no slice overlaps
     // another.
     let code = unsafe {
@@ -57,34 +78,75 @@ fn by_library(sheet: &[u8], space: &mut [i32]) -> Answer {
     Answer { code, words }
 }
 
+fn latest_by_library(sheet: &[u8], space: &mut [i32]) -> Answer {
+    let given = &GIVEN[..triggers(sheet)];
+    let mut words = [0; 1 + MOST];
+    // SAFETY: as in `by_library`; the times are only read.
+    let code = unsafe {
+        tuzhelar_latest(
+            sheet.as_ptr(),
+            sheet.len(),
+            given.as_ptr(),
+            given.len(),
+            space.as_mut_ptr(),
+            space.len(),
+            words.as_mut_ptr(),
+            words.len(),
+        )
+    };
+    Answer { code, words }
+}
+
+/// The number of triggers of a good sheet: its second line's.
+fn triggers(sheet: &[u8]) -> usize {
+    const KEYS: usize = "panels=6\ntriggers=".len();
+    usize::from(sheet[KEYS] - b'0')
+}
+
 fn by_plain(sheet: &[u8], space: &mut [i32]) -> Answer {
+    let mut words = [0; 1 + MOST];
     match plain::plan(sheet, space) {
-        Ok(plan) => Answer {
-            code: 0,
-            words: [
-                plan.deviation.into(),
-                plan.steps.into(),
-                plan.selections.into(),
-                plan.count as i64,
-            ],
-        },
-        Err(NoPlan::Refused(refusal)) => Answer {
-            code: refusal as u32,
-            words: [0; 4],
-        },
-        Err(NoPlan::NoRoom(count)) => Answer {
-            code: 9,
-            words: [0, 0, 0, count as i64],
-        },
+        Ok(plan) => {
+            let numbers = [plan.deviation.into(), plan.steps.into(), plan.selections.into()];
+            words[..3].copy_from_slice(&numbers);
+            words[3] = plan.count as i64;
+            Answer { code: 0, words }
+        }
+        Err(refused) => refusal(refused, 3),
     }
+}
+
+fn latest_by_plain(sheet: &[u8], space: &mut [i32]) -> Answer {
+    let mut words = [0; 1 + MOST];
+    match plain::latest(sheet, &GIVEN, space) {
+        Ok(latest) => {
+            words[0] = latest.count as i64;
+            words[1..].copy_from_slice(&latest.times);
+            Answer { code: 0, words }
+        }
+        Err(refused) => refusal(refused, 0),
+    }
+}
+
+/// The answer of a refusal, with 9's count at its place.
+fn refusal(refused: NoPlan, place: usize) -> Answer {
+    let mut words = [0; 1 + MOST];
+    let code = match refused {
+        NoPlan::Refused(refusal) => refusal as u32,
+        NoPlan::NoRoom(count) => {
+            words[place] = count as i64;
+            9
+        }
+    };
+    Answer { code, words }
 }
 
 /// What both sides answer, if it is the same and they leave the same words in a space that held the
 /// same before.
-pub fn agreed(sheet: &[u8], words: usize) -> Option<Answer> {
+pub fn agreed(work: fn(&Side) -> Work, sheet: &[u8], words: usize) -> Option<Answer> {
     let [library, plain] = SIDES.map(|side| {
         let mut space: Vec<i32> = (0..words as i32).collect();
-        ((side.plan)(sheet, &mut space), space)
+        (work(&side)(sheet, &mut space), space)
     });
     (library == plain).then_some(library.0)
 }

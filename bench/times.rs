@@ -1,7 +1,7 @@
 //! Times of both sides, taken in turns.
 
 use crate::classes::Class;
-use crate::sides::{SIDES, SPACE, Side};
+use crate::sides::{SIDES, SPACE, Side, Work};
 use std::hint::black_box;
 use std::time::{Duration, Instant};
 
@@ -45,7 +45,7 @@ impl Times {
 
 /// One side at work on a class.
 struct Lane<'a> {
-    side: Side,
+    work: Work,
     sheets: &'a [Vec<u8>],
     space: Vec<i32>,
     passes: u32,
@@ -57,7 +57,7 @@ impl<'a> Lane<'a> {
     /// Finds how many passes make a round, which warms the side up as well.
     fn new(side: Side, class: &'a Class) -> Lane<'a> {
         let mut lane = Lane {
-            side,
+            work: (class.work)(&side),
             sheets: &class.sheets,
             space: vec![0; SPACE],
             passes: 1,
@@ -71,7 +71,7 @@ impl<'a> Lane<'a> {
     }
 
     fn plan(&mut self, sheet: &[u8]) {
-        black_box((self.side.plan)(black_box(sheet), &mut self.space));
+        black_box((self.work)(black_box(sheet), &mut self.space));
     }
 
     /// The time of a round's passes.

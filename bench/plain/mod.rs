@@ -6,10 +6,13 @@ mod cue;
 mod entry;
 mod extreme;
 mod few;
+mod latest;
 mod lines;
 mod sheet;
 mod tally;
 
+pub use entry::MOST;
+pub use latest::latest;
 pub use lines::LINE_WORDS;
 pub use sheet::Refusal;
 

@@ -1,0 +1,38 @@
+//! Document 02, No. 1, from the list: each line with the largest weight that lifts no component above
+//! the given times, and the largest of these.
+
+use super::cue::Cue;
+use super::entry::{ABSENT, MOST};
+use super::lines::{LINE_WORDS, list};
+use super::{NoPlan, sheet};
+
+/// The count of lines in the lent space, and the latest times, 0 past the number of triggers.
+pub struct Latest {
+    pub count: usize,
+    pub times: [i64; MOST],
+}
+
+/// The latest tightest times that are no later than those given, of which there are enough and none
+/// beyond the limit.
+pub fn latest(bytes: &[u8], given: &[i64; MOST], space: &mut [i32]) -> Result<Latest, NoPlan> {
+    let sheet = sheet::read(bytes)?;
+    let cue = Cue::new(&sheet)?;
+    let count = list(&cue, space).map_err(NoPlan::NoRoom)?;
+    let lines = &space[..LINE_WORDS * count];
+    let mut times = [0; MOST];
+    times[..sheet.triggers].fill(i64::MIN);
+    for words in lines.chunks_exact(LINE_WORDS) {
+        raise(&mut times, &words[1..], given);
+    }
+    Ok(Latest { count, times })
+}
+
+/// Raises the times to a line, as high as it may go.
+fn raise(times: &mut [i64; MOST], line: &[i32], given: &[i64; MOST]) {
+    let present = || line.iter().enumerate().filter(|&(_, &c)| c != ABSENT);
+    let weight = present().map(|(j, &c)| given[j] - i64::from(c)).min();
+    let weight = weight.expect("a line's greatest component is 0");
+    for (j, &c) in present() {
+        times[j] = times[j].max(weight + i64::from(c));
+    }
+}
