@@ -1,6 +1,8 @@
 //! The planning program beside which `plan` is timed: a sheet on standard input, its plan on
 //! standard output.
 
+// The latest times are the benchmark's alone.
+#[allow(dead_code, unused_imports)]
 mod plain;
 mod text;
 

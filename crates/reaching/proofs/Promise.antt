@@ -1,13 +1,14 @@
 -- Document 02's No. 1 from the bytes to the timing and the words (specs/Promise states it): what is admitted has one latest timing, and the
 -- list is planning's.
 use mathlib.Core.Path.{_≡_, refl, ap, sym, subst, _∙_}
-use mathlib.Core.Bool.{Bool, true, false, cond}
+use mathlib.Core.Bool.{Bool, true, false, cond, decide}
 use mathlib.Core.List.{List}
 use Prim.Native.Nat.{ℕ, _/_, _≤_, _<_}
 use native.Mathlib.Omega.{arith}
 use lib.Dec.{leb}
 use lib.IntN.{ℤ, pos}
 use lib.ListN.{length}
+use Rattle.maxplus.specs.Line.{Line}
 use Rattle.maxplus.proofs.EachLaws.{each-at}
 use Rattle.cue.specs.Sizes.{size-limit}
 use Rattle.cue.specs.Written.{line-size}
@@ -19,6 +20,7 @@ use Rattle.sheet.specs.Good.{Good}
 use Rattle.sheet.specs.Admitted.{admitted}
 use Rattle.sheet.proofs.AdmittedLaws.{Admits, admitted-as}
 use Rattle.sheet.proofs.Good.{read-good}
+use Rattle.sheet.proofs.Decided.{tightest?}
 use Rattle.sheet.proofs.Demands.{order-kept}
 use Rattle.sheet.proofs.Latest.{latest-formula, latest-one, latest-same, latest-exists}
 use Rattle.sheet.proofs.OrderedLaws.{ordered-got}
@@ -27,7 +29,9 @@ use Rattle.timing.proofs.NumberLaws.{first-at}
 use Rattle.planning.specs.Planning.{PlanOutcome, planned, full, plan-of, planning, space-after, plan-answer}
 use Rattle.reaching.specs.Reaching.{ReachOutcome, reached, reaching, reached-space}
 use Rattle.reaching.specs.Reaching as outcome
-use Rattle.reaching.specs.Promise.{Succeeds, timing-reached, Reaches, One-exists, Request-1}
+use Rattle.testing.specs.Testing.{tests, testing}
+use Rattle.testing.specs.Testing as tested
+use Rattle.reaching.specs.Promise.{Succeeds, timing-reached, Reaches, One-exists, Request-1, Refusals, Those-of-testing}
 use Rattle.reaching.proofs.ReachLaws.{reaching-of}
 
 -- the components that are handed back
@@ -78,6 +82,37 @@ module _ (s : List ℕ) (count : ℕ) (G : Timing) (space : List ℤ) (t : Sheet
       go true p q = subst (Reaches s t G space) (sym q) (reaches p)
       go false p q = absurd (subst Succeeds q h)
 
+-- ---- outcomes of different kinds, and of one kind
+clash : _≡_ {A = ℕ} 0 1 → ⊥
+clash e = omega arith
+
+same-refused : {j k : ℕ} → outcome.refused j ≡ outcome.refused k → j ≡ k
+same-refused e = cc
+
+same-full : {j k : ℕ} → outcome.full j ≡ outcome.full k → j ≡ k
+same-full e = cc
+
+same-tested : {j k : ℕ} → tested.refused j ≡ tested.refused k → j ≡ k
+same-tested e = cc
+
+same-planned : {j k : ℕ} → full j ≡ full k → j ≡ k
+same-planned e = cc
+
+refused-full : {j k : ℕ} → outcome.refused j ≡ outcome.full k → ⊥
+refused-full e = clash cc
+
+refused-answer : {j : ℕ} {b : Bool} → tested.refused j ≡ tested.answer b → ⊥
+refused-answer e = clash cc
+
+reached-refused : {n k : ℕ} {X : Timing} {L : List (Line n)} → reached n X L ≡ outcome.refused k → ⊥
+reached-refused e = clash cc
+
+reached-full : {n k : ℕ} {X : Timing} {L : List (Line n)} → reached n X L ≡ outcome.full k → ⊥
+reached-full e = clash cc
+
+planned-full : {n a b k : ℕ} {D : ℤ} {L : List (Line n)} → planned n D a b L ≡ full k → ⊥
+planned-full e = clash cc
+
 same-sheet : {t u : Sheet} {r x : List ℕ} → got t r ≡ got u x → t ≡ u
 same-sheet e = cc
 
@@ -91,3 +126,47 @@ request-1 s t r count G space q h = go (admitted s count G) refl
 
 pub one-exists : One-exists
 one-exists s t r e k G = (_, latest-formula t (read-good s t r e) (order-kept t .0 k) G)
+
+-- ---- the refusals
+module _ (s : List ℕ) (count : ℕ) (G : Timing) (space : List ℤ) where
+  abbrev asked : Bool
+  asked = decide (tightest? s G)
+
+  testing-of : {g : Got Sheet} → admitted s count G ≡ g → testing s count G ≡ tests g asked
+  unfolding testing
+  testing-of e = ap (λ g. tests g asked) e
+
+  -- what is not admitted
+  refuses : (j : ℕ) → admitted s count G ≡ sheet.refused j → Refusals s count G space
+  refuses j e = let p = reaching-of s count G space e in let q = testing-of e in record {
+    of-testing = λ k. (λ h. q ∙ ap tested.refused (same-refused (sym p ∙ h)), λ h. p ∙ ap outcome.refused (same-tested (sym q ∙ h)));
+    then-nine = λ k. (λ h. absurd (refused-full (sym p ∙ h)), λ h. absurd (refused-answer (sym q ∙ h .0 .1)));
+  }
+
+  -- what is
+  admits-all : (t : Sheet) (x : List ℕ) → admitted s count G ≡ got t x → Refusals s count G space
+  admits-all t x e = go (leb (length (sheet-lines t)) (length space / line-size)) (planning-is s count G space t x e) (reaching-of s count G space e)
+    where
+      answered : testing s count G ≡ tested.answer asked
+      answered = testing-of e
+
+      go : (b : Bool) → planning s space ≡ cond b (plan s count G space t x e) (full (length (sheet-lines t))) →
+          reaching s count G space ≡ cond b (whole s count G space t x e) (outcome.full (length (sheet-lines t))) → Refusals s count G space
+      go true p q = record {
+        of-testing = λ k. (λ h. absurd (reached-refused (sym q ∙ h)), λ h. absurd (refused-answer (sym h ∙ answered)));
+        then-nine = λ k. (λ h. absurd (reached-full (sym q ∙ h)), λ h. absurd (planned-full (sym p ∙ h .1)));
+      }
+      go false p q = record {
+        of-testing = λ k. (λ h. absurd (refused-full (sym h ∙ q)), λ h. absurd (refused-answer (sym h ∙ answered)));
+        then-nine = λ k. (
+          λ h. ((asked, answered), p ∙ ap full (same-full (sym q ∙ h))),
+          λ h. q ∙ ap outcome.full (same-planned (sym p ∙ h .1)),
+        );
+      }
+
+pub those-of-testing : Those-of-testing
+those-of-testing s count G space = go (admitted s count G) refl
+  where
+    go : (g : Got Sheet) → admitted s count G ≡ g → Refusals s count G space
+    go (sheet.refused k) e = refuses s count G space k e
+    go (got t x) e = admits-all s count G space t x e

@@ -1,9 +1,12 @@
 -- `reaching::weighed::line_at` meets its contract: the entries of the first `j` components are written. Assumes nothing.
-use mathlib.Core.Path.{ap, sym, _∙_}
-use Prim.Native.Nat.{_-_, _≤_}
+use mathlib.Core.Path.{_≡_, ap, sym, _∙_}
+use Prim.Native.Nat.{_-_, _≤_, _<_}
 use native.Mathlib.Omega.{arith}
 use borrow.Author.Needs.{needs}
+use lib.IntN.{ℤ}
+use lib.Signed.{mag}
 use mir.Syntax.{w32}
+use mir.Val.{toZ, ofZ}
 use mir.Facts.{toZ-ofZ}
 use Rattle.maxplus.specs.Line.{at}
 use Rattle.maxplus.proofs.LineLaws.{at-line}
@@ -19,6 +22,10 @@ Inv-loop space from n r₀ j₀ r j = (j ≤ n) × WordsOf j signed-far (at n (l
 
 abbrev μ-loop : tie.MeasureT-loop
 μ-loop space from n r₀ j₀ r j = n - j
+
+-- a word is read out of its bits as it stands
+read-back : {z : ℤ} → mag z < 0x8000_0000 → toZ w32 (ofZ w32 z) ≡ z
+read-back h = toZ-ofZ {w = w32} (record { sfits = h })
 
 loop-holds : tie.Need-loop-holds Inv-loop μ-loop
 loop-holds c = (omega arith, written-none _ _)
@@ -54,11 +61,11 @@ loop-again : tie.Need-loop-again Inv-loop μ-loop
 unfolding line-at
 loop-again c =
     let at-loop : tie.At-loop Inv-loop μ-loop = search in
-    let l = at-loop .loop in
-    let read = toZ-ofZ {w = w32} (record { sfits = c .before .of-signed-arg .given }) in (
+    let l = at-loop .loop in (
       omega arith,
       written-more _ (omega arith) (l .inv .1)
-          (c .of-signed .ensures .0 ∙ ap of-signed read ∙ sym (at-line _ _ (l .j) (omega arith))) (c .of-signed .ensures .1),
+          (c .of-signed .ensures .0 ∙ ap of-signed (read-back (c .before .of-signed-arg .given)) ∙ sym (at-line _ _ (l .j) (omega arith)))
+          (c .of-signed .ensures .1),
     )
 
 returns : tie.Need-returns Inv-loop μ-loop
