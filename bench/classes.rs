@@ -25,7 +25,12 @@ const CLASSES: [Kind; 8] = [
     (AFTER, "46,656 selections, after rules", AFTER, PLAN),
     (LISTED, "22,500 selections, 22 lines", LISTED, PLAN),
     (LINES72, "72 lines", LINES72, PLAN),
-    ("latest", "latest times, 1,000 sheets of request 6", HIRE, LATEST),
+    (
+        "latest",
+        "latest times, 1,000 sheets of request 6",
+        HIRE,
+        LATEST,
+    ),
     ("latest72", "latest times, 72 lines", LINES72, LATEST),
 ];
 type Kind = (&'static str, &'static str, &'static str, fn(&Side) -> Work);

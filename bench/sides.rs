@@ -107,7 +107,11 @@ fn by_plain(sheet: &[u8], space: &mut [i32]) -> Answer {
     let mut words = [0; 1 + MOST];
     match plain::plan(sheet, space) {
         Ok(plan) => {
-            let numbers = [plan.deviation.into(), plan.steps.into(), plan.selections.into()];
+            let numbers = [
+                plan.deviation.into(),
+                plan.steps.into(),
+                plan.selections.into(),
+            ];
             words[..3].copy_from_slice(&numbers);
             words[3] = plan.count as i64;
             Answer { code: 0, words }
