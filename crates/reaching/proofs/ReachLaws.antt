@@ -80,11 +80,11 @@ module _ (s : List ℕ) (count : ℕ) (G : Timing) (space : List ℤ) where
       moved : (r : Listed) → Answers m (lines m (cue-of t)) space after r → Answers (t .triggers) (sheet-lines t) space after r
       moved r a = subst (λ n. Answers n (lines n (cue-of t)) space after r) same a
 
-      pub does-lines : (T : words.Timing) → T ≡ timing-of m (latest m (cue-of t) G) → Answers m (lines m (cue-of t)) space after (Lines k) →
-          Does (reaching s count G space) space after (record { refusal = 0; count = k; timing = T })
+      pub does-lines : (T : words.Timing) {n : ℕ} → n ≡ m → T ≡ timing-of n (latest n (cue-of t) G) →
+          Answers m (lines m (cue-of t)) space after (Lines k) → Does (reaching s count G space) space after (record { refusal = 0; count = k; timing = T })
       unfolding latest-exists
-      does-lines T q a = does-same (reaching-of e)
-          (lines-at k T (q ∙ ap (λ n. timing-of n (latest n (cue-of t) G)) same) (moved (Lines k) a))
+      does-lines T f q a = does-same (reaching-of e)
+          (lines-at k T (q ∙ ap (λ n. timing-of n (latest n (cue-of t) G)) (f ∙ same)) (moved (Lines k) a))
 
       pub does-full : {r : Reached} → r ≡ reach-answer (full k) → Answers m (lines m (cue-of t)) space after (NoRoom k) →
           Does (reaching s count G space) space after r

@@ -1,21 +1,19 @@
 -- Laws of weighing the lines in a lent space: the lines passed, one more, and the timing that all of them make.
 use mathlib.Core.Path.{_≡_, refl, ap, ap₂, sym, _∙_}
 use mathlib.Core.List.{List}
-use Prim.Native.Nat.{ℕ, _+_, _*_, _≤_, _<_}
+use Prim.Native.Nat.{ℕ, _+_, _*_, _<_}
 use lib.IntN.{ℤ}
 use Rattle.maxplus.specs.Entry.{num, _⊗_, inv}
 use Rattle.maxplus.specs.Finite.{In}
-use Rattle.maxplus.specs.Tables.{sup, Vec, NoGain}
+use Rattle.maxplus.specs.Tables.{sup, Vec}
 use Rattle.maxplus.specs.Line.{Line, at}
 use Rattle.maxplus.proofs.WholeLaws.{neg-neg}
 use Rattle.maxplus.proofs.EntryLaws.{inv-num}
 use Rattle.maxplus.proofs.SupLaws.{sup-ext, supL-same, supL-each}
 use Rattle.cue.specs.Cue.{Cue, timing, overdue}
-use Rattle.cue.specs.Vectors.{Readable}
 use Rattle.cue.specs.Method.{lines}
 use Rattle.cue.specs.Latest.{fit, latest}
-use Rattle.cue.specs.Standing.{line-at, lines-of, Stands}
-use Rattle.cue.specs.Sizes.{size-limit}
+use Rattle.cue.specs.Standing.{line-at, lines-of}
 use Rattle.cue.specs.Written.{line-size}
 use Rattle.cue.proofs.StandingLaws.{lines-back}
 use Rattle.cue.proofs.Extreme.{lines-normal}
@@ -24,7 +22,9 @@ use Rattle.cue.proofs.Latest.{made-makes}
 use Rattle.words.specs.Words.{entry}
 use Rattle.tables.specs.Held.{meantV, HoldsV, Raised}
 use Rattle.tables.proofs.SquareLaws.{row-more}
-use Rattle.reaching.specs.Inner.{weight-in, most-within}
+use Rattle.timing.specs.Times.{timing-of}
+use Rattle.timing.specs.declared.Timing as words
+use Rattle.reaching.specs.Inner.{weight-in, most-within, Weighable}
 
 overdue-same : (n : ℕ) {x y u v : Vec} → ((j : ℕ) → j < n → x j ≡ y j) → ((j : ℕ) → j < n → u j ≡ v j) → overdue n x u ≡ overdue n y v
 unfolding overdue
@@ -48,16 +48,22 @@ module _ (n : ℕ) (x : Vec) (ws : List ℤ) where
   unfolding lines-of
   weighed-all count h = record { at = λ j q. h .at j q ∙ sym (supL-each count _ _) }
 
--- ---- what all the lines of a cue make within a wish G is its latest timing
-module _ (n : ℕ) (P : Cue) (G : ℕ → ℤ) (few : n ≤ size-limit) (R : Readable n P) (np : NoGain n (P .order)) where
-  fit-weight : {x : Vec} → ((j : ℕ) → j < n → x j ≡ timing G j) → (c : Line n) → In c (lines n P) → weight-in n x c ≡ num (fit n G c)
+-- ---- what all the lines of a cue make within a wish is its latest timing
+module _ {n : ℕ} {P : Cue} {G : ℕ → ℤ} {count : ℕ} {ws : List ℤ} {wish : List ℕ} (w : Weighable n P G count ws wish) where
+  fit-weight : (c : Line n) → In c (lines n P) → weight-in n (meantV wish) c ≡ num (fit n G c)
   unfolding weight-in
-  fit-weight e c h = ap inv (overdue-same n e (λ j q. refl) ∙ fit-is n G c (lines-normal n P c h)) ∙ inv-num _ ∙ ap num (neg-neg _)
+  fit-weight c h =
+      ap inv (overdue-same n (w .wished .at) (λ j q. refl) ∙ fit-is n G c (lines-normal n P c h)) ∙ inv-num _ ∙ ap num (neg-neg _)
 
-  pub weighed-latest : {x : Vec} {r : List ℕ} {count : ℕ} {ws : List ℤ} → Stands n count ws (lines n P) →
-      ((j : ℕ) → j < n → x j ≡ timing G j) → HoldsV n (most-within n x (lines-of n count ws)) r → HoldsV n (timing (latest n P G)) r
+  pub latest-held : {r : List ℕ} → HoldsV n (most-within n (meantV wish) (lines-of n count ws)) r → HoldsV n (timing (latest n P G)) r
   unfolding latest
-  weighed-latest {x} s e h = record {
-    at = λ j q. h .at j q ∙ ap (λ L. most-within n x L j) (lines-back few s) ∙
-        supL-same (lines n P) (λ c k. ap (λ w. w ⊗ at n c j) (fit-weight e c k)) ∙ sym (made-makes n P R np (fit n G) j q);
+  latest-held h = record {
+    at = λ j q. h .at j q ∙ ap (λ L. most-within n (meantV wish) L j) (lines-back (w .few) (w .stands)) ∙
+        supL-same (lines n P) (λ c k. ap (λ v. v ⊗ at n c j) (fit-weight c k)) ∙
+        sym (made-makes n P (w .readable) (w .order) (fit n G) j q);
   }
+
+-- the timing of its numbers, for another name of n
+pub latest-told : {n m : ℕ} {X : ℕ → ℤ} {w : List ℕ} {T : words.Timing} → m ≡ n → HoldsV n (timing X) w →
+    ((Y : ℕ → ℤ) → HoldsV m (timing Y) w → T ≡ timing-of m Y) → T ≡ timing-of n X
+latest-told {X = X} e h f = f X (rw e h) ∙ ap (λ n. timing-of n X) e

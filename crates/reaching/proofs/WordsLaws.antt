@@ -1,5 +1,5 @@
 -- What the words of an admitted sheet and wish give on the way to the timing, for any name m of the number of triggers.
-use mathlib.Core.Path.{_≡_, ap, sym, subst, _∙_}
+use mathlib.Core.Path.{_≡_, sym, subst}
 use mathlib.Core.Bool.{false}
 use mathlib.Core.List.{List}
 use Prim.Native.Nat.{ℕ, _+_, _*_, _≤_, _<_}
@@ -15,10 +15,9 @@ use Rattle.cue.specs.Method.{lines}
 use Rattle.cue.specs.Latest.{latest}
 use Rattle.cue.specs.Results.{Within, Fitting}
 use Rattle.cue.specs.Sizes.{size-limit}
-use Rattle.cue.specs.Standing.{lines-of, Stands}
+use Rattle.cue.specs.Standing.{Stands}
 use Rattle.cue.specs.Written.{line-size, list-words}
 use Rattle.cue.proofs.WrittenLaws.{list-words-length}
-use Rattle.words.specs.Words.{far}
 use Rattle.words.specs.declared.LineWords.{LineWords}
 use Rattle.sheet.specs.Sheet.{got, Sheet}
 use Rattle.sheet.specs.Meaning.{Timing}
@@ -31,15 +30,10 @@ use Rattle.sheet.proofs.AdmittedLaws.{Admits, admitted-as}
 use Rattle.sheet.proofs.Demands.{fitting}
 use Rattle.sheet.proofs.Good.{read-good}
 use Rattle.sheet.proofs.Latest.{latest-fits}
-use Rattle.timing.specs.Times.{timing-of}
-use Rattle.timing.specs.declared.Timing as words
-use Rattle.tables.specs.Held.{meantV, HoldsV, CloselyV}
 use Rattle.tables.specs.Lines.{Carries}
-use Rattle.tables.proofs.SquareLaws.{closely-withinV}
 use Rattle.lines.specs.Listing.{Answers}
 use Rattle.lines.specs.declared.Listed.the-variants.{Lines}
-use Rattle.reaching.specs.Inner.{most-within}
-use Rattle.reaching.proofs.WeighedLaws.{weighed-latest}
+use Rattle.reaching.specs.Inner.{Weighable}
 
 module _ (s : List ℕ) (count : ℕ) (G : Timing) (t : Sheet) (x : List ℕ) (e : admitted s count G ≡ got t x) (m : ℕ) (same : m ≡ t .triggers) where
   abbrev admits : Admits s count G t x
@@ -79,35 +73,21 @@ module _ (s : List ℕ) (count : ℕ) (G : Timing) (t : Sheet) (x : List ℕ) (e
           fitting = fits;
         }
 
-    pub holds : line-size * k ≤ length after
+    holds : line-size * k ≤ length after
     holds =
         let L = lines m (cue-of t) in
         let l = length-append (list-words m L) (drop (line-size * length L) before) in
         rw (a .2, a .0) (omega (arith, l, list-words-length m L))
 
-    module _ {wish : LineWords} (w : Carries m far-limit (timing G) wish) where
-      pub wish-asks : (wish .count ≤ size-limit) × (line-size * k ≤ length after) × CloselyV (wish .count) far-limit (wish .at)
-      wish-asks = rw (w .count) (few, holds, w .words .close)
-
-      module _ {r : LineWords} (sized : r .count ≡ wish .count)
-          (made : HoldsV (wish .count) (most-within (wish .count) (meantV (wish .at)) (lines-of (wish .count) k after)) (r .at)) where
-        size : r .count ≡ m
-        size = sized ∙ w .count
-
-        made-latest : HoldsV m (timing (latest m (cue-of t) G)) (r .at)
-        made-latest = weighed-latest m (cue-of t) G few readable order stands (w .words .is .at)
-            (subst (λ n. HoldsV n (most-within n (meantV (wish .at)) (lines-of n k after)) (r .at)) (w .count) made)
-
-        pub latest-held : HoldsV (r .count) (timing (latest m (cue-of t) G)) (r .at)
-        latest-held = rw size made-latest
-
-        pub latest-few : r .count ≤ size-limit
-        latest-few = rw size few
-
-        pub latest-close : CloselyV (r .count) far (r .at)
-        latest-close = rw size (closely-withinV (omega arith) (omega arith) made-latest sizes)
-
-        -- the timing of its numbers
-        pub latest-told : {T : words.Timing} → ((X : Timing) → HoldsV (r .count) (timing X) (r .at) → T ≡ timing-of (r .count) X) →
-            T ≡ timing-of m (latest m (cue-of t) G)
-        latest-told f = f _ latest-held ∙ ap (λ n. timing-of n (latest m (cue-of t) G)) size
+    -- all that the latest timing is made from, by the wish's own count
+    pub weighable : {wish : LineWords} → Carries m far-limit (timing G) wish → Weighable (wish .count) (cue-of t) G k after (wish .at)
+    weighable {wish} w = subst (λ n. Weighable n (cue-of t) G k after (wish .at)) (sym (w .count)) (record {
+      few = few;
+      holds = holds;
+      stands = stands;
+      wished = w .words .is;
+      close = w .words .close;
+      readable = readable;
+      order = order;
+      sizes = sizes;
+    })

@@ -3,10 +3,9 @@ ghost use mathlib.Core.Path.{_≡_};
 ghost use Rattle.timing.specs.Times.{component};
 ghost use Rattle.reaching.specs.Reaching as outcome;
 ghost use Rattle.reaching.specs.Reaching.{reaching, reached-space, reach-answer};
-use crate::weighed::combined;
+use crate::weighed::latest;
 use lines::Listed;
 use timing::Timing;
-use timing::times::numbers_of;
 use timing::times::words_of;
 
 mod weighed;
@@ -50,7 +49,7 @@ pub fn latest_timing(bytes: &[u8], wish: Timing, space: &mut [i32]) -> Reached
         Listed::Lines(k) => Reached {
             refusal: 0,
             count: k,
-            timing: numbers_of(combined(space, k, within)),
+            timing: latest(space, k, within),
         },
     }
 }

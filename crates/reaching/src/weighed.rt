@@ -1,10 +1,12 @@
-// The lines in a lent space, each with the largest weight that keeps it within a wish, and the largest of these.
+// The lines in a lent space, each with the largest weight that keeps it within a wish, and the largest of these: the latest timing.
 ghost use mathlib.Core.Path.{_≡_};
-ghost use Prim.Native.Nat.{_+_, _*_, _≤_};
+ghost use Prim.Native.Nat.{ℕ, _+_, _*_, _≤_};
+ghost use lib.IntN.{ℤ};
 ghost use lib.ListN.{length};
 ghost use Rattle.maxplus.specs.Entry.{inv};
 ghost use Rattle.maxplus.specs.Line.{at};
-ghost use Rattle.cue.specs.Cue.{overdue};
+ghost use Rattle.cue.specs.Cue.{Cue, overdue};
+ghost use Rattle.cue.specs.Latest.{latest};
 ghost use Rattle.cue.specs.Sizes.{size-limit};
 ghost use Rattle.cue.specs.Standing.{line-at, lines-of};
 ghost use Rattle.cue.specs.Written.{line-size};
@@ -12,9 +14,12 @@ ghost use Rattle.sheet.specs.Times.{far-limit};
 ghost use Rattle.words.specs.Words.{entry, signed-far, Near};
 ghost use Rattle.tables.specs.Held.{meantV, HoldsV, CloselyV};
 ghost use Rattle.tables.specs.Lines.{Carries};
-ghost use Rattle.reaching.specs.Inner.{most-within};
+ghost use Rattle.timing.specs.Times.{timing-of};
+ghost use Rattle.reaching.specs.Inner.{most-within, Weighable};
 use tables::largest::overdue;
 use tables::raise;
+use timing::Timing;
+use timing::times::numbers_of;
 use words::LINE_SIZE;
 use words::LineWords;
 
@@ -43,7 +48,7 @@ fn weight(wish: [u64; 6], line: [u64; 6], n: usize) -> u64
 }
 
 // The largest of weight + line over the first `count` lines of the space.
-pub fn combined(space: &[i32], count: usize, wish: LineWords) -> LineWords
+fn combined(space: &[i32], count: usize, wish: LineWords) -> LineWords
     requires { ⌜ (wish .count ≤ size-limit) × (line-size * count ≤ length (now space)) × CloselyV (wish .count) far-limit (wish .at) ⌝ }
     ensures sized { λ r. ⌜ r .count ≡ wish .count ⌝ }
     ensures made { λ r. ⌜ HoldsV (wish .count)
@@ -60,4 +65,13 @@ pub fn combined(space: &[i32], count: usize, wish: LineWords) -> LineWords
         k += 1;
     }
     LineWords { count: n, at: most }
+}
+
+// The latest timing no later than the wish that the lines in the space make.
+pub fn latest(space: &[i32], count: usize, wish: LineWords) -> Timing
+    requires { ⌜ ((P : Cue) × (G : ℕ → ℤ) × Weighable (wish .count) P G count (now space) (wish .at)) ⌝ }
+    ensures { λ r. ⌜ ((P : Cue) (G : ℕ → ℤ) → Weighable (wish .count) P G count (now (space .entry)) (wish .at) →
+        r ≡ timing-of (wish .count) (latest (wish .count) P G)) ⌝ }
+{
+    numbers_of(combined(space, count, wish))
 }

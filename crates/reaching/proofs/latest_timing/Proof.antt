@@ -3,7 +3,7 @@ use mathlib.Core.Path.{refl, subst}
 use borrow.Author.Needs.{needs}
 use Rattle.sheet.specs.Cue.{cue-of}
 use Rattle.lines.specs.Listing.{Answers}
-use Rattle.reaching.proofs.WordsLaws.{few, near, wish-asks, latest-held, latest-few, latest-close, latest-told}
+use Rattle.reaching.proofs.WordsLaws.{few, near, weighable}
 use Rattle.reaching.proofs.ReachLaws.{does-refused, does-lines, does-full}
 use Rattle.reaching.proofs.latest_timing.Statement.{statement}
 use Rattle.reaching.proofs.latest_timing.Tie as tie
@@ -44,35 +44,16 @@ not-reached-requires-2 c κs = search needs
 enum-known-k-2 : tie.Need-enum-known-k-2
 enum-known-k-2 c = search needs
 
--- the words of the wish, by the count that the sheet's words have
-combined-requires : tie.Need-combined-requires
-combined-requires c κs =
+latest-requires : tie.Need-latest-requires
+latest-requires c κs =
     let k : tie.After-k2 = search in
     let l : tie.After-list = search in
     let w : tie.After-words-of = search in
     let i : tie.Else1 = search in
     let a : tie.After-admit = search in
     let (t, x, e, M) = a .admit .ensures .made (i .if1 .left) in
-    let (n, q) = k .k2 .given in
-    wish-asks _ _ _ t x e _ (M .marked .triggers-are) _ (subst (Answers _ _ _ _) q (l .list .ensures (cue-of t) (M .marked .prepared))) (w .words-of .ensures)
-
-numbers-of-requires : tie.Need-numbers-of-requires
-numbers-of-requires c κs =
-    let m : tie.After-combined = search in
-    let k : tie.After-k2 = search in
-    let l : tie.After-list = search in
-    let w : tie.After-words-of = search in
-    let i : tie.Else1 = search in
-    let a : tie.After-admit = search in
-    let (t, x, e, M) = a .admit .ensures .made (i .if1 .left) in
-    let (n, q) = k .k2 .given in
-    let same = M .marked .triggers-are in
-    let answers = subst (Answers _ _ _ _) q (l .list .ensures (cue-of t) (M .marked .prepared)) in
-    let (sized, made) = m .combined .ensures in (
-      latest-few _ _ _ t x e _ same _ answers (w .words-of .ensures) sized made,
-      (_, latest-held _ _ _ t x e _ same _ answers (w .words-of .ensures) sized made),
-      latest-close _ _ _ t x e _ same _ answers (w .words-of .ensures) sized made,
-    )
+    let answers = subst (Answers _ _ _ _) (k .k2 .given .1) (l .list .ensures (cue-of t) (M .marked .prepared)) in
+    (cue-of t, _, weighable _ _ _ t x e _ (M .marked .triggers-are) _ answers (w .words-of .ensures))
 
 same-length : tie.Need-same-length
 same-length c = search needs
@@ -94,19 +75,16 @@ same-length-2 c = search needs
 
 returns-3 : tie.Need-returns-3
 returns-3 c =
-    let m : tie.After-combined = search in
     let k : tie.After-k2 = search in
     let l : tie.After-list = search in
     let w : tie.After-words-of = search in
     let i : tie.Else1 = search in
     let a : tie.After-admit = search in
     let (t, x, e, M) = a .admit .ensures .made (i .if1 .left) in
-    let (n, q) = k .k2 .given in
+    let answers = subst (Answers _ _ _ _) (k .k2 .given .1) (l .list .ensures (cue-of t) (M .marked .prepared)) in
     let same = M .marked .triggers-are in
-    let answers = subst (Answers _ _ _ _) q (l .list .ensures (cue-of t) (M .marked .prepared)) in
-    let (sized, made) = m .combined .ensures in
-    let told = latest-told _ _ _ t x e _ same _ answers (w .words-of .ensures) sized made (c .numbers-of .ensures) in
-    let d = does-lines _ _ _ _ t x e _ _ same _ _ told answers in
+    let told = c .latest .ensures (cue-of t) _ (weighable _ _ _ t x e _ same _ answers (w .words-of .ensures)) in
+    let d = does-lines _ _ _ _ t x e _ _ same _ _ (w .words-of .ensures .count) told answers in
     (d .answer, d .written)
 
 pub latest-timing-spec : {M : Type 1} → statement M
@@ -121,8 +99,7 @@ latest-timing-spec =
     enum-known-k
     not-reached-requires-2
     enum-known-k-2
-    combined-requires
-    numbers-of-requires
+    latest-requires
     same-length
     returns-2
     same-length-2
