@@ -1,6 +1,6 @@
 -- How large results are, by two limits: L on lags, floors and due marks, B on the entries of the order table. A star entry adds up fewer
 -- than n rules, so it lies within mB; the rest adds up along the definitions. For six triggers each size has its name (specs/Sizes).
-use mathlib.Core.Path.{_≡_, refl, ap, sym, subst}
+use mathlib.Core.Path.{refl, ap, sym, subst}
 use mathlib.Core.Logic.{inl, inr}
 use mathlib.Core.List.{List}
 use Prim.Native.Nat.{ℕ, zero, suc, _+_, _*_, _^_, _≤_, _<_}
@@ -299,7 +299,7 @@ results-six n L B P np l six =
 
 -- ---- the latest timing, where G lies from −a to b
 module _ (n : ℕ) (P : Cue) (G : ℕ → ℤ) (a b : ℕ) (g : (j : ℕ) → j < n → Within a b (num (G j))) where
-  pub fit-within : (c : Line n) → In c (lines n P) → Within a b (num (fit n G c))
+  fit-within : (c : Line n) → In c (lines n P) → Within a b (num (fit n G c))
   fit-within c hc =
       let t = lines-normal n P c hc in
       let l = fit-from n G c t (neg (pos a)) (λ i hi. omega (arith, up-neg (pos a), g i hi .low .above _ refl)) in

@@ -1,16 +1,15 @@
 -- All finite results of a sheet that is read fit signed 32 bits (specs/Fits): cue's sizes at the limits on a sheet's entries, and the sums
 -- that a tested timing makes with them.
-use mathlib.Core.Path.{_≡_, refl}
+use mathlib.Core.Path.{_≡_}
 use mathlib.Core.Bool.{false}
-use mathlib.Core.List.{List, [], _∷_}
-use Prim.Native.Nat.{ℕ, _+_, _*_, _^_, _≤_, _<_}
+use mathlib.Core.List.{[], _∷_}
+use Prim.Native.Nat.{ℕ, _+_, _*_, _≤_, _<_}
 use native.Mathlib.Omega.{arith}
 use native.Mathlib.Nat.{le-trans}
 use borrow.Author.Tests.{ltb-false}
 use lib.Dec.{ltb}
 use lib.IntN.{ℤ, pos}
-use lib.ListN.{length}
-use Rattle.maxplus.specs.Whole.{up, dn, neg}
+use Rattle.maxplus.specs.Whole.{up, dn}
 use Rattle.maxplus.specs.Entry.{E, num, _⊗_, inv}
 use Rattle.maxplus.specs.Finite.{each}
 use Rattle.maxplus.specs.Tables.{sup, mv}
@@ -20,7 +19,7 @@ use Rattle.cue.specs.Results.{Within, Signed32}
 use Rattle.cue.proofs.Bounds.{above-⊗, below-⊗, above-inv, below-inv, above-sup, below-sup, power-within, times-le, signed32, results-32}
 use Rattle.cue.proofs.Walk.{steps-bound}
 use Rattle.cue.proofs.Few.{selections-few, steps-few, lines-few}
-use Rattle.sheet.specs.Sheet.{Sheet, limit, read}
+use Rattle.sheet.specs.Sheet.{Sheet, limit}
 use Rattle.sheet.specs.Sizes.{order-limit}
 use Rattle.sheet.specs.Meaning.{Timing, landing, overdue, shortfall, deviation}
 use Rattle.sheet.specs.Times.{far-limit, beyond, some-beyond}
@@ -41,12 +40,13 @@ within-sup : (n : ℕ) {k : ℕ} (f : ℕ → E) → ((j : ℕ) → j < n → Wi
 within-sup n f h = record { low = above-sup n f (λ j q. h j q .low); high = below-sup n f (λ j q. h j q .high) }
 
 -- ---- a timing that is tested
+pub not-beyond : (x : ℤ) → beyond x ≡ false → (up x ≤ far-limit) × (dn x ≤ far-limit)
+not-beyond x b = let e = none-or (ltb far-limit (up x)) (ltb far-limit (dn x)) b in (ltb-false _ _ (e .0), ltb-false _ _ (e .1))
+
 pub near : (X : Timing) (n : ℕ) → some-beyond n X ≡ false → (j : ℕ) → j < n → Within far-limit far-limit (num (X j))
 near X n e j h =
     let b : beyond (X j) ≡ false = rw (each-at n j X (pos 0) h) at (none-at beyond (pos 0) (each n (λ j. X j ∷ [])) j e (rw (length-each n X) h)) in
-    let (p, q) = none-or (ltb far-limit (up (X j))) (ltb far-limit (dn (X j))) b in
-    let u = ltb-false far-limit (up (X j)) p in
-    let d = ltb-false far-limit (dn (X j)) q in
+    let (u, d) = not-beyond (X j) b in
     record { low = record { above = λ y f. rw (← num-inj f) (omega arith) }; high = record { below = λ y f. rw (← num-inj f) (omega arith) } }
 
 module _ (t : Sheet) (G : Good t) (X : Timing) (e : some-beyond (t .triggers) X ≡ false) where

@@ -3,17 +3,15 @@ use mathlib.Core.Path.{_≡_, ap, sym, _∙_}
 use mathlib.Core.List.{List}
 use Prim.Native.Nat.{ℕ, _+_, _<_}
 use Rattle.maxplus.specs.Entry.{num}
-use Rattle.maxplus.specs.Finite.{In}
-use Rattle.maxplus.specs.Line.{Line}
 use Rattle.maxplus.proofs.LatestLaws as laws
-use Rattle.cue.specs.Latest.{fit, latest}
+use Rattle.cue.specs.Latest.{latest}
 use Rattle.cue.specs.Results.{Within}
 use Rattle.cue.proofs.Latest.{latest-is}
-use Rattle.cue.proofs.Bounds.{fit-within, latest-within}
+use Rattle.cue.proofs.Bounds.{latest-within}
 use Rattle.sheet.specs.Sheet.{got, Sheet, limit}
 use Rattle.sheet.specs.Sizes.{order-limit, line-down}
 use Rattle.sheet.specs.Meaning.{Timing, Latest}
-use Rattle.sheet.specs.Cue.{cue-size, cue-of, Orderly, sheet-lines}
+use Rattle.sheet.specs.Cue.{cue-size, cue-of, Orderly}
 use Rattle.sheet.specs.Good.{Good}
 use Rattle.sheet.specs.Times.{far-limit}
 use Rattle.sheet.specs.Admitted.{admitted}
@@ -53,10 +51,7 @@ module _ (s : List ℕ) (count : ℕ) (G : Timing) (t : Sheet) (r : List ℕ) (e
   given : (j : ℕ) → j < t .triggers → Within far-limit far-limit (num (G j))
   given = near G (t .triggers) (admits .near)
 
-  -- the weights that fit are as far from 0 as a given timing may be, and the timing that they make is a line's size lower at most
-  pub fit-fits : (c : Line (t .triggers)) → In c (sheet-lines t) → Within far-limit far-limit (num (fit (t .triggers) G c))
-  fit-fits = fit-within (cue-size t) (cue-of t) G far-limit far-limit given
-
+  -- it is as far from 0 as a given timing may be, and a line's size lower at most
   pub latest-fits : (j : ℕ) → j < t .triggers → Within (far-limit + line-down) far-limit (num (latest (cue-size t) (cue-of t) G j))
   latest-fits = latest-within (cue-size t) (cue-of t) G far-limit far-limit given limit order-limit (admits .orderly) (good .limited)
       (good .triggers-few)

@@ -10,7 +10,8 @@ use Rattle.tables.proofs.LineLaws.{written-none, written-more, written-all}
 use Rattle.sheet.specs.Times.{far-limit, beyond}
 use Rattle.timing.specs.Times.{component}
 use Rattle.timing.proofs.LimitLaws.{none-at, read-again}
-use Rattle.timing.proofs.TimeLaws.{near, component-word}
+use Rattle.sheet.proofs.Fits.{not-beyond}
+use Rattle.timing.proofs.TimeLaws.{component-word}
 use Rattle.timing.proofs.times.words_of.Statement.{statement}
 use Rattle.timing.proofs.times.words_of.Tie as tie
 
@@ -35,7 +36,7 @@ of-number-requires c κs =
     let s : tie.Start Inv-loop μ-loop = search in
     let j = at-loop .loop .j in
     let x = component (s .args .timing .at) j in
-    let h = near x (none-at beyond _ _ j (s .pre .1) (omega arith)) in
+    let h = not-beyond x (none-at beyond _ _ j (s .pre .1) (omega arith)) in
     rw (read-again x (c .of-number-arg .given)) (omega (arith, h .0), omega (arith, h .1))
 
 mul-r : tie.Need-mul-r Inv-loop μ-loop
