@@ -5,11 +5,11 @@ use mathlib.Core.Bool.{Bool, true, false, cond}
 use mathlib.Core.List.{List, [], _∷_}
 use Prim.Native.Nat.{ℕ, _/_, _≤_, _<_}
 use native.Mathlib.Omega.{arith}
-use borrow.Author.Tests.{leb-false, lt-ltb}
-use lib.Dec.{leb, ltb}
-use lib.IntN.{ℤ, pos}
+use borrow.Author.Tests.{leb-false}
+use lib.Dec.{leb}
+use lib.IntN.{ℤ}
 use lib.ListN.{length}
-use Rattle.maxplus.proofs.EachLaws.{each-same, each-at}
+use Rattle.maxplus.proofs.EachLaws.{each-same}
 use Rattle.cue.specs.Sizes.{size-limit}
 use Rattle.cue.specs.Written.{line-size}
 use Rattle.sheet.specs.Text.{bytes}
@@ -23,6 +23,7 @@ use Rattle.sheet.proofs.AdmittedLaws.{admitted-as}
 use Rattle.sheet.proofs.Latest.{latest-exists}
 use Rattle.admitting.proofs.Known.{admitted-known}
 use Rattle.timing.specs.Times.{component, timing-of}
+use Rattle.timing.proofs.NumberLaws.{component-of}
 use Rattle.writing.specs.Numerals.{numeral}
 use Rattle.writing.specs.Texts.{field, joined, latest-text, full-text, refusal-text}
 use Rattle.advice.specs.Advice.{advice}
@@ -64,10 +65,8 @@ module _ (s : List ℕ) (count : ℕ) (G : Timing) where
 -- the words of a timing's first components are these
 latest-words : (n : ℕ) (X : Timing) → n ≤ size-limit → latest-text n (component (timing-of n X .at)) ≡ latest-text n X
 unfolding latest-text
-latest-words n X few = ap (λ l. field (bytes "latest=") (joined l)) (each-same n _ _ (λ j h. ap (λ z. numeral z ∷ []) (here j h)))
-  where
-    here : (j : ℕ) → j < n → component (timing-of n X .at) j ≡ X j
-    here j h = each-at size-limit j (λ j. cond (ltb j n) (X j) (pos 0)) (pos 0) (omega arith) ∙ rw (lt-ltb j n h)
+latest-words n X few =
+    ap (λ l. field (bytes "latest=") (joined l)) (each-same n _ _ (λ j h. ap (λ z. numeral z ∷ []) (component-of n X j few h)))
 
 full-of : (o : ReachOutcome) (p : Reached) → p ≡ reach-answer o → ¬ (p .refusal ≡ 0) → ¬ (p .count ≡ 0) →
     full-text (p .count) ≡ reached-text o

@@ -3,14 +3,12 @@
 use mathlib.Core.Path.{_≡_, refl, ap, sym, subst, _∙_}
 use mathlib.Core.Bool.{Bool, true, false, cond, decide}
 use mathlib.Core.List.{List}
-use Prim.Native.Nat.{ℕ, _/_, _≤_, _<_}
+use Prim.Native.Nat.{ℕ, _/_, _<_}
 use native.Mathlib.Omega.{arith}
 use lib.Dec.{leb}
-use lib.IntN.{ℤ, pos}
+use lib.IntN.{ℤ}
 use lib.ListN.{length}
 use Rattle.maxplus.specs.Line.{Line}
-use Rattle.maxplus.proofs.EachLaws.{each-at}
-use Rattle.cue.specs.Sizes.{size-limit}
 use Rattle.cue.specs.Written.{line-size}
 use Rattle.sheet.specs.Sheet.{Got, got, Sheet}
 use Rattle.sheet.specs.Sheet as sheet
@@ -24,8 +22,7 @@ use Rattle.sheet.proofs.Decided.{tightest?}
 use Rattle.sheet.proofs.Demands.{order-kept}
 use Rattle.sheet.proofs.Latest.{latest-formula, latest-one, latest-same, latest-exists}
 use Rattle.sheet.proofs.OrderedLaws.{ordered-got}
-use Rattle.timing.specs.Times.{component, timing-of}
-use Rattle.timing.proofs.NumberLaws.{first-at}
+use Rattle.timing.proofs.NumberLaws.{component-of}
 use Rattle.planning.specs.Planning.{PlanOutcome, planned, full, plan-of, planning, space-after, plan-answer}
 use Rattle.reaching.specs.Reaching.{ReachOutcome, reached, reaching, reached-space}
 use Rattle.reaching.specs.Reaching as outcome
@@ -33,10 +30,6 @@ use Rattle.testing.specs.Testing.{tests, testing}
 use Rattle.testing.specs.Testing as tested
 use Rattle.reaching.specs.Promise.{Succeeds, timing-reached, Reaches, One-exists, Request-1, Refusals, Those-of-testing}
 use Rattle.reaching.proofs.ReachLaws.{reaching-of}
-
--- the components that are handed back
-component-of : (n : ℕ) (X : Timing) (j : ℕ) → n ≤ size-limit → j < n → X j ≡ component (timing-of n X .at) j
-component-of n X j few h = sym (each-at 6 j _ (pos 0) (omega arith) ∙ first-at X h)
 
 module _ (s : List ℕ) (count : ℕ) (G : Timing) (space : List ℤ) (t : Sheet) (x : List ℕ) (e : admitted s count G ≡ got t x) where
   abbrev admits : Admits s count G t x
@@ -59,7 +52,7 @@ module _ (s : List ℕ) (count : ℕ) (G : Timing) (space : List ℤ) (t : Sheet
   planning-is = ap (plan-of room) (ordered-got s t x (admits .read-is) (admits .orderly))
 
   handed : (j : ℕ) → j < t .triggers → latest-exists s count G t x e .0 j ≡ timing-reached whole j
-  handed j h = component-of (t .triggers) _ j (good .triggers-few) h
+  handed j h = sym (component-of (t .triggers) _ j (good .triggers-few) h)
 
   -- where there is room
   reaches : planning s space ≡ plan → Reaches s t G space whole

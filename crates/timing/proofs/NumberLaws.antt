@@ -2,7 +2,7 @@
 use mathlib.Core.Path.{_≡_, refl, sym, ap, _∙_}
 use mathlib.Core.List.{List}
 use mathlib.Core.Bool.{cond}
-use Prim.Native.Nat.{ℕ, zero, suc, _+_, _<_}
+use Prim.Native.Nat.{ℕ, zero, suc, _+_, _≤_, _<_}
 use native.Mathlib.Omega.{arith}
 use native.Mathlib.Decide.{decLt}
 use borrow.Author.Tests.{lt-ltb, le-ltb}
@@ -11,19 +11,20 @@ use lib.IntN.{ℤ, pos}
 use lib.ListN.{getD, set, replicate}
 use Rattle.maxplus.specs.Entry.{num}
 use Rattle.maxplus.specs.Finite.{each}
-use Rattle.maxplus.proofs.EachLaws.{each-set}
+use Rattle.maxplus.proofs.EachLaws.{each-at, each-set}
 use Rattle.maxplus.proofs.EntryLaws.{num-inj}
 use Rattle.cue.specs.Cue.{timing}
-use Rattle.cue.specs.Sizes.{six}
+use Rattle.cue.specs.Sizes.{six, size-limit}
 use Rattle.words.specs.Words.{entry}
 use Rattle.words.proofs.Laws.{entry-zero}
 use Rattle.tables.specs.Held.{meantV, HoldsV}
+use Rattle.timing.specs.Times.{component, timing-of}
 
 -- the first j components
 abbrev first : ℕ → (ℕ → ℤ) → ℕ → ℤ
 first j X i = cond (ltb i j) (X i) (pos 0)
 
-pub first-at : {j i : ℕ} (X : ℕ → ℤ) → i < j → first j X i ≡ X i
+first-at : {j i : ℕ} (X : ℕ → ℤ) → i < j → first j X i ≡ X i
 first-at {j} {i} X h = rw (lt-ltb i j h) refl
 
 first-next : (j i : ℕ) (X : ℕ → ℤ) → ¬ (i ≡ j) → first j X i ≡ first (j + 1) X i
@@ -38,6 +39,10 @@ components-none X = refl
 
 pub components-more : (X : ℕ → ℤ) (j : ℕ) (z : ℤ) → j < 6 → z ≡ X j → set (six (first j X)) j z ≡ six (first (j + 1) X)
 components-more X j z h e = each-set 6 j (first j X) (first (j + 1) X) z h (e ∙ sym (first-at X (omega arith))) (λ i k q. first-next j i X q)
+
+-- those of a timing that is handed back
+pub component-of : (n : ℕ) (X : ℕ → ℤ) (j : ℕ) → n ≤ size-limit → j < n → component (timing-of n X .at) j ≡ X j
+component-of n X j few h = each-at 6 j _ (pos 0) (omega arith) ∙ first-at X h
 
 -- ---- a word that stands for a component
 pub there : {n : ℕ} {X : ℕ → ℤ} {w : List ℕ} (j : ℕ) → HoldsV n (timing X) w → j < n → 0 < getD w j 0
