@@ -1,8 +1,9 @@
-//! The two sides on random sheets: small, with many equal entries, absent ones and after rules, some
-//! with a fault, some with too little space.
+//! The two sides on random sheets: small, with many equal entries, absent ones, after and land rules,
+//! some with a fault, some with too little space.
 
 use crate::classes::SHEETS;
 use crate::plain::LINE_WORDS;
+use crate::random::Random;
 use crate::sides::{SPACE, agreed};
 use std::io::Result;
 
@@ -43,28 +44,6 @@ impl Tally {
             let text = String::from_utf8_lossy(sheet);
             println!("different with {words} words:\n{text}");
         }
-    }
-}
-
-/// Steele's SplitMix.
-struct Random {
-    state: u64,
-}
-
-impl Random {
-    fn next(&mut self) -> u64 {
-        self.state = self.state.wrapping_add(0x9e37_79b9_7f4a_7c15);
-        let z = (self.state ^ (self.state >> 30)).wrapping_mul(0xbf58_476d_1ce4_e5b9);
-        let z = (z ^ (z >> 27)).wrapping_mul(0x94d0_49bb_1331_11eb);
-        z ^ (z >> 31)
-    }
-
-    fn below(&mut self, bound: usize) -> usize {
-        (self.next() % bound as u64) as usize
-    }
-
-    fn pick<'a, T>(&mut self, from: &'a [T]) -> &'a T {
-        &from[self.below(from.len())]
     }
 }
 
@@ -128,10 +107,22 @@ fn sheet(random: &mut Random) -> Vec<u8> {
     text += &floor.needed_line(random, "floor", m);
     text += &due.line(random, "due", n);
     (0..n).for_each(|_| text += &after.line(random, "after", n));
+    if random.below(2) == 0 {
+        let land = land_kind(random, &lag);
+        (0..n).for_each(|_| text += &land.line(random, "land", m));
+    }
     let mut bytes = text.into_bytes();
     if random.below(8) == 0 {
         let at = random.below(bytes.len());
         bytes[at] = *random.pick(b"0123456789-,=\nx");
     }
     bytes
+}
+
+/// Land entries that often are as low as the lags are high, so that they can be kept.
+fn land_kind(random: &mut Random, lag: &Kind) -> Kind {
+    let mut land = Kind::some(random);
+    let lower = lag.span.min(1000) + land.span.min(1000);
+    land.shift = -lower * *random.pick(&[0, 1, 1, 1]);
+    land
 }

@@ -1,7 +1,7 @@
 //! What is timed.
 
-use crate::hire;
 use crate::sides::{Side, Work};
+use crate::{hire, land};
 
 /// Where the stored sheets are, from the top of the repository.
 pub const SHEETS: &str = "tests/programs/sheets";
@@ -9,18 +9,22 @@ pub const SHEETS: &str = "tests/programs/sheets";
 /// The sheet of the programs' class, document 01's whole case.
 pub const WHOLE: &str = "whole";
 
-/// The class of request 6's sheets, and how many they are.
+/// The class of request 6's sheets, and how many they are; the first of them with land lines.
 const HIRE: &str = "hire";
 const HIRED: usize = 1000;
+const LAND: &str = "land";
+const LANDED: usize = 300;
 
 /// The planning of a class's sheets, and the latest times asked of them.
 const PLAN: fn(&Side) -> Work = |side| side.plan;
 const LATEST: fn(&Side) -> Work = |side| side.latest;
 
-/// Key, name, sheets and work of each class that both sides do; sheets but HIRE are a stored one.
-const CLASSES: [Kind; 8] = [
+/// Key, name, sheets and work of each class that both sides do; sheets but HIRE and LAND are a stored
+/// one.
+const CLASSES: [Kind; 9] = [
     (WHOLE, "whole case", WHOLE, PLAN),
     (HIRE, "1,000 sheets of request 6", HIRE, PLAN),
+    (LAND, "300 sheets with land lines", LAND, PLAN),
     (UNPRUNED, "46,656 selections", UNPRUNED, PLAN),
     (AFTER, "46,656 selections, after rules", AFTER, PLAN),
     (LISTED, "22,500 selections, 22 lines", LISTED, PLAN),
@@ -73,10 +77,13 @@ pub fn path(key: &str) -> String {
 }
 
 fn sheets(key: &str) -> Result<Vec<Vec<u8>>, String> {
-    if key == HIRE {
-        return Ok(hire::chained(HIRED));
+    match key {
+        HIRE => Ok(hire::chained(HIRED)),
+        LAND => Ok(land::chained(LANDED)),
+        _ => stored(&path(key)).map(|sheet| vec![sheet]),
     }
-    let path = path(key);
-    let sheet = std::fs::read(&path).map_err(|error| format!("{path}: {error}"))?;
-    Ok(vec![sheet])
+}
+
+fn stored(path: &str) -> Result<Vec<u8>, String> {
+    std::fs::read(path).map_err(|error| format!("{path}: {error}"))
 }

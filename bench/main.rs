@@ -10,8 +10,10 @@ mod check;
 mod classes;
 mod counts;
 mod hire;
+mod land;
 mod plain;
 mod programs;
+mod random;
 mod report;
 mod sides;
 mod times;
@@ -22,7 +24,7 @@ use sides::{SIDES, SPACE};
 use std::process::ExitCode;
 
 const USAGE: &str = "usage: bench [CLASS..] | --count [CLASS..] | --check [SHEETS [SEED]] | --plans library|plain CLASS all|none
-classes: whole hire unpruned_distinct unpruned_after lines_times_selections lines72 latest latest72 programs";
+classes: whole hire land unpruned_distinct unpruned_after lines_times_selections lines72 latest latest72 programs";
 /// What `--check` does by default.
 const CHECKED: &str = "20000";
 const SEED: &str = "1";

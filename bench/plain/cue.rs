@@ -1,7 +1,7 @@
 //! Steps 1 to 4: star, product, new due marks, least deviation and kept triggers.
 
 use super::entry::{
-    ABSENT, Entry, Line, MOST, NO_LINE, Table, join, largest, minus, product, sums,
+    ABSENT, Entry, Line, MOST, NO_LINE, Table, join, join_rows, largest, minus, product, sums,
 };
 use super::sheet::{Refusal, Sheet};
 
@@ -43,7 +43,7 @@ const NO_LEVEL: Level = Level {
 
 impl Cue {
     pub fn new(sheet: &Sheet) -> Result<Cue, Refusal> {
-        let star = star(&sheet.after, sheet.triggers).ok_or(Refusal::NoOrder)?;
+        let star = star(&order(sheet), sheet.triggers).ok_or(Refusal::NoOrder)?;
         let through = product(&sheet.lag, &star);
         let marks = marks(&star, &sheet.due);
         let deviation = deviation(&through, &marks, &sheet.floor);
@@ -85,16 +85,23 @@ impl Level {
     }
 }
 
-/// The sum of the powers 0 to n − 1 of the after table, if no diagonal entry of powers 1 to n is
+/// The larger of the after table and land times lag.
+fn order(sheet: &Sheet) -> Table {
+    let mut order = sheet.after;
+    if let Some(land) = &sheet.land {
+        join_rows(&mut order, &product(land, &sheet.lag));
+    }
+    order
+}
+
+/// The sum of the powers 0 to n − 1 of the order table, if no diagonal entry of powers 1 to n is
 /// above 0.
-fn star(after: &Table, n: usize) -> Option<Table> {
+fn star(order: &Table, n: usize) -> Option<Table> {
     let mut star = [NO_LINE; MOST];
     let mut power = unit(n);
     for _ in 0..n {
-        for (row, other) in star.iter_mut().zip(&power) {
-            join(row, other);
-        }
-        power = product(after, &power);
+        join_rows(&mut star, &power);
+        power = product(order, &power);
         if (0..n).any(|i| power[i][i] > 0) {
             return None;
         }

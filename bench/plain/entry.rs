@@ -71,3 +71,9 @@ pub fn join(line: &mut Line, other: &Line) {
         *at = (*at).max(least);
     }
 }
+
+pub fn join_rows(table: &mut Table, other: &Table) {
+    for (row, other) in table.iter_mut().zip(other) {
+        join(row, other);
+    }
+}

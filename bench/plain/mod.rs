@@ -1,5 +1,5 @@
-//! A plain planner, written from document 01: what the proved library is timed beside. It goes the
-//! library's way, so that the times compare the code and not the method.
+//! A plain planner, written from documents 01 and 02: what the proved library is timed beside. It goes
+//! the library's way, so that the times compare the code and not the method.
 
 mod bounds;
 mod cue;

@@ -26,6 +26,8 @@ pub struct Sheet {
     pub floor: Line,
     pub due: Line,
     pub after: Table,
+    /// The land lines, where there are some: a row for each trigger, a place for each panel.
+    pub land: Option<Table>,
 }
 
 pub fn read(bytes: &[u8]) -> Result<Sheet, Refusal> {
@@ -41,11 +43,13 @@ pub fn read(bytes: &[u8]) -> Result<Sheet, Refusal> {
         floor: NO_LINE,
         due: NO_LINE,
         after: [NO_LINE; MOST],
+        land: None,
     };
     reader.rows(b"lag=", &mut sheet.lag[..panels], triggers)?;
     sheet.floor = reader.entries(b"floor=", panels)?;
     sheet.due = reader.due(triggers)?;
     reader.rows(b"after=", &mut sheet.after[..triggers], triggers)?;
+    sheet.land = reader.land(triggers, panels)?;
     if !reader.rest.is_empty() {
         return Err(Refusal::Form);
     }
@@ -85,6 +89,17 @@ impl Reader<'_> {
             return Err(Refusal::NoDue);
         }
         Ok(due)
+    }
+
+    /// The first key decides whether there are land lines; then there is one for each trigger.
+    fn land(&mut self, triggers: usize, panels: usize) -> Result<Option<Table>, Refusal> {
+        const KEY: &[u8] = b"land=";
+        if !self.rest.starts_with(KEY) {
+            return Ok(None);
+        }
+        let mut land = [NO_LINE; MOST];
+        self.rows(KEY, &mut land[..triggers], panels)?;
+        Ok(Some(land))
     }
 
     /// A line's range is looked at when its form is known to be good.

@@ -320,14 +320,15 @@ static inline const char *tuzhelar_meaning(uint32_t number)
     case TUZHELAR_DONE:
         return "Done.";
     case TUZHELAR_TOO_LONG:
-        return "The sheet has more than 2,048 bytes. No good sheet has more than 762: look for text behind its last line.";
+        return "The sheet has more than 2,048 bytes. No good sheet has more than 1,080: look for text behind its last line.";
     case TUZHELAR_FORM:
         return "A line is missing or ill-formed, or bytes follow the last line. Look at the order of the lines, their keys, "
-               "their numbers of items, numerals such as 05, -0 or +5, blanks, and the line end of each.";
+               "their numbers of items, numerals such as 05, -0 or +5, blanks, and the line end of each; there is a land line for "
+               "each trigger or none.";
     case TUZHELAR_SIZE:
         return "The number of panels or of triggers is not 1 to 6.";
     case TUZHELAR_RANGE:
-        return "An entry is below -100,000 or above 100,000.";
+        return "An entry of a lag, floor, due, after or land line is below -100,000 or above 100,000.";
     case TUZHELAR_NO_DUE:
         return "A due mark is absent. Each trigger needs one.";
     case TUZHELAR_NO_LAG:
@@ -335,7 +336,8 @@ static inline const char *tuzhelar_meaning(uint32_t number)
     case TUZHELAR_NO_FLOOR:
         return "No panel has a floor. At least one needs one.";
     case TUZHELAR_ORDER:
-        return "No times keep the order. Look for a circle of after rules whose numbers add up to more than 0.";
+        return "No times keep the order. Look for a circle of after and land rules whose numbers, with the lags to panels waited "
+               "for, add up to more than 0.";
     case TUZHELAR_SPACE:
         return "The list has more lines than the lent space holds. Lend seven words for each line of the count returned.";
     case TUZHELAR_COMPONENTS:
@@ -345,7 +347,7 @@ static inline const char *tuzhelar_meaning(uint32_t number)
     case TUZHELAR_YES:
         return "The times are tightest.";
     case TUZHELAR_NO:
-        return "The times are not tightest: they break an after rule, or other times have a smaller deviation.";
+        return "The times are not tightest: they break an after or land rule, or other times have a smaller deviation.";
     default:
         return "No function returns this number.";
     }

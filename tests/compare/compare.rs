@@ -14,6 +14,9 @@ use crate::under_test::{SECOND, SameAnswer, UNLIKE, UNTOUCHED, YES};
 /// sheet takes some milliseconds at most.
 const LISTED_SELECTIONS: u64 = 200;
 
+/// What stands in a good sheet with land lines and in no other.
+const LAND: &[u8] = b"land=";
+
 /// Space that is enough for any list of a small sheet.
 const SEARCH_SPACE: usize = 64 * reference::LINE_WORDS;
 
@@ -26,6 +29,9 @@ pub struct Seen {
     pub size: Option<(usize, usize)>,
     /// Whether the list itself was compared.
     pub listed: bool,
+    /// Whether a good sheet has land lines, and an entry in them.
+    pub land_lines: bool,
+    pub land_rules: bool,
     /// Plannings refused with 9.
     pub too_small: u64,
     /// Answers of the test operation: yes, no, 10, 11.
@@ -151,6 +157,8 @@ pub fn compare_sheet(
         Ok(survey) => {
             let read = &survey.tables.sheet;
             seen.size = Some((read.panels, read.triggers));
+            seen.land_lines = sheet.windows(LAND.len()).any(|bytes| bytes == LAND);
+            seen.land_rules = read.has_land_rules();
             if survey.selections() <= LISTED_SELECTIONS {
                 lines = survey.lines();
                 compare_plans(tried, sheet, survey, &lines, random, &mut seen)?;

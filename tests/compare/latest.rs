@@ -6,13 +6,14 @@
 //! for every trigger j and every panel i with a floor. Landing y(i) is a(i,k) + x(k) for some k, so
 //! this says: each such panel has a trigger k with x(j) ≤ x(k) + a(i,k) + q(j) − p(i) + Δ for every j.
 //! So the tightest timings are those that, for one choice of triggers or another, fulfil rules
-//! x(j) ≤ x(k) + c; the after rules are such rules too. Lowering the given times until the rules of a
-//! choice hold gives the latest timing for that choice, or never ends. The one that is asked for is
-//! tightest, so it fulfils the rules of some choice; that choice's latest is no earlier, and no
-//! choice's latest is later, for each is tightest and exceeds no given time. So it is the largest of
-//! them, component by component.
+//! x(j) ≤ x(k) + c. The rules of the order are such rules too: x(i) ≥ c(i,j) + y(j) is to say that
+//! x(k) ≤ x(i) − c(i,j) − a(j,k) for every k. Lowering the given times until the rules of a choice hold
+//! gives the latest timing for that choice, or never ends. The one that is asked for is tightest, so it
+//! fulfils the rules of some choice; that choice's latest is no earlier, and no choice's latest is
+//! later, for each is tightest and exceeds no given time. So it is the largest of them, component by
+//! component.
 
-use crate::reference::{self, Line, NoPlan, Sheet, Survey, Tables};
+use crate::reference::{self, Line, NoPlan, Sheet, Survey, Table, Tables};
 
 /// "On success the lent space holds the list as after planning"; the count is how much was written.
 #[derive(Clone, Debug, PartialEq, Eq)]
@@ -56,13 +57,23 @@ fn times(tables: &Tables, given: &[i64]) -> Vec<i64> {
 /// (j, k, c): x(j) ≤ x(k) + c.
 type Rule = (usize, usize, i64);
 
-/// "x(i) ≥ b(i,j) + x(j)", for every present b(i,j).
+/// "x(i) ≥ b(i,j) + x(j)" and "x(i) ≥ c(i,j) + y(j)", for every present b(i,j) and c(i,j).
 fn order_rules(sheet: &Sheet) -> Vec<Rule> {
-    let n = sheet.triggers;
-    let places = (0..n).flat_map(|i| (0..n).map(move |j| (i, j)));
-    places
-        .filter_map(|(i, j)| sheet.after[i][j].map(|b| (j, i, -b)))
-        .collect()
+    let after = present(&sheet.after).map(|(i, j, b)| (j, i, -b));
+    let land = present(&sheet.land).flat_map(|(i, j, c)| {
+        let lags = sheet.lag[j].iter().enumerate();
+        lags.filter_map(move |(k, a)| a.map(|a| (k, i, -c - a)))
+    });
+    after.chain(land).collect()
+}
+
+/// The present entries of a table, each behind its row and column.
+fn present(table: &Table) -> impl Iterator<Item = (usize, usize, i64)> {
+    let rows = table.iter().enumerate();
+    rows.flat_map(|(i, row)| {
+        let entries = row.iter().enumerate();
+        entries.filter_map(move |(j, entry)| entry.map(|entry| (i, j, entry)))
+    })
 }
 
 /// The rules of panel i with trigger k, whose lag is a.

@@ -1,7 +1,8 @@
 //! Compares an implementation of document 01 with a plain one, on sheets made for it.
 //!
 //! - `compare [SECONDS] [SEED]` compares for about SECONDS seconds (4)
-//! - `compare --self` checks the reference and the search by themselves
+//! - `compare --self` checks the reference and the search by themselves, and that they notice wrong
+//!   programs
 //! - `compare --time FILE..` times planning of each sheet; none may take longer than 0.1 s
 //! - `compare --plan`, `compare --kept` write the reference's text for the sheet on standard input
 
@@ -10,20 +11,23 @@ mod compare;
 #[cfg(linked)]
 mod ffi;
 mod itself;
+mod land;
 mod latest;
 mod reference;
 mod search;
 mod sheets;
 mod under_test;
+mod wrong;
 
 use cases::Checks;
 use compare::{Searched, Seen, Trial};
 use itself::REFERENCE;
+use reference::Tables;
 use sheets::Random;
 use std::io::Read;
 use std::process::ExitCode;
 use std::time::{Duration, Instant};
-use under_test::{PlanAnswer, SAME, SECOND, UNDER_TEST, UNLIKE};
+use under_test::{Operations, PlanAnswer, SAME, SECOND, UNDER_TEST, UNLIKE};
 
 const USAGE: &str = "usage: compare [SECONDS] [SEED] | --self | --time FILE.. | --plan | --kept";
 const SECONDS: f64 = 4.0;
@@ -40,7 +44,7 @@ const SHOWN: u64 = 3;
 const SELF_PAIRS: u64 = 150;
 /// Sheets among which `--self` wants every refusal of reading, 8 and every size.
 const SELF_SHEETS: u64 = 4_000;
-/// Sheets that `--self` compares with the reference itself.
+/// Trials in which `--self` compares the reference with itself, and each wrong program with it.
 const SELF_COMPARED: u64 = 400;
 
 fn main() -> ExitCode {
@@ -124,8 +128,10 @@ fn timed(sheet: &[u8]) -> (PlanAnswer, Duration) {
 fn run_self() -> ExitCode {
     let mut checks = Checks::default();
     cases::run(&mut checks);
+    land::run(&mut checks);
     check_search(&mut checks);
     check_sheets(&mut checks);
+    check_wrong(&mut checks);
     verdict(checks.passed, checks.failed)
 }
 
@@ -133,10 +139,7 @@ fn run_self() -> ExitCode {
 fn check_search(checks: &mut Checks) {
     let mut searched = Searched::default();
     for number in 0..SELF_PAIRS {
-        let mut random = Random::new(SEED, number);
-        let draft = sheets::tiny(&mut random);
-        let (other, _) = sheets::related(&mut random, &draft);
-        let result = compare::compare_pair(&REFERENCE, &draft, &other, &mut random);
+        let result = search_pair(&REFERENCE, number);
         let name = format!("search of pair {number}: {:?}", result.as_ref().err());
         checks.check(&name, result.is_ok());
         searched += result.unwrap_or_default();
@@ -149,11 +152,19 @@ fn check_search(checks: &mut Checks) {
     checks.check("unequal pairs are met", unequal > SELF_PAIRS / 10);
 }
 
-/// The sheets reach every refusal of reading, 8, and every size; the comparison finds the reference
-/// equal to itself.
+/// What the search says of a program on two small sheets.
+fn search_pair(tried: &Operations, number: u64) -> Result<Searched, String> {
+    let mut random = Random::new(SEED, number);
+    let draft = sheets::tiny(&mut random);
+    let (other, _) = sheets::related(&mut random, &draft);
+    compare::compare_pair(tried, &draft, &other, &mut random)
+}
+
+/// The sheets reach every refusal of reading, 8, and every size, with land rules too; the comparison
+/// finds the reference equal to itself.
 fn check_sheets(checks: &mut Checks) {
     let mut codes = [0; 9];
-    let mut sizes = [[0; 6]; 6];
+    let (mut sizes, mut land_sizes) = ([[0; 6]; 6], [[0; 6]; 6]);
     for number in 0..SELF_SHEETS {
         let mut random = Random::new(SEED, number);
         match compare::trial(number, &mut random) {
@@ -164,8 +175,10 @@ fn check_sheets(checks: &mut Checks) {
                 }
                 let tables = reference::read(&sheet).and_then(reference::tables);
                 codes[tables.as_ref().err().copied().unwrap_or(0) as usize] += 1;
-                if let Ok(tables) = tables {
-                    sizes[tables.sheet.panels - 1][tables.sheet.triggers - 1] += 1;
+                if let Ok(Tables { sheet, .. }) = tables {
+                    let (m, n) = (sheet.panels - 1, sheet.triggers - 1);
+                    sizes[m][n] += 1;
+                    land_sizes[m][n] += u32::from(sheet.has_land_rules());
                 }
             }
             Trial::Two([one, other], known) if number < SELF_COMPARED => {
@@ -178,8 +191,34 @@ fn check_sheets(checks: &mut Checks) {
     for (code, count) in codes.iter().enumerate() {
         checks.check(&format!("sheets with code {code} are met"), *count > 0);
     }
-    let all_sizes = sizes.iter().flatten().all(|count| *count > 0);
-    checks.check("good sheets of every size are met", all_sizes);
+    let all_sizes = |sizes: [[u32; 6]; 6]| sizes.iter().flatten().all(|count| *count > 0);
+    checks.check("good sheets of every size are met", all_sizes(sizes));
+    let name = "good sheets of every size with land rules are met";
+    checks.check(name, all_sizes(land_sizes));
+}
+
+/// Every wrong program is noticed, and one that is wrong in its meaning is also found by search.
+fn check_wrong(checks: &mut Checks) {
+    for (name, wrong) in wrong::MEANING.iter().chain(&wrong::READING) {
+        let noticed = (0..SELF_COMPARED).any(|number| noticed(wrong, number));
+        checks.check(&format!("noticed: {name}"), noticed);
+    }
+    for (name, wrong) in &wrong::MEANING {
+        let found = (0..SELF_PAIRS).any(|number| search_pair(wrong, number).is_err());
+        checks.check(&format!("found by search: {name}"), found);
+    }
+}
+
+/// Whether a trial tells a program from the reference; the search is left out.
+fn noticed(tried: &Operations, number: u64) -> bool {
+    let mut random = Random::new(SEED, number);
+    match compare::trial(number, &mut random) {
+        Trial::Sheet(sheet) => compare::compare_sheet(tried, &sheet, &mut random).is_err(),
+        Trial::Two([one, other], known) => {
+            compare::compare_two(tried, [&one, &other], known, &mut random).is_err()
+        }
+        Trial::Pair(..) => false,
+    }
 }
 
 // ---------------------------------------------------------------- compare
@@ -192,6 +231,8 @@ struct Tally {
     codes: [u64; 9],
     sizes: [[u64; 6]; 6],
     listed: u64,
+    /// Good sheets with land lines, and with an entry in them.
+    land: [u64; 2],
     too_small: u64,
     tests: [u64; 4],
     latest: [u64; 5],
@@ -205,8 +246,9 @@ struct Tally {
 fn run(seconds: f64, seed: u64) -> ExitCode {
     let end = Instant::now() + Duration::from_secs_f64(seconds.clamp(0.0, 1e6));
     let mut tally = Tally::default();
-    for (number, sheet) in cases::sheets().iter().enumerate() {
-        tally.sheet(sheet, &mut Random::new(seed, number as u64));
+    let named = cases::sheets().into_iter().chain(land::sheets());
+    for (number, sheet) in named.enumerate() {
+        tally.sheet(&sheet, &mut Random::new(seed, number as u64));
     }
     let mut number = 0;
     while Instant::now() < end {
@@ -266,6 +308,8 @@ impl Tally {
             self.sizes[panels - 1][triggers - 1] += 1;
         }
         self.listed += u64::from(seen.listed);
+        self.land[0] += u64::from(seen.land_lines);
+        self.land[1] += u64::from(seen.land_rules);
         self.too_small += seen.too_small;
         let sums = self.tests.iter_mut().chain(&mut self.latest);
         for (sum, count) in sums.zip(seen.tests.into_iter().chain(seen.latest)) {
@@ -287,8 +331,10 @@ impl Tally {
 
     fn print(&self, seed: u64) {
         println!("under test {}, seed {seed}", under_test::NAME);
+        let [lines, rules] = self.land;
         println!(
-            "good {}, of these with the list compared {}",
+            "good {}, of these with the list compared {}, with land lines {lines}, \
+             with land rules {rules}",
             self.codes[0], self.listed
         );
         let refused: Vec<String> = (1..9)

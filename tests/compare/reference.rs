@@ -1,4 +1,5 @@
-//! Document 01, word for word, in plain Rust: from a sheet's bytes to the answers.
+//! Document 01, word for word, in plain Rust: from a sheet's bytes to the answers; with document 02's
+//! No. 2, "Triggers that wait for a landing".
 //! Clarity before speed; it shares no code with the planner it is compared with.
 
 use std::collections::BTreeSet;
@@ -36,6 +37,13 @@ pub struct Sheet {
     pub floor: Vec<Entry>,
     pub due: Vec<Entry>,
     pub after: Table,
+    pub land: Table,
+}
+
+impl Sheet {
+    pub fn has_land_rules(&self) -> bool {
+        !self.land.iter().all(|row| all_absent(row))
+    }
 }
 
 /// "Reading": refusals 1 to 7.
@@ -51,6 +59,7 @@ pub fn read(bytes: &[u8]) -> Result<Sheet, Refusal> {
     let floor = read_entries(&mut rest, b"floor=", panels)?;
     let due = read_due(&mut rest, triggers)?;
     let after = read_rows(&mut rest, b"after=", triggers, triggers)?;
+    let land = read_land(&mut rest, triggers, panels)?;
     // "After the lines: bytes left over are 2; then 6: a panel with no lag; then 7: no floor at all."
     if !rest.is_empty() {
         return Err(2);
@@ -68,6 +77,7 @@ pub fn read(bytes: &[u8]) -> Result<Sheet, Refusal> {
         floor,
         due,
         after,
+        land,
     })
 }
 
@@ -87,6 +97,17 @@ fn read_size(rest: &mut &[u8], key: &[u8]) -> Result<usize, Refusal> {
 /// "the i-th lag or after line is row i"
 fn read_rows(rest: &mut &[u8], key: &[u8], rows: usize, items: usize) -> Result<Table, Refusal> {
     (0..rows).map(|_| read_entries(rest, key, items)).collect()
+}
+
+/// No. 2: "A sheet may end with n more lines `land=` of m items"; "either all n lines are there or none,
+/// which reads as all absent". The next key says which.
+fn read_land(rest: &mut &[u8], triggers: usize, panels: usize) -> Result<Table, Refusal> {
+    let key = b"land=";
+    if rest.starts_with(key) {
+        read_rows(rest, key, triggers, panels)
+    } else {
+        Ok(vec![vec![None; panels]; triggers])
+    }
 }
 
 /// "4: an entry out of range", once the whole line is free of 2.
@@ -185,12 +206,17 @@ fn power_zero(n: usize) -> Table {
     (0..n).map(row).collect()
 }
 
-/// The powers 0 to n of the after table.
-fn powers(after: &Table) -> Vec<Table> {
-    let n = after.len();
+/// No. 2: "The order table of document 01 becomes the larger of the after table and land times lag."
+fn order_table(sheet: &Sheet) -> Table {
+    sum(&sheet.after, &product(&sheet.land, &sheet.lag))
+}
+
+/// The powers 0 to n of the order table.
+fn powers(order: &Table) -> Vec<Table> {
+    let n = order.len();
     let mut powers = vec![power_zero(n)];
     for k in 0..n {
-        powers.push(product(&powers[k], after));
+        powers.push(product(&powers[k], order));
     }
     powers
 }
@@ -202,7 +228,7 @@ fn order_can_be_kept(powers: &[Table]) -> bool {
         .all(|power| (0..power.len()).all(|i| power[i][i] <= Some(0)))
 }
 
-/// "M* is the sum of the powers 0 to n − 1 of the after table."
+/// "M* is the sum of the powers 0 to n − 1 of the after table", now of the order table.
 fn star(powers: &[Table]) -> Table {
     let n = powers.len() - 1;
     powers[1..n]
@@ -232,7 +258,7 @@ pub struct Tables {
 
 /// Steps 1 to 4; refusal 8: "no timing keeps the order".
 pub fn tables(sheet: Sheet) -> Result<Tables, Refusal> {
-    let powers = powers(&sheet.after);
+    let powers = powers(&order_table(&sheet));
     if !order_can_be_kept(&powers) {
         return Err(8);
     }
@@ -578,10 +604,23 @@ pub fn test(sheet: &[u8], times: &[i64]) -> Result<bool, Refusal> {
     Ok(keeps_order(&tables.sheet, times) && deviation(&tables.sheet, times) == tables.deviation)
 }
 
-/// "A timing keeps the order when it keeps every after rule": x(i) ≥ b(i,j) + x(j).
-fn keeps_order(sheet: &Sheet, x: &[i64]) -> bool {
-    let kept = |i: usize, j: usize| sheet.after[i][j].is_none_or(|b| x[i] >= b + x[j]);
-    (0..x.len()).all(|i| (0..x.len()).all(|j| kept(i, j)))
+/// "A timing keeps the order when it keeps every after rule": x(i) ≥ b(i,j) + x(j); by No. 2 it also
+/// keeps every land rule: x(i) ≥ c(i,j) + y(j).
+fn keeps_order(sheet: &Sheet, times: &[i64]) -> bool {
+    let x: Vec<Entry> = times.iter().copied().map(Some).collect();
+    let y: Vec<Entry> = (0..sheet.panels)
+        .map(|i| landing(sheet, times, i))
+        .collect();
+    rules_kept(&sheet.after, &x, &x) && rules_kept(&sheet.land, &x, &y)
+}
+
+/// Every rule of a table: each time of x is at least a rule of its row plus the time that it waits for.
+fn rules_kept(rules: &Table, x: &[Entry], waited_for: &[Entry]) -> bool {
+    let kept = |row: &[Entry], x: Entry| {
+        let mut bounds = row.iter().zip(waited_for).map(|(a, b)| plus(*a, *b));
+        bounds.all(|bound| x >= bound)
+    };
+    rules.iter().zip(x).all(|(row, x)| kept(row, *x))
 }
 
 /// "Deviation is the largest x(j) − q(j) plus the largest p(i) − y(i) over panels with a floor."

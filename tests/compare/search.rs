@@ -1,5 +1,6 @@
 //! The meaning of a plan, checked by search on small sheets: document 01's definitions of landing,
-//! deviation, order and tightest over every timing of a window, and none of its method.
+//! deviation, order and tightest, with document 02's land rules, over every timing of a window, and
+//! none of its method.
 //!
 //! Why a window is enough. Moving all times together changes neither order nor deviation, so x(1)
 //! is 0. What is asked is always whether some timing fulfils one of finitely many systems of rules
@@ -7,10 +8,12 @@
 //! "the largest sum of rules along a path without repeats that ends in k" fulfils it. Those times
 //! differ by at most n − 1 rules. So with |c| ≤ C all of ±(n − 1)·C is enough, and exact. Let E be
 //! the largest entry, absolutely.
-//! - Order: the rules are the after rules, C = E. So 8 is right exactly when the window has none.
-//! - Least deviation: one from the window for order is at most (n + 2)·E, none is below −3·E.
+//! - Order: the rules are the after rules, with C = E, and what the land rules say of each trigger k
+//!   that reaches the panel, x(i) − x(k) ≥ c(i,j) + a(j,k), with C = 2·E. Let R be E or 2·E, as there
+//!   are land lines. So 8 is right exactly when the window has none.
+//! - Least deviation: one from the window for order is at most (n − 1)·R + 3·E, none is below −3·E.
 //! - Deviation at most Δ: some choice of a trigger k for each panel i with a floor has
-//!   x(k) − x(j) ≥ p(i) − Δ − q(j) − a(i,k) for all j, so C = (n + 5)·E.
+//!   x(k) − x(j) ≥ p(i) − Δ − q(j) − a(i,k) for all j, so C = (n − 1)·R + 6·E.
 //! - Combination of lines: each j has a line whose present components fulfil
 //!   x(k) − x(j) ≥ line(k) − line(j), so C = D, the largest component absolutely.
 //! - Where two such sets differ, one system of the first holds with one rule of each system of the
@@ -19,7 +22,7 @@
 //!   components is a given one, at the end of a path of its rules: they differ by at most as much as
 //!   the given ones and the n − 1 rules.
 
-use crate::sheets::{Draft, Random};
+use crate::sheets::{Draft, Random, Table};
 
 /// The window's search goes up to three triggers.
 pub const TRIGGERS: usize = 3;
@@ -47,11 +50,20 @@ fn timings(n: usize, window: i64) -> impl Iterator<Item = Timing> {
     })
 }
 
-/// "x(i) ≥ b(i,j) + x(j)" for every present b(i,j).
+/// "x(i) ≥ b(i,j) + x(j)" for every present b(i,j), and "x(i) ≥ c(i,j) + y(j)" for every present c(i,j).
 fn keeps_order(draft: &Draft, x: &[i64]) -> bool {
-    for (i, row) in draft.after.iter().enumerate() {
-        for (j, b) in row.iter().enumerate() {
-            if b.is_some_and(|b| x[i] < b + x[j]) {
+    keeps_rules(&draft.after, x, |j| x[j])
+        && draft
+            .land
+            .iter()
+            .all(|land| keeps_rules(land, x, |j| landing(draft, x, j)))
+}
+
+/// Each time is at least as late as every rule of its row says, behind the time that it is for.
+fn keeps_rules(rules: &Table, x: &[i64], time: impl Fn(usize) -> i64) -> bool {
+    for (i, row) in rules.iter().enumerate() {
+        for (j, rule) in row.iter().enumerate() {
+            if rule.is_some_and(|rule| x[i] < rule + time(j)) {
                 return false;
             }
         }
@@ -89,7 +101,8 @@ fn is_tightest(draft: &Draft, least: i64, x: &[i64]) -> bool {
 }
 
 fn largest_entry(draft: &Draft) -> i64 {
-    let tables = draft.lag.iter().chain(&draft.after).flatten();
+    let land = draft.land.iter().flatten();
+    let tables = draft.lag.iter().chain(&draft.after).chain(land).flatten();
     let entries = tables.chain(&draft.floor).flatten().chain(&draft.due);
     entries.map(|v| v.abs()).max().expect("there is a due mark")
 }
@@ -97,8 +110,10 @@ fn largest_entry(draft: &Draft) -> i64 {
 /// Half the window for a sheet and its lines, by the bounds above.
 fn window(draft: &Draft, lines: &[Vec<Option<i64>>]) -> i64 {
     let n = draft.triggers() as i64;
+    let entry = largest_entry(draft);
+    let order = if draft.land.is_some() { 2 } else { 1 } * entry;
     let component = lines.iter().flatten().flatten().map(|v| v.abs()).max();
-    let rule = ((n + 5) * largest_entry(draft)).max(component.unwrap_or(0));
+    let rule = ((n - 1) * order + 6 * entry).max(component.unwrap_or(0));
     (n - 1) * (rule + 1)
 }
 
@@ -147,8 +162,8 @@ pub fn check(
     let n = draft.triggers();
     let lines = plan.as_ref().map_or(&[][..], |found| &found.lines);
     let window = window(draft, lines);
-    // Lines are at least −28·E. A wrong line must not make the window endless.
-    if window > 30 * (n as i64) * (largest_entry(draft) + 1) {
+    // Lines are at least −48·E. A wrong line must not make the window endless.
+    if window > 50 * (n as i64) * (largest_entry(draft) + 1) {
         return Err("a line's component is beyond all bounds".to_string());
     }
     let least = least_deviation(draft, window);

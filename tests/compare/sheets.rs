@@ -40,13 +40,18 @@ impl Random {
     }
 }
 
-/// A sheet before it is written. Absent is `None`.
+/// Rows of entries. Absent is `None`.
+pub type Table = Vec<Vec<Option<i64>>>;
+
+/// A sheet before it is written.
 #[derive(Clone, Debug)]
 pub struct Draft {
-    pub lag: Vec<Vec<Option<i64>>>,
+    pub lag: Table,
     pub floor: Vec<Option<i64>>,
     pub due: Vec<i64>,
-    pub after: Vec<Vec<Option<i64>>>,
+    pub after: Table,
+    /// The land lines, where it has some.
+    pub land: Option<Table>,
 }
 
 impl Draft {
@@ -68,7 +73,27 @@ impl Draft {
         self.after
             .iter()
             .for_each(|row| text += &written("after", row));
+        let land = self.land.iter().flatten();
+        land.for_each(|row| text += &written("land", row));
         text.into_bytes()
+    }
+
+    /// Land lines that ask nothing.
+    pub fn no_land_rules(&self) -> Table {
+        vec![vec![None; self.panels()]; self.triggers()]
+    }
+
+    /// Every rule between two triggers: the after rules, and what the land rules say by the lags.
+    pub fn order(&self) -> Table {
+        let mut order = self.after.clone();
+        for (row, land) in order.iter_mut().zip(self.land.iter().flatten()) {
+            for (c, lags) in land.iter().zip(&self.lag) {
+                let through = |a: &Option<i64>| c.zip(*a).map(|(c, a)| c + a);
+                let rules = row.iter_mut().zip(lags);
+                rules.for_each(|(rule, a)| *rule = (*rule).max(through(a)));
+            }
+        }
+        order
     }
 }
 
@@ -116,14 +141,15 @@ impl Manner {
             floor: self.row(random, m, self.no_floor),
             due: (0..n).map(|_| self.number(random)).collect(),
             after: (0..n).map(|_| self.row(random, n, self.no_after)).collect(),
+            land: None,
         }
     }
 }
 
-/// A draft for the search: at most three panels and triggers, entries within ±2 (±3 for fewer
+/// A draft for the search: at most four panels and three triggers, entries within ±2 (±3 for fewer
 /// triggers), so that the window stays small.
 pub fn tiny(random: &mut Random) -> Draft {
-    let (m, n) = (1 + random.below(3), *random.pick(&[1, 2, 2, 3, 3, 3, 3]));
+    let (m, n) = (1 + random.below(4), *random.pick(&[1, 2, 2, 3, 3, 3, 3]));
     let largest = if n == 3 { 2 } else { 3 };
     let manner = Manner {
         size: random.between(1, largest),
@@ -140,6 +166,7 @@ pub fn tiny(random: &mut Random) -> Draft {
         circle(random, &mut draft, 1);
     }
     mend(random, &mut draft, manner.size);
+    land(random, &mut draft, manner.size);
     draft
 }
 
@@ -163,6 +190,7 @@ pub fn any_size(random: &mut Random) -> Draft {
     if random.chance(97) {
         mend(random, &mut draft, size);
     }
+    land(random, &mut draft, (3 * size).min(100_000));
     draft
 }
 
@@ -177,18 +205,42 @@ pub fn at_limits(random: &mut Random) -> Draft {
         no_after: *random.pick(&[100, 90, 80]),
     };
     let mut draft = manner.draft(random, m, n);
-    match random.below(3) {
-        0 => {
-            // A falling or rising chain: the longest paths reach the bounds of M*, d and r.
-            let step = *random.pick(&[-100_000, 100_000]);
-            draft.after = vec![vec![None; n]; n];
-            (1..n).for_each(|i| draft.after[i][i - 1] = Some(step));
-        }
-        1 => order_from_marks(random, &mut draft, 50_000, 0, 50),
+    let step = *random.pick(&[-100_000, 100_000]);
+    match random.below(4) {
+        0 => after_chain(&mut draft, step),
+        1 => land_chain(&mut draft, step),
+        2 => order_from_marks(random, &mut draft, 50_000, 0, 50),
         _ => {}
     }
     mend(random, &mut draft, 100_000);
+    if draft.land.is_none() {
+        land(random, &mut draft, 100_000);
+    }
+    if random.chance(20) {
+        draft.land = Some((0..n).map(|_| manner.row(random, m, 80)).collect());
+    }
     draft
+}
+
+/// Each trigger a step after the one before: the longest paths reach the bounds of M*, d and r.
+fn after_chain(draft: &mut Draft, step: i64) {
+    let n = draft.triggers();
+    draft.after = vec![vec![None; n]; n];
+    (1..n).for_each(|i| draft.after[i][i - 1] = Some(step));
+}
+
+/// Each trigger waits for a panel that the one before alone reaches: such steps are twice as large.
+fn land_chain(draft: &mut Draft, step: i64) {
+    let n = draft.triggers();
+    draft.after = vec![vec![None; n]; n];
+    let mut land = draft.no_land_rules();
+    // The last panel is left as it is, for its floor.
+    for i in 1..n.min(draft.panels()) {
+        draft.lag[i - 1].fill(None);
+        draft.lag[i - 1][i - 1] = Some(step);
+        land[i][i - 1] = Some(step);
+    }
+    draft.land = Some(land);
 }
 
 /// A draft whose floors nearly tie: lag, floor and due come from marks, so that many entries are
@@ -204,6 +256,7 @@ pub fn nearly_tied(random: &mut Random) -> Draft {
         floor: Vec::new(),
         due: marks.iter().map(|v| v + random.between(0, noise)).collect(),
         after: vec![vec![None; n]; n],
+        land: None,
     };
     for i in 0..m {
         for j in 0..n {
@@ -215,6 +268,7 @@ pub fn nearly_tied(random: &mut Random) -> Draft {
     }
     order(random, &mut draft, 2);
     mend(random, &mut draft, 3);
+    land(random, &mut draft, 40);
     draft
 }
 
@@ -270,6 +324,63 @@ fn circle(random: &mut Random, draft: &mut Draft, size: i64) {
     }
 }
 
+/// Land lines within ±`size` on top of a draft: none, such as ask nothing, such as are drawn without a
+/// look at the order, or such as can be kept with it.
+fn land(random: &mut Random, draft: &mut Draft, size: i64) {
+    draft.land = match random.below(9) {
+        0..=3 => None,
+        4 => Some(draft.no_land_rules()),
+        5 => Some(land_anyhow(random, draft, size)),
+        _ => Some(land_from_timing(random, draft, size)),
+    };
+}
+
+fn land_anyhow(random: &mut Random, draft: &Draft, size: i64) -> Table {
+    let percent = *random.pick(&[5, 15, 40]);
+    let mut entry = || random.chance(percent).then(|| random.between(-size, size));
+    let mut row = || (0..draft.panels()).map(|_| entry()).collect();
+    (0..draft.triggers()).map(|_| row()).collect()
+}
+
+/// Land entries that a timing keeps which keeps the after rules, where any does: c(i,j) is at most
+/// x(i) − y(j). Without slack a rule that only just holds makes circles that sum to 0. Sometimes an
+/// entry asks for 1 too much.
+fn land_from_timing(random: &mut Random, draft: &Draft, size: i64) -> Table {
+    let x = timing_in_order(random, draft, (size / 4).max(1));
+    let percent = *random.pick(&[15, 40, 80]);
+    let slack = random.between(0, size.min(3));
+    let excess = i64::from(random.chance(10));
+    let mut land = draft.no_land_rules();
+    for (row, x_i) in land.iter_mut().zip(&x) {
+        for (entry, lags) in row.iter_mut().zip(&draft.lag) {
+            if let (true, Some(y)) = (random.chance(percent), largest_sum(lags, &x)) {
+                let most = x_i - y - random.between(-excess, slack);
+                *entry = (most >= -size).then_some(most.min(size));
+            }
+        }
+    }
+    land
+}
+
+/// Times within ±`size`, then raised by the after rules as long as it takes where they can be kept.
+fn timing_in_order(random: &mut Random, draft: &Draft, size: i64) -> Vec<i64> {
+    let n = draft.triggers();
+    let mut x: Vec<i64> = (0..n).map(|_| random.between(-size, size)).collect();
+    for _ in 0..n {
+        for i in 0..n {
+            let least = largest_sum(&draft.after[i], &x);
+            x[i] = x[i].max(least.unwrap_or(x[i]));
+        }
+    }
+    x
+}
+
+/// The largest of some entries, each with its time added.
+fn largest_sum(entries: &[Option<i64>], x: &[i64]) -> Option<i64> {
+    let sums = entries.iter().zip(x).map(|(a, x)| a.map(|a| a + x));
+    sums.fold(None, Option::max)
+}
+
 /// Gives each panel a lag and the sheet a floor, where they are missing.
 fn mend(random: &mut Random, draft: &mut Draft, size: i64) {
     let n = draft.triggers();
@@ -310,50 +421,72 @@ fn keep_timings(random: &mut Random, draft: &mut Draft) {
     let by = *random.pick(&[-1, 1]);
     let move_floors = |draft: &mut Draft| draft.floor.iter_mut().for_each(|p| *p = moved(*p, by));
     let move_dues = |draft: &mut Draft| draft.due.iter_mut().for_each(|q| *q += by);
-    match random.below(9) {
+    match random.below(13) {
         0 => move_floors(draft),
         1 => move_dues(draft),
         2 => {
             move_floors(draft);
             move_dues(draft);
         }
-        3 => {
-            draft.lag[panel].iter_mut().for_each(|a| *a = moved(*a, by));
-            draft.floor[panel] = moved(draft.floor[panel], by);
-        }
+        3 => move_panel(draft, panel, by),
         4 => {
             let other = random.below(draft.panels());
-            draft.lag.swap(panel, other);
-            draft.floor.swap(panel, other);
+            exchange_panels(draft, panel, other);
         }
         // A panel twice, the second time perhaps lower.
         5 if draft.panels() < 6 => {
             let lower = random.between(0, 1);
-            draft.lag.push(draft.lag[panel].clone());
-            draft.floor.push(moved(draft.floor[panel], -lower));
+            copy_panel(random, draft, panel, moved(draft.floor[panel], -lower));
         }
         // A panel that may change at any time.
-        6 if draft.panels() < 6 => {
-            draft.lag.push(draft.lag[panel].clone());
-            draft.floor.push(None);
-        }
+        6 if draft.panels() < 6 => copy_panel(random, draft, panel, None),
         7 => add_weaker_rule(random, draft),
-        _ => add_rules_that_follow(draft),
+        8 => add_rules_that_follow(draft),
+        9 | 10 => add_weaker_land_rule(random, draft),
+        11 => land_written_out(draft),
+        _ => draft.land = land_said_otherwise(draft),
+    }
+}
+
+/// A panel that changes later, with its floor; who waits for it waits so much less.
+fn move_panel(draft: &mut Draft, panel: usize, by: i64) {
+    draft.lag[panel].iter_mut().for_each(|a| *a = moved(*a, by));
+    draft.floor[panel] = moved(draft.floor[panel], by);
+    for row in draft.land.iter_mut().flatten() {
+        row[panel] = moved(row[panel], -by);
+    }
+}
+
+fn exchange_panels(draft: &mut Draft, one: usize, other: usize) {
+    draft.lag.swap(one, other);
+    draft.floor.swap(one, other);
+    for row in draft.land.iter_mut().flatten() {
+        row.swap(one, other);
+    }
+}
+
+/// A panel once more, with a floor that asks no more; who waits for it may wait for the copy as well.
+fn copy_panel(random: &mut Random, draft: &mut Draft, panel: usize, floor: Option<i64>) {
+    draft.lag.push(draft.lag[panel].clone());
+    draft.floor.push(floor);
+    for row in draft.land.iter_mut().flatten() {
+        let rule = row[panel].filter(|_| random.chance(50));
+        row.push(moved(rule, -random.between(0, 1)));
     }
 }
 
 /// The rule that follows from two others, where there are such.
-fn following(after: &[Vec<Option<i64>>], i: usize, j: usize) -> Option<i64> {
-    let through = |k: usize| after[i][k].zip(after[k][j]).map(|(a, b)| a + b);
-    (0..after.len()).map(through).fold(None, Option::max)
+fn following(order: &Table, i: usize, j: usize) -> Option<i64> {
+    let through = |k: usize| order[i][k].zip(order[k][j]).map(|(a, b)| a + b);
+    (0..order.len()).map(through).fold(None, Option::max)
 }
 
 /// Every rule that follows from two others.
 fn add_rules_that_follow(draft: &mut Draft) {
-    let after = draft.after.clone();
+    let order = draft.order();
     for (i, row) in draft.after.iter_mut().enumerate() {
         for (j, entry) in row.iter_mut().enumerate() {
-            *entry = (*entry).max(following(&after, i, j));
+            *entry = (*entry).max(following(&order, i, j));
         }
     }
 }
@@ -364,8 +497,38 @@ fn add_weaker_rule(random: &mut Random, draft: &mut Draft) {
         random.below(draft.triggers()),
         random.below(draft.triggers()),
     );
-    let follows = following(&draft.after, i, j);
+    let follows = following(&draft.order(), i, j);
     draft.after[i][j] = draft.after[i][j].max(moved(follows, -random.between(0, 2)));
+}
+
+/// One land rule that asks no more than other rules do: x(i) is late enough after each trigger that
+/// reaches the panel, and after itself at once.
+fn add_weaker_land_rule(random: &mut Random, draft: &mut Draft) {
+    let (i, panel) = (random.below(draft.triggers()), random.below(draft.panels()));
+    let mut rules = draft.order()[i].clone();
+    rules[i] = rules[i].max(Some(0));
+    let reached = rules.iter().zip(&draft.lag[panel]);
+    let follows = reached.filter_map(|(rule, lag)| lag.map(|a| moved(*rule, -a)));
+    let follows = moved(follows.min().flatten(), -random.between(0, 1));
+    let no_rules = draft.no_land_rules();
+    let entry = &mut draft.land.get_or_insert(no_rules)[i][panel];
+    *entry = (*entry).max(follows);
+}
+
+/// The land rules as after rules, by the lags, and no land lines.
+fn land_written_out(draft: &mut Draft) {
+    draft.after = draft.order();
+    draft.land = None;
+}
+
+/// Land lines that ask nothing, in the place of none; none in the place of such.
+fn land_said_otherwise(draft: &Draft) -> Option<Table> {
+    let no_rules = draft.no_land_rules();
+    match &draft.land {
+        None => Some(no_rules),
+        Some(land) if *land == no_rules => None,
+        Some(land) => Some(land.clone()),
+    }
 }
 
 /// One entry changed by 1, come or gone.
@@ -373,10 +536,12 @@ fn change_entry(random: &mut Random, draft: &mut Draft) {
     let (i, j) = (random.below(draft.panels()), random.below(draft.triggers()));
     let k = random.below(draft.triggers());
     let by = *random.pick(&[-1, 1]);
-    let entry = match random.below(7) {
+    let no_rules = draft.no_land_rules();
+    let entry = match random.below(9) {
         0 | 1 => &mut draft.lag[i][j],
         2 => &mut draft.floor[i],
         3 | 4 => &mut draft.after[j][k],
+        5 | 6 => &mut draft.land.get_or_insert(no_rules)[j][i],
         _ => return draft.due[j] += by,
     };
     *entry = match *entry {
@@ -442,6 +607,11 @@ pub fn damaged(random: &mut Random, draft: &Draft) -> Vec<u8> {
     if random.chance(10) {
         without_lag_or_floor(random, &mut draft);
     }
+    // Such land lines are a fault by themselves, which any other would hide.
+    if random.chance(15) {
+        draft.land = Some(misshapen_land(random, &draft));
+        return draft.write();
+    }
     let mut bytes = draft.write();
     for _ in 0..1 + random.below(2) {
         bytes = match random.below(8) {
@@ -466,6 +636,16 @@ fn without_lag_or_floor(random: &mut Random, draft: &mut Draft) {
     }
 }
 
+/// Land lines that ask nothing, too many or too few of them or of their items, or with panels and
+/// triggers taken for one another.
+fn misshapen_land(random: &mut Random, draft: &Draft) -> Table {
+    let (m, n) = (draft.panels(), draft.triggers());
+    let few = random.below(n);
+    let shapes = [(few, m), (n + 1, m), (n, m - 1), (n, m + 1), (m, n)];
+    let (rows, items) = *random.pick(&shapes);
+    vec![vec![None; items]; rows]
+}
+
 /// A byte changed, removed, inserted or duplicated.
 fn damage_byte(random: &mut Random, mut bytes: Vec<u8>) -> Vec<u8> {
     if bytes.is_empty() {
@@ -487,7 +667,7 @@ fn some_byte(random: &mut Random) -> u8 {
     if random.chance(20) {
         return random.next() as u8;
     }
-    *random.pick(b"0123456789--,,==\n\n\r +.aflnprt\0")
+    *random.pick(b"0123456789--,,==\n\n\r +.adflnprt\0")
 }
 
 /// The lines with their ends.
@@ -590,11 +770,24 @@ fn due_with_absent(random: &mut Random, line: &[u8]) -> Vec<u8> {
     format!("due={}\n", items.join(",")).into_bytes()
 }
 
+/// What is put behind a sheet. To one of a single panel and trigger, land lines are no fault.
+const LEFT_OVER: [&[u8]; 9] = [
+    b"\n",
+    b"x",
+    b"\0",
+    b"after=-\n",
+    b"panels=1\n",
+    b"land=-\n",
+    b"land=",
+    b"land",
+    b"Land=-\n",
+];
+
 /// Cut short, bytes left over, or near the limit of 2,048 bytes.
 fn damage_end(random: &mut Random, mut bytes: Vec<u8>) -> Vec<u8> {
     match random.below(5) {
         0 => bytes.truncate(random.below(bytes.len() + 1)),
-        1 => bytes.extend(*random.pick(&[&b"\n"[..], b"x", b"\0", b"after=-\n", b"panels=1\n"])),
+        1 => bytes.extend(*random.pick(&LEFT_OVER)),
         2 => bytes.resize(2046 + random.below(5), some_byte(random)),
         3 => stretch(random, &mut bytes),
         _ => bytes.resize(2049 + random.below(3000), some_byte(random)),

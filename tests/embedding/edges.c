@@ -1,6 +1,6 @@
 /*
- * What embed/c/tuzhelar.h says of lengths, null pointers and overlaps, case by case. Prints each case that fails; the last
- * line is 'N passed, M failed'. Also C++.
+ * What embed/c/tuzhelar.h says of lengths, null pointers and overlaps, case by case; sheets with land lines; the longest sheet. Prints each
+ * case that fails; the last line is 'N passed, M failed'. Also C++.
  */
 #include <stdio.h>
 #include <stdlib.h>
@@ -11,6 +11,7 @@
 #define SPACE 30
 #define ANSWER 20
 #define UNTOUCHED 7777
+#define LONGEST 1080 /* bytes of a good sheet, at most */
 
 static const char WHOLE[] = "panels=2\ntriggers=2\nlag=2,0\nlag=4,1\nfloor=5,2\ndue=1,2\nafter=-,-\nafter=-,-\n";
 static const char CIRCLE[] = "panels=1\ntriggers=1\nlag=5\nfloor=0\ndue=0\nafter=1\n";
@@ -20,6 +21,13 @@ static const char LATER[] = "panels=2\ntriggers=2\nlag=2,0\nlag=4,1\nfloor=5,2\n
 static const char ONE[] = "panels=1\ntriggers=1\nlag=5\nfloor=0\ndue=0\nafter=-\n";
 /* Trigger 2 comes at least 1 after trigger 1. */
 static const char AFTER[] = "panels=1\ntriggers=2\nlag=0,0\nfloor=0\ndue=0,0\nafter=-,-\nafter=1,-\n";
+/* The whole case, where trigger 2 waits for panel 2: it comes at most 5 before that lands. An after rule says the same of the triggers. */
+static const char WAITING[] =
+    "panels=2\ntriggers=2\nlag=2,0\nlag=4,1\nfloor=5,2\ndue=1,2\nafter=-,-\nafter=-,-\nland=-,-\nland=-,-5\n";
+static const char BEHIND[] = "panels=2\ntriggers=2\nlag=2,0\nlag=4,1\nfloor=5,2\ndue=1,2\nafter=-,-\nafter=-1,-\n";
+/* The whole case with land lines that hold no rule. */
+static const char NO_WAIT[] =
+    "panels=2\ntriggers=2\nlag=2,0\nlag=4,1\nfloor=5,2\ndue=1,2\nafter=-,-\nafter=-,-\nland=-,-\nland=-,-\n";
 static const int32_t LINES[2 * TUZHELAR_LINE_WORDS] = {
     2, -1, 0,               TUZHELAR_ABSENT, TUZHELAR_ABSENT, TUZHELAR_ABSENT, TUZHELAR_ABSENT,
     2, 0,  TUZHELAR_ABSENT, TUZHELAR_ABSENT, TUZHELAR_ABSENT, TUZHELAR_ABSENT, TUZHELAR_ABSENT,
@@ -27,6 +35,10 @@ static const int32_t LINES[2 * TUZHELAR_LINE_WORDS] = {
 static const int32_t LATER_LINES[2 * TUZHELAR_LINE_WORDS] = {
     2, TUZHELAR_ABSENT, 0,               TUZHELAR_ABSENT, TUZHELAR_ABSENT, TUZHELAR_ABSENT, TUZHELAR_ABSENT,
     2, 0,               TUZHELAR_ABSENT, TUZHELAR_ABSENT, TUZHELAR_ABSENT, TUZHELAR_ABSENT, TUZHELAR_ABSENT,
+};
+static const int32_t WAITING_LINES[2 * TUZHELAR_LINE_WORDS] = {
+    2, -1, 0,  TUZHELAR_ABSENT, TUZHELAR_ABSENT, TUZHELAR_ABSENT, TUZHELAR_ABSENT,
+    2, 0,  -1, TUZHELAR_ABSENT, TUZHELAR_ABSENT, TUZHELAR_ABSENT, TUZHELAR_ABSENT,
 };
 static const int32_t ONE_LINE[TUZHELAR_LINE_WORDS] = {
     1, 0, TUZHELAR_ABSENT, TUZHELAR_ABSENT, TUZHELAR_ABSENT, TUZHELAR_ABSENT, TUZHELAR_ABSENT,
@@ -289,6 +301,111 @@ static void comparing(void)
     check("same, 209 before 102", 0, same(ONE, WHOLE, SPACE, 0, ANSWER) == 209 && all_left(&compared[1]));
 }
 
+/* Land lines: rules that bind the times, and lines that hold none. */
+static void waiting(void)
+{
+    static const int64_t early[2] = {5, 0};
+    const size_t lines = 2 * TUZHELAR_LINE_WORDS;
+    int32_t space[SPACE];
+    int64_t answer[ANSWER], times[2] = {0, -1};
+    untouched(space, answer);
+    check("land, plan", 0, tuzhelar_plan(bytes(WAITING), strlen(WAITING), space, SPACE, answer, ANSWER) == TUZHELAR_DONE);
+    check("land, plan", 1, space_holds(space, WAITING_LINES, lines) && answer_holds(answer, PLANNED, TUZHELAR_PLAN_WORDS));
+    untouched(space, answer);
+    check("land, kept", 0, tuzhelar_kept(bytes(WAITING), strlen(WAITING), answer, ANSWER) == TUZHELAR_DONE);
+    check("land, kept", 1, answer_holds(answer, KEPT, TUZHELAR_KEPT_WORDS));
+    check("land, test", 0, tested(WAITING, times, 2) == TUZHELAR_YES);
+    times[1] = -2;
+    check("land, test", 1, tested(WAITING, times, 2) == TUZHELAR_NO && tested(WHOLE, times, 2) == TUZHELAR_YES);
+    check("land, latest", 0, latest(WAITING, early, 2, SPACE, ANSWER) == TUZHELAR_DONE);
+    check("land, latest", 1, reached[1] == 1 && reached[2] == 0 && space_holds(listed, WAITING_LINES, lines));
+    check("land, as an after rule", 0, same(WAITING, BEHIND, SPACE, SPACE, ANSWER) == TUZHELAR_SAME);
+    check("land, unlike no rule", 0, same(WAITING, WHOLE, SPACE, SPACE, ANSWER) == TUZHELAR_DIFFERENT);
+    check("land without a rule", 0, same(NO_WAIT, WHOLE, SPACE, SPACE, ANSWER) == TUZHELAR_SAME && space_holds(left, LINES, lines));
+}
+
+/* Every function refuses the sheet with that number, and writes nothing. */
+static void refused(const char *sheet, uint32_t number)
+{
+    const size_t length = strlen(sheet);
+    int32_t space[SPACE];
+    int64_t answer[ANSWER];
+    untouched(space, answer);
+    check(sheet, number, tuzhelar_plan(bytes(sheet), length, space, SPACE, answer, ANSWER) == number);
+    check(sheet, number, tuzhelar_kept(bytes(sheet), length, answer, ANSWER) == number);
+    check(sheet, number, space_holds(space, LINES, 0) && answer_holds(answer, PLANNED, 0));
+    check(sheet, number, tested(sheet, WISHED, 1) == number);
+    check(sheet, number, latest(sheet, WISHED, 1, SPACE, ANSWER) == number && left_but(0));
+    check(sheet, number, same(sheet, WHOLE, SPACE, SPACE, ANSWER) == number && all_left(NULL));
+    check(sheet, number, same(WHOLE, sheet, SPACE, SPACE, ANSWER) == TUZHELAR_SECOND + number && all_left(NULL));
+}
+
+/* Refusals of land lines: line by line, in one line 2 before 4, and both before 6 and 7; then 8. */
+static void land_refusals(void)
+{
+    refused("panels=2\ntriggers=1\nlag=5\nlag=5\nfloor=0,0\ndue=0\nafter=-\nland=-\n", TUZHELAR_FORM);
+    refused("panels=1\ntriggers=1\nlag=5\nfloor=0\ndue=0\nafter=-\nland=-\nland=-\n", TUZHELAR_FORM);
+    refused("panels=1\ntriggers=1\nlag=5\nfloor=0\ndue=0\nafter=-\nland=", TUZHELAR_FORM);
+    refused("panels=1\ntriggers=1\nlag=5\nfloor=0\ndue=0\nland=-\nafter=-\n", TUZHELAR_FORM);
+    refused("panels=1\ntriggers=1\nlag=-\nfloor=-\ndue=0\nafter=-\nland=100001\nland", TUZHELAR_RANGE);
+    refused("panels=1\ntriggers=1\nlag=-\nfloor=-\ndue=0\nafter=-\nland=-100001,x\n", TUZHELAR_FORM);
+    refused("panels=1\ntriggers=1\nlag=-\nfloor=-\ndue=0\nafter=-\nland=1\n", TUZHELAR_NO_LAG);
+    refused("panels=1\ntriggers=1\nlag=5\nfloor=-\ndue=0\nafter=-\nland=1\n", TUZHELAR_NO_FLOOR);
+    refused("panels=1\ntriggers=1\nlag=5\nfloor=0\ndue=0\nafter=-\nland=-4\n", TUZHELAR_ORDER);
+}
+
+/* Adds lines of entries that have as many bytes as one can have. Returns the length then. */
+static size_t add_lines(char *sheet, size_t length, const char *key, size_t lines, size_t items)
+{
+    size_t i;
+    for (; lines > 0; lines--) {
+        length += (size_t)sprintf(sheet + length, "%s", key);
+        for (i = 0; i < items; i++) {
+            length += (size_t)sprintf(sheet + length, "%s-100000", i == 0 ? "" : ",");
+        }
+        length += (size_t)sprintf(sheet + length, "\n");
+    }
+    return length;
+}
+
+/* The longest sheet of these sizes. Returns its length. */
+static size_t longest_of(char *sheet, size_t panels, size_t triggers)
+{
+    size_t length = (size_t)sprintf(sheet, "panels=%d\ntriggers=%d\n", (int)panels, (int)triggers);
+    length = add_lines(sheet, length, "lag=", panels, triggers);
+    length = add_lines(sheet, length, "floor=", 1, panels);
+    length = add_lines(sheet, length, "due=", 1, triggers);
+    length = add_lines(sheet, length, "after=", triggers, triggers);
+    return add_lines(sheet, length, "land=", triggers, panels);
+}
+
+/*
+ * No good sheet has more bytes than LONGEST: its sizes fix its lines, keys and numbers of items, no entry within the limits has more bytes than
+ * -100000, and most items stand where both sizes are 6. There is such a sheet, and with a byte more at any place it is none.
+ */
+static void longest(void)
+{
+    static const char MORE[] = "0-,\n";
+    char sheet[LONGEST + 1], longer[LONGEST + 1];
+    size_t panels, triggers, length = 0, at, i;
+    for (panels = 1; panels <= TUZHELAR_MOST; panels++) {
+        for (triggers = 1; triggers <= TUZHELAR_MOST; triggers++) {
+            length = longest_of(sheet, panels, triggers);
+            check("the longest sheet of these sizes", 10 * panels + triggers,
+                  length <= LONGEST && tuzhelar_kept_table(sheet, length).refusal == TUZHELAR_DONE);
+        }
+    }
+    check("the longest sheet", length, length == LONGEST);
+    for (at = 0; at <= length; at++) {
+        for (i = 0; i < strlen(MORE); i++) {
+            memcpy(longer, sheet, at);
+            longer[at] = MORE[i];
+            memcpy(longer + at + 1, sheet + at, length - at);
+            check("the longest sheet and a byte", at, tuzhelar_kept_table(longer, length + 1).refusal != TUZHELAR_DONE);
+        }
+    }
+}
+
 /* Sheets of every length up to some past the limit, in memory of just that size. */
 static void sheets(void)
 {
@@ -503,6 +620,9 @@ int main(void)
     reaching();
     reaching_times();
     comparing();
+    waiting();
+    land_refusals();
+    longest();
     sheets();
     layer();
     layer_for_latest();

@@ -4,10 +4,10 @@
  *   fuzz COUNT SEED [FIRST]   sheets FIRST (0) to FIRST + COUNT - 1 of a seed
  *
  * For each sheet: what the functions return is what the reader returns where it refuses; all of them are 8 exactly when the after
- * rules have a circle above 0; no byte or word that is not theirs is touched; a second planning into just enough words gives the same list,
- * and into fewer 9 with the same count; times that are tested have the answer that the meaning of the sheet gives; what the list makes is
- * tightest; the latest times that are no later than given ones are those that the meaning gives (latest.c); and it is compared with a second
- * sheet, often one that means the same or nearly so (pairs.c).
+ * and land rules have a circle above 0; no byte or word that is not theirs is touched; a second planning into just enough words gives the
+ * same list, and into fewer 9 with the same count; times that are tested have the answer that the meaning of the sheet gives; what the list
+ * makes is tightest; the latest times that are no later than given ones are those that the meaning gives (latest.c); land lines without a
+ * rule change nothing (land.c); and it is compared with a second sheet, often one that means the same or nearly so (pairs.c).
  * The last line is: N passed, M failed. A sheet that fails is written with its number, so that it can be tried alone.
  */
 #define _DEFAULT_SOURCE
@@ -19,6 +19,7 @@
 #include <time.h>
 #include <unistd.h>
 
+#include "land.h"
 #include "latest.h"
 #include "lent.h"
 #include "meaning.h"
@@ -414,6 +415,9 @@ static void check_good(struct random *random, const struct tables *tables)
     } else {
         expect(0, "the reader takes the sheet and the kept table refuses it");
     }
+    if (wrong == NULL) {
+        check_land(&text, tables);
+    }
 }
 
 /* The sheet and another one, in either order. A good one is compared with several, most of them related to it. */
@@ -507,6 +511,8 @@ static void print_met(void)
            met.tested[TUZHELAR_NO], met.tested[TUZHELAR_ORDER], met.tested[TUZHELAR_COMPONENTS], met.tested[TUZHELAR_TIME]);
     printf("latest times: found: %" PRIu64 ", of these as given: %" PRIu64 ", by the meaning alone: %" PRIu64 "; 9: %" PRIu64 "\n",
            met_latest.found, met_latest.given, met_latest.by_meaning, met_latest.too_small);
+    printf("good sheets with land lines: %" PRIu64 ", of these without a rule: %" PRIu64 ", with rules that make 8: %" PRIu64
+           ", that change the plan: %" PRIu64 "\n", met_land.sheets, met_land.no_rule, met_land.no_order, met_land.changed);
     for (i = 0; i < 10; i++) {
         refused_first += met.compared[i];
         refused_second += met.compared[TUZHELAR_SECOND + i];

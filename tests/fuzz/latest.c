@@ -140,23 +140,36 @@ static int64_t earlier(int64_t a, int64_t b)
     return a < b ? a : b;
 }
 
+/* The latest that trigger j may come by the rules, as the others stand: those of after itself, and of a landing that j has a part in. */
+static int64_t latest_by_rules(const struct tables *tables, const int64_t *times, int j)
+{
+    int64_t latest = times[j];
+    int i, panel;
+    for (i = 0; i < tables->triggers; i++) {
+        if (tables->after[i][j] != NONE) {
+            latest = earlier(latest, times[i] - tables->after[i][j]);
+        }
+        for (panel = 0; panel < tables->panels; panel++) {
+            if (tables->land[i][panel] != NONE && tables->lag[panel][j] != NONE) {
+                latest = earlier(latest, times[i] - tables->land[i][panel] - tables->lag[panel][j]);
+            }
+        }
+    }
+    return latest;
+}
+
 /*
- * Lowers times until they keep the after rules and none is too late for the landings. All tightest times that are no later than those given stay
- * no later than these, and where these come to rest they are tightest. Returns whether they did.
+ * Lowers times until they keep the after and land rules and none is too late for the landings. All tightest times that are no later than those
+ * given stay no later than these, and where these come to rest they are tightest. Returns whether they did.
  */
 static int lower(const struct tables *tables, int64_t least, int64_t *times)
 {
-    int n = tables->triggers, round, lowered, i, j;
+    int n = tables->triggers, round, lowered, j;
     for (round = 0; round < ROUNDS; round++) {
         int64_t most = least - early(tables, times);
         for (lowered = 0, j = 0; j < n; j++) {
             int64_t before = times[j];
-            times[j] = earlier(times[j], tables->due[j] + most);
-            for (i = 0; i < n; i++) {
-                if (tables->after[i][j] != NONE) {
-                    times[j] = earlier(times[j], times[i] - tables->after[i][j]);
-                }
-            }
+            times[j] = earlier(latest_by_rules(tables, times, j), tables->due[j] + most);
             lowered = lowered || times[j] != before;
         }
         if (!lowered) {

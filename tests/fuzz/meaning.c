@@ -1,16 +1,51 @@
-/* Document 01, "One cue in one house": times on the tables of a sheet, and none of the method. */
+/* Document 01, "One cue in one house", and document 02, No. 2: times on the tables of a sheet, and none of the method. */
 #include "meaning.h"
 
-#include <string.h>
+#define PLACES (2 * MOST) /* of a circle: the triggers, then the panels */
+
+/* y(i), the largest a(i,j) + x(j). */
+static int64_t landing(const struct tables *tables, const int64_t *times, int panel)
+{
+    int64_t largest = NONE;
+    int j;
+    for (j = 0; j < tables->triggers; j++) {
+        if (tables->lag[panel][j] != NONE && tables->lag[panel][j] + times[j] > largest) {
+            largest = tables->lag[panel][j] + times[j];
+        }
+    }
+    return largest;
+}
+
+/* x(i) >= b(i,j) + x(j) for every trigger j. */
+static int keeps_after(const struct tables *tables, const int64_t *times, int i)
+{
+    int j;
+    for (j = 0; j < tables->triggers; j++) {
+        if (tables->after[i][j] != NONE && times[i] < tables->after[i][j] + times[j]) {
+            return 0;
+        }
+    }
+    return 1;
+}
+
+/* x(i) >= c(i,j) + y(j) for every panel j. */
+static int keeps_land(const struct tables *tables, const int64_t *times, int i)
+{
+    int j;
+    for (j = 0; j < tables->panels; j++) {
+        if (tables->land[i][j] != NONE && times[i] < tables->land[i][j] + landing(tables, times, j)) {
+            return 0;
+        }
+    }
+    return 1;
+}
 
 int keeps_order(const struct tables *tables, const int64_t *times)
 {
-    int i, j;
+    int i;
     for (i = 0; i < tables->triggers; i++) {
-        for (j = 0; j < tables->triggers; j++) {
-            if (tables->after[i][j] != NONE && times[i] < tables->after[i][j] + times[j]) {
-                return 0;
-            }
+        if (!keeps_after(tables, times, i) || !keeps_land(tables, times, i)) {
+            return 0;
         }
     }
     return 1;
@@ -19,18 +54,10 @@ int keeps_order(const struct tables *tables, const int64_t *times)
 int64_t early(const struct tables *tables, const int64_t *times)
 {
     int64_t early = NONE;
-    int i, j;
+    int i;
     for (i = 0; i < tables->panels; i++) {
-        int64_t landing = NONE;
-        if (tables->floor[i] == NONE) {
-            continue;
-        }
-        for (j = 0; j < tables->triggers; j++) {
-            if (tables->lag[i][j] != NONE && tables->lag[i][j] + times[j] > landing) {
-                landing = tables->lag[i][j] + times[j];
-            }
-        }
-        early = tables->floor[i] - landing > early ? tables->floor[i] - landing : early;
+        int64_t by = tables->floor[i] == NONE ? NONE : tables->floor[i] - landing(tables, times, i);
+        early = by > early ? by : early;
     }
     return early;
 }
@@ -46,22 +73,49 @@ int64_t deviation(const struct tables *tables, const int64_t *times)
     return late + early(tables, times);
 }
 
-/* The largest sums over ever more triggers on the way. */
+int has_land_rule(const struct tables *tables)
+{
+    int i, j;
+    for (i = 0; i < tables->triggers; i++) {
+        for (j = 0; j < tables->panels; j++) {
+            if (tables->land[i][j] != NONE) {
+                return 1;
+            }
+        }
+    }
+    return 0;
+}
+
+/* What each place is held behind the others by one rule, or by one lag where it is a panel. */
+static void held_behind(const struct tables *tables, int64_t sum[PLACES][PLACES])
+{
+    int i, j;
+    for (i = 0; i < MOST; i++) {
+        for (j = 0; j < MOST; j++) {
+            sum[i][j] = tables->after[i][j];
+            sum[i][MOST + j] = tables->land[i][j];
+            sum[MOST + i][j] = tables->lag[i][j];
+            sum[MOST + i][MOST + j] = NONE;
+        }
+    }
+}
+
+/* The largest sums over ever more places on the way. */
 int circle_above_0(const struct tables *tables)
 {
-    int64_t sum[MOST][MOST];
-    int n = tables->triggers, i, j, k;
-    memcpy(sum, tables->after, sizeof sum);
-    for (k = 0; k < n; k++) {
-        for (i = 0; i < n; i++) {
-            for (j = 0; j < n; j++) {
+    int64_t sum[PLACES][PLACES];
+    int i, j, k;
+    held_behind(tables, sum);
+    for (k = 0; k < PLACES; k++) {
+        for (i = 0; i < PLACES; i++) {
+            for (j = 0; j < PLACES; j++) {
                 if (sum[i][k] != NONE && sum[k][j] != NONE && sum[i][k] + sum[k][j] > sum[i][j]) {
                     sum[i][j] = sum[i][k] + sum[k][j];
                 }
             }
         }
     }
-    for (i = 0; i < n; i++) {
+    for (i = 0; i < PLACES; i++) {
         if (sum[i][i] > 0) {
             return 1;
         }

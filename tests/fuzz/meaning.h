@@ -1,10 +1,10 @@
-/* What document 01 says of times on the tables of a sheet. */
+/* What documents 01 and 02 say of times on the tables of a sheet. */
 #ifndef MEANING_H
 #define MEANING_H
 
 #include "reader.h"
 
-/* Whether times keep every after rule. */
+/* Whether times keep every after rule and every land rule. */
 int keeps_order(const struct tables *tables, const int64_t *times);
 
 /* The largest p(i) - y(i) over panels with a floor. */
@@ -12,7 +12,10 @@ int64_t early(const struct tables *tables, const int64_t *times);
 
 int64_t deviation(const struct tables *tables, const int64_t *times);
 
-/* Whether the after rules have a circle that adds up to more than 0. */
+/* Whether a trigger waits for a landing. */
+int has_land_rule(const struct tables *tables);
+
+/* Whether the rules have a circle that adds up to more than 0, with the lag to the panel where a trigger waits for a landing. */
 int circle_above_0(const struct tables *tables);
 
 #endif

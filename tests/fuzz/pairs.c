@@ -30,7 +30,7 @@ struct side {
     size_t lent;
     uint32_t number;
     int64_t words[TUZHELAR_PLAN_WORDS];
-    int32_t space[WORDS];
+    int32_t space[WORDS + 1]; /* one at least is not lent */
 };
 
 int make_pairs(void)
@@ -54,11 +54,12 @@ static void plan_alone(struct random *random, struct side *side, const struct te
         side->read = TUZHELAR_ORDER;
     }
     side->lent = (size_t)(chance(random, 80) ? WORDS - below(random, 8) : below(random, 40));
-    for (i = 0; i < WORDS; i++) {
+    for (i = 0; i <= WORDS; i++) {
         side->space[i] = UNTOUCHED_WORD;
     }
     side->number = tuzhelar_plan(text->bytes, text->length, side->space, side->lent, side->words, TUZHELAR_PLAN_WORDS);
     expect(side->number == side->read || (side->read == 0 && side->number == TUZHELAR_SPACE), "planning's refusal is not the reader's");
+    expect(side->space[side->lent] == UNTOUCHED_WORD, "planning wrote behind the space");
 }
 
 static size_t list_words(const struct side *side)

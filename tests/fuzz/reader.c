@@ -1,6 +1,6 @@
 /*
- * Document 01, "The sheet" and "Reading". A line is taken whole, up to its LF, split at its commas, and then asked for each kind of
- * fault in turn: "in one line 2 before 3 before 4 before 5".
+ * Document 01, "The sheet" and "Reading", and document 02, No. 2. A line is taken whole, up to its LF, split at its commas, and then asked
+ * for each kind of fault in turn: "in one line 2 before 3 before 4 before 5".
  */
 #include "reader.h"
 
@@ -135,6 +135,23 @@ static uint32_t read_line(struct reading *reading, const char *key, enum rule ru
     return refusal;
 }
 
+/* Lines of entries, one for each row of a table. */
+static uint32_t read_rows(struct reading *reading, const char *key, int lines, int count, int64_t (*rows)[MOST])
+{
+    uint32_t refusal = 0;
+    int i;
+    for (i = 0; refusal == 0 && i < lines; i++) {
+        refusal = read_line(reading, key, ENTRY, count, rows[i]);
+    }
+    return refusal;
+}
+
+static int key_follows(const struct reading *reading, const char *key)
+{
+    size_t length = strlen(key);
+    return reading->length >= length && memcmp(reading->rest, key, length) == 0;
+}
+
 static int all_absent(const int64_t *entries, int count)
 {
     int i;
@@ -153,7 +170,7 @@ static void clear(struct tables *tables)
     for (i = 0; i < MOST; i++) {
         tables->floor[i] = tables->due[i] = NONE;
         for (j = 0; j < MOST; j++) {
-            tables->lag[i][j] = tables->after[i][j] = NONE;
+            tables->lag[i][j] = tables->after[i][j] = tables->land[i][j] = NONE;
         }
     }
 }
@@ -176,10 +193,8 @@ uint32_t read_tables(const uint8_t *sheet, size_t length, struct tables *tables)
         return refusal;
     }
     n = tables->triggers = (int)size;
-    for (i = 0; i < m; i++) {
-        if ((refusal = read_line(&reading, "lag=", ENTRY, n, tables->lag[i])) != 0) {
-            return refusal;
-        }
+    if ((refusal = read_rows(&reading, "lag=", m, n, tables->lag)) != 0) {
+        return refusal;
     }
     if ((refusal = read_line(&reading, "floor=", ENTRY, m, tables->floor)) != 0) {
         return refusal;
@@ -187,10 +202,12 @@ uint32_t read_tables(const uint8_t *sheet, size_t length, struct tables *tables)
     if ((refusal = read_line(&reading, "due=", DUE, n, tables->due)) != 0) {
         return refusal;
     }
-    for (i = 0; i < n; i++) {
-        if ((refusal = read_line(&reading, "after=", ENTRY, n, tables->after[i])) != 0) {
-            return refusal;
-        }
+    if ((refusal = read_rows(&reading, "after=", n, n, tables->after)) != 0) {
+        return refusal;
+    }
+    /* "Either all n lines are there or none": one such key, and all must be. Any other bytes are left over. */
+    if (key_follows(&reading, "land=") && (refusal = read_rows(&reading, "land=", n, m, tables->land)) != 0) {
+        return refusal;
     }
     if (reading.length != 0) {
         return 2;

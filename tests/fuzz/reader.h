@@ -1,4 +1,4 @@
-/* A second reader of sheets, written from document 01 alone. */
+/* A second reader of sheets, written from documents 01 and 02 alone. */
 #ifndef READER_H
 #define READER_H
 
@@ -13,6 +13,7 @@
 struct tables {
     int panels, triggers;
     int64_t lag[MOST][MOST], floor[MOST], due[MOST], after[MOST][MOST];
+    int64_t land[MOST][MOST]; /* by trigger, then panel; a sheet without such lines has none */
 };
 
 /* 0 and the sheet's tables, or the refusal, 1 to 7. Entries past the sheet's sizes are absent. */

@@ -4,6 +4,8 @@
 #include <inttypes.h>
 #include <stdio.h>
 
+#include "meaning.h"
+
 static void move(int64_t *entry, int64_t by)
 {
     if (*entry != NONE) {
@@ -32,30 +34,72 @@ static void exchange_panels(struct tables *tables, int a, int b)
     exchange(&tables->floor[a], &tables->floor[b]);
     for (j = 0; j < tables->triggers; j++) {
         exchange(&tables->lag[a][j], &tables->lag[b][j]);
+        exchange(&tables->land[j][a], &tables->land[j][b]);
     }
 }
 
-/* A panel once more, with another floor. */
-static void repeat_panel(struct tables *tables, int panel, int64_t floor)
+/* A panel that lands so much later, is allowed to, and is waited for so much less. */
+static void move_panel(struct tables *tables, int panel, int64_t by)
+{
+    int j;
+    move_all(tables->lag[panel], tables->triggers, by);
+    move(&tables->floor[panel], by);
+    for (j = 0; j < tables->triggers; j++) {
+        move(&tables->land[j][panel], -by);
+    }
+}
+
+/* A panel once more, with another floor, waited for as the first is or not at all. */
+static void repeat_panel(struct tables *tables, int panel, int64_t floor, int waited_for)
 {
     int j;
     if (tables->panels < MOST) {
         for (j = 0; j < tables->triggers; j++) {
             tables->lag[tables->panels][j] = tables->lag[panel][j];
+            tables->land[j][tables->panels] = waited_for ? tables->land[j][panel] : NONE;
         }
         tables->floor[tables->panels] = floor;
         tables->panels++;
     }
 }
 
-/* A rule that asks for no more than two others do, where there are such. */
+/* Where a rule asks for less than two entries together do, it comes to ask for as much, or for 1 less. */
+static void raise_rule(struct random *random, int64_t *rule, int64_t there, int64_t on)
+{
+    if (there != NONE && on != NONE && there + on > *rule) {
+        *rule = there + on - below(random, 2);
+    }
+}
+
+/* A rule that asks for no more than two others do, or than a land rule and a lag do, where there are such. */
 static void add_rule(struct random *random, struct tables *tables)
 {
     int i = below(random, tables->triggers), j = below(random, tables->triggers), k = below(random, tables->triggers);
-    int64_t there = tables->after[i][k], on = tables->after[k][j];
-    if (there != NONE && on != NONE && there + on > tables->after[i][j]) {
-        tables->after[i][j] = there + on - below(random, 2);
+    int panel = below(random, tables->panels);
+    switch (below(random, 3)) {
+    case 0:
+        raise_rule(random, &tables->after[i][j], tables->after[i][k], tables->after[k][j]);
+        break;
+    case 1:
+        raise_rule(random, &tables->after[i][j], tables->land[i][panel], tables->lag[panel][j]);
+        break;
+    default:
+        raise_rule(random, &tables->land[i][panel], tables->after[i][k], tables->land[k][panel]);
     }
+}
+
+/* After rules in the place of a land rule: to wait for a panel is to come after every trigger that reaches it. */
+static void replace_land(struct tables *tables, int i, int panel)
+{
+    int64_t *rule = &tables->land[i][panel];
+    int j;
+    for (j = 0; *rule != NONE && j < tables->triggers; j++) {
+        int64_t lag = tables->lag[panel][j];
+        if (lag != NONE && *rule + lag > tables->after[i][j]) {
+            tables->after[i][j] = *rule + lag;
+        }
+    }
+    *rule = NONE;
 }
 
 /* A change after which the same timings are tightest. */
@@ -63,7 +107,7 @@ static void keep_timings(struct random *random, struct tables *tables)
 {
     int panel = below(random, tables->panels);
     int64_t by = between(random, -3, 3), lower = tables->floor[panel];
-    switch (below(random, 7)) {
+    switch (below(random, 8)) {
     case 0:
         move_all(tables->floor, tables->panels, by);
         break;
@@ -72,18 +116,20 @@ static void keep_timings(struct random *random, struct tables *tables)
         move_all(tables->due, tables->triggers, by);
         break;
     case 2:
-        move_all(tables->lag[panel], tables->triggers, by);
-        move(&tables->floor[panel], by);
+        move_panel(tables, panel, by);
         break;
     case 3:
         exchange_panels(tables, panel, below(random, tables->panels));
         break;
     case 4:
         move(&lower, -below(random, 2));
-        repeat_panel(tables, panel, lower);
+        repeat_panel(tables, panel, lower, chance(random, 50));
         break;
     case 5:
-        repeat_panel(tables, panel, NONE);
+        repeat_panel(tables, panel, NONE, chance(random, 50));
+        break;
+    case 6:
+        replace_land(tables, below(random, tables->triggers), panel);
         break;
     default:
         add_rule(random, tables);
@@ -95,7 +141,7 @@ static void change_entry(struct random *random, struct tables *tables)
 {
     int i = below(random, tables->panels), j = below(random, tables->triggers), k = below(random, tables->triggers);
     int64_t *entry;
-    switch (below(random, 6)) {
+    switch (below(random, 8)) {
     case 0:
     case 1:
         entry = &tables->lag[i][j];
@@ -106,6 +152,10 @@ static void change_entry(struct random *random, struct tables *tables)
     case 3:
     case 4:
         entry = &tables->after[j][k];
+        break;
+    case 5:
+    case 6:
+        entry = &tables->land[j][i];
         break;
     default:
         tables->due[j] += chance(random, 50) ? 1 : -1;
@@ -140,20 +190,27 @@ static void write_line(struct text *text, const char *key, const int64_t *entrie
     add_text(text, "\n");
 }
 
-static void write_tables(const struct tables *tables, struct text *text)
+static void write_rows(struct text *text, const char *key, const int64_t (*rows)[MOST], int lines, int count)
+{
+    int i;
+    for (i = 0; i < lines; i++) {
+        write_line(text, key, rows[i], count);
+    }
+}
+
+/* Land lines without a rule are written or not: a sheet means the same with them and without. */
+static void write_tables(struct random *random, const struct tables *tables, struct text *text)
 {
     int64_t panels = tables->panels, triggers = tables->triggers;
-    int i;
     text->length = 0;
     write_line(text, "panels=", &panels, 1);
     write_line(text, "triggers=", &triggers, 1);
-    for (i = 0; i < tables->panels; i++) {
-        write_line(text, "lag=", tables->lag[i], tables->triggers);
-    }
+    write_rows(text, "lag=", tables->lag, tables->panels, tables->triggers);
     write_line(text, "floor=", tables->floor, tables->panels);
     write_line(text, "due=", tables->due, tables->triggers);
-    for (i = 0; i < tables->triggers; i++) {
-        write_line(text, "after=", tables->after[i], tables->triggers);
+    write_rows(text, "after=", tables->after, tables->triggers, tables->triggers);
+    if (has_land_rule(tables) || chance(random, 30)) {
+        write_rows(text, "land=", tables->land, tables->triggers, tables->panels);
     }
 }
 
@@ -168,6 +225,6 @@ int make_related(struct random *random, const struct tables *tables, struct text
             change_entry(random, &changed);
         }
     }
-    write_tables(&changed, text);
+    write_tables(random, &changed, text);
     return known;
 }

@@ -3,11 +3,12 @@
 
 #include <inttypes.h>
 #include <stdio.h>
+#include <stdlib.h>
 #include <string.h>
 
 #include "reader.h"
 
-#define LINES 24     /* of a draft */
+#define LINES 30     /* of a draft */
 #define ITEMS 9      /* of a line */
 #define ITEM_BYTES 24
 #define COUNT_OF(array) ((int)(sizeof(array) / sizeof(array)[0]))
@@ -98,6 +99,7 @@ struct draft {
     struct line lines[LINES];
     int count;
     int m, n;
+    int64_t times[MOST]; /* rules are drawn so that these keep them, or anyhow */
 };
 
 static void write_draft(const struct draft *draft, struct text *text)
@@ -148,12 +150,43 @@ static void add_absent(struct line *line)
     set_item(line, line->count++, "-");
 }
 
+/* The number of an item; 0 for one that is beyond the limit or no number. */
+static int64_t number_in(const struct item_text *item)
+{
+    int64_t value = strtoll(item->text, NULL, 10);
+    return value < -LIMIT || value > LIMIT ? 0 : value;
+}
+
+static int is_absent(const struct item_text *item)
+{
+    return strcmp(item->text, "-") == 0;
+}
+
+/* The place of the i-th line of those with a key, or -1. */
+static int place_of(const struct draft *draft, const char *key, int i)
+{
+    int at;
+    for (at = 0; at < draft->count; at++) {
+        if (strcmp(draft->lines[at].key, key) == 0 && i-- == 0) {
+            return at;
+        }
+    }
+    return -1;
+}
+
+/* The i-th line of those with a key, or none. */
+static struct line *line_of(struct draft *draft, const char *key, int i)
+{
+    int at = place_of(draft, key, i);
+    return at < 0 ? NULL : &draft->lines[at];
+}
+
 /* ---- Good sheets */
 
 /* How entries are drawn: within +-size, percents of absent ones, and whether nearly all are at the limits. */
 struct manner {
     int64_t size;
-    int no_lag, no_floor, no_after;
+    int no_lag, no_floor, no_after, no_land;
     int extreme;
 };
 
@@ -181,25 +214,60 @@ static void add_row(struct random *random, struct draft *draft, const char *key,
     }
 }
 
-/* After lines that some times keep: with times v, each entry is at most v(i) - v(j), and equal to it at times. */
-static void add_order(struct random *random, struct draft *draft, const struct manner *manner)
+/* Rules that the draft's times keep: an entry is at most times(i) - behind(j), and equal to it at times. A line for each trigger. */
+static void add_kept(struct random *random, struct draft *draft, const char *key, const struct manner *manner, const int64_t *behind,
+                     int items, int absent)
 {
-    int64_t v[MOST], half = manner->size / 2;
     int tight = below(random, 101), i, j;
-    for (j = 0; j < draft->n; j++) {
-        v[j] = between(random, -half, half);
-    }
     for (i = 0; i < draft->n; i++) {
-        struct line *line = add_line(draft, "after=");
-        for (j = 0; j < draft->n; j++) {
+        struct line *line = add_line(draft, key);
+        for (j = 0; j < items; j++) {
             int64_t slack = chance(random, tight) ? 0 : between(random, 0, manner->size);
-            int64_t entry = v[i] - v[j] - slack;
-            if (chance(random, manner->no_after) || entry < -LIMIT) {
+            int64_t entry = draft->times[i] - behind[j] - slack;
+            if (chance(random, absent) || entry < -LIMIT) {
                 add_absent(line);
             } else {
-                add_number(line, entry);
+                add_number(line, entry < LIMIT ? entry : LIMIT);
             }
         }
+    }
+}
+
+/* Rules of any entries: circles above 0 are likely. */
+static void add_any(struct random *random, struct draft *draft, const char *key, const struct manner *manner, int items)
+{
+    int absent = 50 + below(random, 50), i;
+    for (i = 0; i < draft->n; i++) {
+        add_row(random, draft, key, manner, items, absent, 0);
+    }
+}
+
+/* When a panel lands, with the draft's times. */
+static int64_t landing(struct draft *draft, int panel)
+{
+    const struct line *lags = line_of(draft, "lag=", panel);
+    int64_t largest = NONE;
+    int j;
+    for (j = 0; j < draft->n; j++) {
+        if (!is_absent(&lags->items[j])) {
+            int64_t time = number_in(&lags->items[j]) + draft->times[j];
+            largest = time > largest ? time : largest;
+        }
+    }
+    return largest;
+}
+
+static void add_land(struct random *random, struct draft *draft, const struct manner *manner)
+{
+    int64_t landings[MOST];
+    int i;
+    for (i = 0; i < draft->m; i++) {
+        landings[i] = landing(draft, i);
+    }
+    if (chance(random, 85)) {
+        add_kept(random, draft, "land=", manner, landings, draft->m, manner->no_land);
+    } else {
+        add_any(random, draft, "land=", manner, draft->m);
     }
 }
 
@@ -252,9 +320,13 @@ static void make_draft(struct random *random, struct draft *draft)
     manner.no_lag = ABSENT[below(random, COUNT_OF(ABSENT))];
     manner.no_floor = ABSENT[below(random, COUNT_OF(ABSENT))];
     manner.no_after = chance(random, 40) ? 100 : 20 + below(random, 81);
+    manner.no_land = chance(random, 20) ? 100 : 20 + below(random, 81);
     memset(draft, 0, sizeof *draft);
     draft->m = 1 + below(random, MOST);
     draft->n = 1 + below(random, MOST);
+    for (i = 0; i < draft->n; i++) {
+        draft->times[i] = between(random, -manner.size / 2, manner.size / 2);
+    }
     add_number(add_line(draft, "panels="), draft->m);
     add_number(add_line(draft, "triggers="), draft->n);
     if (chance(random, 25)) {
@@ -267,13 +339,12 @@ static void make_draft(struct random *random, struct draft *draft)
         add_row(random, draft, "due=", &manner, draft->n, 0, 0);
     }
     if (chance(random, 90)) {
-        add_order(random, draft, &manner);
-        return;
+        add_kept(random, draft, "after=", &manner, draft->times, draft->n, manner.no_after);
+    } else {
+        add_any(random, draft, "after=", &manner, draft->n);
     }
-    /* Any entries: circles above 0 are likely. */
-    manner.no_after = 50 + below(random, 50);
-    for (i = 0; i < draft->n; i++) {
-        add_row(random, draft, "after=", &manner, draft->n, manner.no_after, 0);
+    if (chance(random, 50)) {
+        add_land(random, draft, &manner);
     }
 }
 
@@ -286,7 +357,7 @@ static const char *const BEYOND[] = {"100001",     "-100001",     "1000000",    
                                      "2147483648", "-2147483649", "4294967301", "18446744073709551621", "-18446744073709551615"};
 static const char *const AT_LIMIT[] = {"100000", "-100000", "99999", "-99999"};
 static const char *const WRONG_SIZES[] = {"0", "7", "-1", "10", "-6", "66", "100001", "4294967298", "18446744073709551618"};
-static const char *const KEYS[] = {"panels=", "triggers=", "lag=", "floor=", "due=", "after="};
+static const char *const KEYS[] = {"panels=", "triggers=", "lag=", "floor=", "due=", "after=", "land="};
 static const struct {
     const char *bytes;
     int length;
@@ -295,18 +366,6 @@ static const struct {
 static struct line *any_line(struct random *random, struct draft *draft)
 {
     return &draft->lines[below(random, draft->count)];
-}
-
-/* The i-th line of those with a key, or none. */
-static struct line *line_of(struct draft *draft, const char *key, int i)
-{
-    int at;
-    for (at = 0; at < draft->count; at++) {
-        if (strcmp(draft->lines[at].key, key) == 0 && i-- == 0) {
-            return &draft->lines[at];
-        }
-    }
-    return NULL;
 }
 
 static void set_any(struct random *random, struct line *line, const char *text)
@@ -350,6 +409,16 @@ static void all_absent_in(struct line *line)
     }
 }
 
+/* A circle above 0 through a trigger and a panel that it reaches and waits for. */
+static void circle_by_landing(struct random *random, struct draft *draft)
+{
+    int trigger = below(random, draft->n), panel = below(random, draft->m);
+    struct line *row = line_of(draft, "land=", trigger), *lags = line_of(draft, "lag=", panel);
+    if (row != NULL && lags != NULL && panel < row->count && trigger < lags->count && !is_absent(&lags->items[trigger])) {
+        set_number(row, panel, between(random, 1, 3) - number_in(&lags->items[trigger]));
+    }
+}
+
 /* A circle above 0 through one trigger or two. */
 static void circle(struct random *random, struct draft *draft)
 {
@@ -388,12 +457,62 @@ static void exchange_lines(struct draft *draft, int a, int b)
     draft->lines[b] = line;
 }
 
+/* Another number of items: often that of an after line. */
+static void wrong_count(struct random *random, struct line *line, int triggers)
+{
+    int count = chance(random, 70) ? triggers : below(random, ITEMS);
+    while (line->count < count) {
+        add_number(line, between(random, -9, 9));
+    }
+    line->count = count;
+}
+
+/* A fault of the land lines, or something beside one. A sheet that has none gets one, which is too few where there are more triggers. */
+static void add_land_fault(struct random *random, struct draft *draft)
+{
+    static const struct manner small = {9, 0, 0, 0, 0, 0};
+    int at = place_of(draft, "land=", below(random, draft->n)), last_after = place_of(draft, "after=", draft->n - 1);
+    struct line *line;
+    if (at < 0) {
+        if (draft->count < LINES) {
+            add_row(random, draft, "land=", &small, draft->m, 50, 0);
+        }
+        return;
+    }
+    line = &draft->lines[at];
+    switch (below(random, 8)) {
+    case 0:
+        remove_line(draft, at);
+        break;
+    case 1:
+        repeat_line(draft, at);
+        break;
+    case 2:
+        wrong_count(random, line, draft->n);
+        break;
+    case 3:
+        wrong_key(random, line);
+        break;
+    case 4:
+        exchange_lines(draft, at, last_after < 0 ? at : last_after);
+        break;
+    case 5:
+        set_any(random, line, BEYOND[below(random, COUNT_OF(BEYOND))]);
+        break;
+    case 6:
+        set_any(random, line, AT_LIMIT[below(random, COUNT_OF(AT_LIMIT))]);
+        break;
+    default:
+        circle_by_landing(random, draft);
+    }
+}
+
 /* One fault, or something beside one, of a kind and at a place that are drawn. */
 static void add_fault(struct random *random, struct draft *draft)
 {
     struct line *line = any_line(random, draft);
     int at = below(random, draft->count), end;
-    switch (below(random, 18)) {
+    switch (below(random, 22)) {
     case 0:
         wrong_key(random, line);
         break;
@@ -455,8 +574,11 @@ static void add_fault(struct random *random, struct draft *draft)
     case 16:
         all_absent_in(line_of(draft, "floor=", 0));
         break;
-    default:
+    case 17:
         circle(random, draft);
+        break;
+    default:
+        add_land_fault(random, draft);
     }
 }
 
@@ -532,13 +654,17 @@ static void change(struct random *random, struct text *text)
     }
 }
 
+/* What random bytes may stand behind: the sizes, a good sheet, and one that has begun with its land lines. */
+static const char *const FRONTS[] = {"panels=1\ntriggers=1\n", "panels=1\ntriggers=1\nlag=5\nfloor=0\ndue=0\nafter=-\n",
+                                     "panels=1\ntriggers=1\nlag=5\nfloor=0\ndue=0\nafter=-\nland="};
+
 static void random_bytes(struct random *random, struct text *text)
 {
     int any = chance(random, 50);
     size_t length = (size_t)(chance(random, 80) ? below(random, 80) : chance(random, 50) ? below(random, ROOM) : LONGEST - 3 + below(random, 6));
     text->length = 0;
     if (chance(random, 50)) {
-        add(text, "panels=1\ntriggers=1\n");
+        add(text, FRONTS[below(random, COUNT_OF(FRONTS))]);
     }
     while (text->length < length) {
         uint8_t byte = any ? (uint8_t)next_random(random) : any_byte(random);

@@ -3,10 +3,11 @@
  * the variable WRONG names by its number. `run` tries each.
  */
 #include <stdlib.h>
+#include <string.h>
 
 #include "tuzhelar.h"
 
-#define FAULTS 44
+#define FAULTS 54
 
 uint32_t __real_tuzhelar_plan(const uint8_t *sheet, size_t sheet_length, int32_t *space, size_t space_length, int64_t *answer,
                               size_t answer_length);
@@ -43,6 +44,83 @@ static int fault(int number)
     return named == number;
 }
 
+/* ---- Land lines */
+
+/* Where the land lines of a sheet start, or its end. */
+static size_t before_land(const uint8_t *sheet, size_t length)
+{
+    size_t at;
+    for (at = 0; at + 6 <= length; at++) {
+        if (memcmp(sheet + at, "\nland=", 6) == 0) {
+            return at + 1;
+        }
+    }
+    return length;
+}
+
+static int is_numeral_byte(uint8_t byte)
+{
+    return byte == '-' || (byte >= '0' && byte <= '9');
+}
+
+/* A copy of a good sheet whose land items, but for the first so many of each line, are absent. Returns its length. */
+static size_t forget_items(uint8_t *copy, const uint8_t *sheet, size_t length, size_t first)
+{
+    size_t end = before_land(sheet, length), item = 0, at;
+    memcpy(copy, sheet, end);
+    for (at = end; at < length; at++) {
+        int opens = sheet[at] == '=' || sheet[at] == ',';
+        if (!is_numeral_byte(sheet[at]) || item < first) {
+            copy[end++] = sheet[at];
+        }
+        item = sheet[at] == '=' ? 0 : item + (sheet[at] == ',');
+        if (opens && item >= first) {
+            copy[end++] = '-';
+        }
+    }
+    return end;
+}
+
+static int is_good(const uint8_t *sheet, size_t length)
+{
+    int64_t none = 0;
+    uint32_t number = __real_tuzhelar_kept(sheet, length, &none, 0);
+    return number == TUZHELAR_DONE || number == TUZHELAR_ORDER;
+}
+
+/* The sheet that a function works on which forgets land rules: all functions do, or the one whose own fault is named. */
+static const uint8_t *worked_on(int own, uint8_t *copy, const uint8_t *sheet, size_t *length)
+{
+    size_t first = 0;
+    if ((!fault(45) && !fault(46) && !fault(own)) || !is_good(sheet, *length)) {
+        return sheet;
+    }
+    if (fault(46)) {
+        first = (size_t)(sheet[strlen("panels=6\ntriggers=")] - '0'); /* land times lag, over triggers and not over panels */
+    }
+    *length = forget_items(copy, sheet, *length, first);
+    return copy;
+}
+
+/* Faults of reading land lines. */
+static uint32_t reading_land(const uint8_t *sheet, size_t length, uint32_t number)
+{
+    size_t front = before_land(sheet, length);
+    int good_front = front < length && is_good(sheet, front);
+    if (fault(52) && good_front) {
+        return TUZHELAR_FORM; /* bytes left over, as before there were such lines */
+    }
+    if (fault(53) && good_front && number == TUZHELAR_RANGE) {
+        return TUZHELAR_FORM; /* bytes left over where an entry is beyond the limit */
+    }
+    if (fault(54) && good_front && number == TUZHELAR_FORM) {
+        return TUZHELAR_DONE; /* too few of them, or wrong ones, are none */
+    }
+    return number;
+}
+
+/* ---- The functions */
+
 /* Faults of reading, in the functions on one sheet. */
 static uint32_t reading(const uint8_t *sheet, size_t length, uint32_t number)
 {
@@ -64,13 +142,16 @@ static uint32_t reading(const uint8_t *sheet, size_t length, uint32_t number)
     if (fault(6) && length == TUZHELAR_SHEET_BYTES) {
         return TUZHELAR_TOO_LONG;
     }
-    return number;
+    return reading_land(sheet, length, number);
 }
 
 uint32_t __wrap_tuzhelar_plan(const uint8_t *sheet, size_t sheet_length, int32_t *space, size_t space_length, int64_t *answer,
                               size_t answer_length)
 {
-    uint32_t number = reading(sheet, sheet_length, __real_tuzhelar_plan(sheet, sheet_length, space, space_length, answer, answer_length));
+    uint8_t copy[TUZHELAR_SHEET_BYTES];
+    size_t length = sheet_length;
+    const uint8_t *work = worked_on(47, copy, sheet, &length);
+    uint32_t number = reading(sheet, sheet_length, __real_tuzhelar_plan(work, length, space, space_length, answer, answer_length));
     int done = number == TUZHELAR_DONE, i;
     if (fault(7) && done) {
         space[space_length] = 0; /* a word past the space */
@@ -113,7 +194,10 @@ uint32_t __wrap_tuzhelar_plan(const uint8_t *sheet, size_t sheet_length, int32_t
 
 uint32_t __wrap_tuzhelar_kept(const uint8_t *sheet, size_t sheet_length, int64_t *answer, size_t answer_length)
 {
-    uint32_t number = reading(sheet, sheet_length, __real_tuzhelar_kept(sheet, sheet_length, answer, answer_length));
+    uint8_t copy[TUZHELAR_SHEET_BYTES];
+    size_t length = sheet_length;
+    const uint8_t *work = worked_on(48, copy, sheet, &length);
+    uint32_t number = reading(sheet, sheet_length, __real_tuzhelar_kept(work, length, answer, answer_length));
     if (fault(16) && number == TUZHELAR_DONE && answer_length > 0) {
         answer[0]++; /* not the least deviation */
     }
@@ -143,7 +227,10 @@ static uint32_t filled_up(const uint8_t *sheet, size_t sheet_length, const int64
 
 uint32_t __wrap_tuzhelar_test(const uint8_t *sheet, size_t sheet_length, const int64_t *times, size_t times_length)
 {
-    uint32_t number = reading(sheet, sheet_length, __real_tuzhelar_test(sheet, sheet_length, times, times_length));
+    uint8_t copy[TUZHELAR_SHEET_BYTES];
+    size_t length = sheet_length;
+    const uint8_t *work = worked_on(49, copy, sheet, &length);
+    uint32_t number = reading(sheet, sheet_length, __real_tuzhelar_test(work, length, times, times_length));
     if (fault(19) && number == TUZHELAR_NO) {
         return TUZHELAR_YES;
     }
@@ -168,7 +255,10 @@ uint32_t __wrap_tuzhelar_test(const uint8_t *sheet, size_t sheet_length, const i
 uint32_t __wrap_tuzhelar_same(const uint8_t *first, size_t first_length, const uint8_t *second, size_t second_length, int32_t *left,
                               size_t left_length, int32_t *right, size_t right_length, int64_t *answer, size_t answer_length)
 {
-    uint32_t number = __real_tuzhelar_same(first, first_length, second, second_length, left, left_length, right, right_length, answer,
+    uint8_t copy[TUZHELAR_SHEET_BYTES], other[TUZHELAR_SHEET_BYTES];
+    size_t length = first_length, other_length = second_length;
+    const uint8_t *work = worked_on(51, copy, first, &length), *other_work = worked_on(51, other, second, &other_length);
+    uint32_t number = __real_tuzhelar_same(work, length, other_work, other_length, left, left_length, right, right_length, answer,
                                            answer_length);
     int written = number >= TUZHELAR_SAME && number <= TUZHELAR_UNLIKE;
     int32_t no_left = 0, no_right = 0;
@@ -234,8 +324,11 @@ static void wrong_times(const int64_t *times, size_t n, int32_t *space, int64_t 
 uint32_t __wrap_tuzhelar_latest(const uint8_t *sheet, size_t sheet_length, const int64_t *times, size_t times_length, int32_t *space,
                                 size_t space_length, int64_t *answer, size_t answer_length)
 {
-    uint32_t number = reading(sheet, sheet_length, __real_tuzhelar_latest(sheet, sheet_length, times, times_length, space, space_length,
-                                                                          answer, answer_length));
+    uint8_t copy[TUZHELAR_SHEET_BYTES];
+    size_t length = sheet_length;
+    const uint8_t *work = worked_on(50, copy, sheet, &length);
+    uint32_t number = reading(sheet, sheet_length, __real_tuzhelar_latest(work, length, times, times_length, space, space_length, answer,
+                                                                          answer_length));
     if (number == TUZHELAR_DONE && answer_length >= TUZHELAR_LATEST_WORDS) {
         wrong_times(times, times_length, space, answer);
     }

@@ -10,14 +10,15 @@ unfoldable pub sentences : List (List ℕ)
 sentences =
     bytes "The sheet has more than 2048 bytes, and no right sheet is so long: look whether it is the right file.\n" ∷
     (bytes "A line is missing or has a wrong key, number of items, numeral or line end: the lines are panels=, triggers=, lag= for each panel, " ++
-    bytes "floor=, due=, after= for each trigger, in this order, with no spaces, LF after every line and nothing behind the last.\n") ∷
+    bytes "floor=, due=, after= for each trigger, then land= for each trigger or none, in this order, with no spaces, LF after every line " ++
+    bytes "and nothing behind the last.\n") ∷
     bytes "The number of panels or of triggers is not from 1 to 6: look at panels= and triggers=.\n" ∷
-    bytes "A number is outside -100000 to 100000: look at the lag=, floor=, due= and after= lines.\n" ∷
+    bytes "A number is outside -100000 to 100000: look at the lag=, floor=, due=, after= and land= lines.\n" ∷
     bytes "A due mark is absent: the due= line needs a number for each trigger.\n" ∷
     bytes "A panel has no lag: each lag= line needs at least one number.\n" ∷
     bytes "No panel has a floor: the floor= line needs at least one number.\n" ∷
-    (bytes "No times keep the order: rules of the after= lines form a circle that adds up to more than 0, " ++
-    bytes "so that a trigger would have to come later than itself.\n") ∷
+    (bytes "No times keep the order: rules of the after= and land= lines, with the lags to panels waited for, form a circle that adds up to " ++
+    bytes "more than 0, so that a trigger would have to come later than itself.\n") ∷
     bytes "The list has more lines than there is space for: count= on standard output says how many it has.\n" ∷
     bytes "There are not as many times as triggers: give one for each trigger of the sheet, in order, split by commas.\n" ∷
     bytes "A time is outside -1000000000 to 1000000000 milliseconds: look at the times given.\n" ∷

@@ -5,7 +5,7 @@ ghost use Rattle.advice.specs.Advice.{advice};
 ghost use Rattle.advice.specs.Inner.{nth-line};
 ghost use Rattle.writing.specs.Writing.{Writes};
 
-// The sentence of a refusal, 1 to 11; nothing for another number. The longest has 250 bytes.
+// The sentence of a refusal, 1 to 11; nothing for another number. The longest has 287 bytes.
 pub fn advice_text(out: &mut [u8; 300], refusal: u8) -> usize
     ensures { λ r. ⌜ Writes (now (out .exit)) r (advice refusal) ⌝ }
 {
@@ -14,13 +14,15 @@ pub fn advice_text(out: &mut [u8; 300], refusal: u8) -> usize
         out,
         b"The sheet has more than 2048 bytes, and no right sheet is so long: look whether it is the right file.\n\
 A line is missing or has a wrong key, number of items, numeral or line end: the lines are panels=, triggers=, lag= for each panel, \
-floor=, due=, after= for each trigger, in this order, with no spaces, LF after every line and nothing behind the last.\n\
+floor=, due=, after= for each trigger, then land= for each trigger or none, in this order, with no spaces, LF after every line \
+and nothing behind the last.\n\
 The number of panels or of triggers is not from 1 to 6: look at panels= and triggers=.\n\
-A number is outside -100000 to 100000: look at the lag=, floor=, due= and after= lines.\n\
+A number is outside -100000 to 100000: look at the lag=, floor=, due=, after= and land= lines.\n\
 A due mark is absent: the due= line needs a number for each trigger.\n\
 A panel has no lag: each lag= line needs at least one number.\n\
 No panel has a floor: the floor= line needs at least one number.\n\
-No times keep the order: rules of the after= lines form a circle that adds up to more than 0, so that a trigger would have to come later than itself.\n\
+No times keep the order: rules of the after= and land= lines, with the lags to panels waited for, form a circle that adds up to \
+more than 0, so that a trigger would have to come later than itself.\n\
 The list has more lines than there is space for: count= on standard output says how many it has.\n\
 There are not as many times as triggers: give one for each trigger of the sheet, in order, split by commas.\n\
 A time is outside -1000000000 to 1000000000 milliseconds: look at the times given.\n",

@@ -1,14 +1,15 @@
--- Document 01's cases marked P, and cases of document 02's No. 1, as one table about the operations themselves: for each the sheet, what is
+-- Document 01's cases marked P, and cases of document 02's No. 1 and No. 2, as one table about the operations themselves: for each the sheet, what is
 -- lent, what the operation returns and what it leaves. A case holds where the operation's contract allows nothing else. `Learnt` of an
 -- operation is its contract as a caller has it: the toolchain reads it from the `ensures` in the source, so that another contract there
 -- makes another claim here.
 use mathlib.Core.Path.{_≡_, refl, ap, sym, _∙_}
 use mathlib.Core.Bool.{Bool, true, false, decide}
+use mathlib.Core.Option.{none, some}
 use mathlib.Core.List.{List, [], _∷_, _++_}
 use Prim.Native.Nat.{ℕ, _-_, _<_}
 use Prim.Native.Nat as nat
 use native.Mathlib.Omega.{arith}
-use lib.Dec.{lit<}
+use lib.Dec.{T, lit<}
 use Prim.Native.String.{String}
 use Prim.Native.String as string
 use native.Mathlib.Decide.{decLe}
@@ -36,8 +37,8 @@ use Rattle.cue.specs.Method.{selections, steps, need, seed, ray, candidate, can
 use Rattle.cue.proofs.Order.{keeps?}
 use Rattle.cue.proofs.Deviation.{tightest?}
 use Rattle.sheet.specs.Text.{bytes}
-use Rattle.sheet.specs.Sheet.{literal, value, behind, signed, item, ended, items, any, checked, rows, row, table, sections, read, Sheet}
-use Rattle.sheet.specs.Cue.{cue-of, Orderly, orderly?}
+use Rattle.sheet.specs.Sheet.{literal, value, behind, signed, item, ended, items, any, checked, rows, row, table, sections, optional, read, Sheet}
+use Rattle.sheet.specs.Cue.{cue-size, order-table, cue-of, Orderly, orderly?}
 use Rattle.sheet.proofs.Seam.{tightest-cue}
 use Rattle.sheet.specs.Sheet as sheet
 use Rattle.cue.specs.Written.{line-words, list-words}
@@ -135,12 +136,15 @@ absent-word = negsuc 0x7fff_ffff
 abbrev old : ℕ → List ℤ
 old k = replicate k (pos 12345)
 
--- the words of a line of one trigger, and of two
+-- the words of a line of one trigger, of two and of three
 abbrev one : ℤ → List ℤ
 one a = pos 1 ∷ a ∷ replicate 5 absent-word
 
 abbrev two : ℤ → ℤ → List ℤ
 two a b = pos 2 ∷ a ∷ b ∷ replicate 4 absent-word
+
+abbrev three : ℤ → ℤ → ℤ → List ℤ
+three a b c = pos 3 ∷ a ∷ b ∷ c ∷ replicate 3 absent-word
 
 -- "sheets of one panel and one trigger, lag 5, floor 0, due 0"
 abbrev one-by-one : String → String
@@ -158,8 +162,26 @@ whole-case = "panels=2\ntriggers=2\nlag=2,0\nlag=4,1\nfloor=5,2\ndue=1,2\nafter=
 abbrev whole-lines : List ℤ
 whole-lines = two (negsuc 0) (pos 0) ++ two (pos 0) absent-word
 
+-- the paper's Example 6, with marks for its rule
+abbrev example-6 : String
+example-6 =
+    string._++_ "panels=3\ntriggers=3\nlag=3,-1,-\nlag=-2,2,0\nlag=-1,-,4\nfloor=0,0,0\ndue=-3,-2,-4\n"
+    "after=-,-,-3\nafter=2,-,-\nafter=1,-2,-\nland=-,-,-\nland=0,-,-3\nland=-1,-,-\n"
+
+abbrev example-6-lines : List ℤ
+example-6-lines = three (negsuc 4) (pos 0) (negsuc 1) ++ three (negsuc 2) (pos 0) (negsuc 0)
+
+-- more triggers than panels: the second waits 2 ms for the panel that the first changes
+abbrev house-lights : String
+house-lights = "panels=1\ntriggers=2\nlag=0,-\nfloor=0\ndue=0,0\nafter=-,-\nafter=-,-\nland=-\nland=2\n"
+
+-- more panels than triggers: the one trigger waits for the second panel, which it changes itself
+abbrev second-panel : String → String
+second-panel wait = string._++_ "panels=2\ntriggers=1\nlag=0\nlag=3\nfloor=0,-\ndue=0\nafter=-\nland=-," (string._++_ wait "\n")
+
 -- what document 01 gives of a case, and the definition's value where it gives none; of reaching, the README's wishes, a timing below the
--- limit on wishes, and each refusal before the next
+-- limit on wishes, and each refusal before the next; of land lines, the paper's example, other numbers of panels than of triggers, a rule
+-- that can just be kept and one that can't, lines all absent, one too few
 abbrev pub cases : List Case
 cases =
     plans (one-by-one "-") (old 9) (planned 1 (negsuc 4) 1 1 1) (one (pos 0) ++ old 2) ∷
@@ -190,6 +212,16 @@ cases =
     reaches (one-by-one "1") (pos 1_000_000_001 ∷ []) (old 7) (not-reached 11) (old 7) ∷
     reaches whole-case (pos 1_000_000_001 ∷ []) (old 7) (not-reached 10) (old 7) ∷
     reaches "panels=7\n" (pos 0 ∷ []) (old 7) (not-reached 3) (old 7) ∷
+    plans example-6 (old 15) (planned 3 (pos 3) 6 2 2) (example-6-lines ++ old 1) ∷
+    keeps example-6 (kept-triggers (pos 3) 6 2 (3 ∷ 7 ∷ 7 ∷ []) (2 ∷ 3 ∷ 3 ∷ [])) ∷
+    reaches example-6 (pos 0 ∷ pos 1 ∷ pos 0 ∷ []) (old 14) (reached 2 (negsuc 1 ∷ pos 1 ∷ pos 0 ∷ [])) example-6-lines ∷
+    plans house-lights (old 7) (planned 2 (pos 2) 1 1 1) (two (negsuc 1) (pos 0)) ∷
+    tests house-lights (pos 0 ∷ pos 2 ∷ []) Yes ∷
+    tests house-lights (pos 0 ∷ pos 1 ∷ []) No ∷
+    plans (second-panel "-3") (old 7) (planned 1 (pos 0) 1 1 1) (one (pos 0)) ∷
+    plans (second-panel "-2") (old 7) (no-plan 8) (old 7) ∷
+    plans (second-panel "-") (old 7) (planned 1 (pos 0) 1 1 1) (one (pos 0)) ∷
+    plans (string._++_ ordered-by "land=-\n") (old 7) (no-plan 2) (old 7) ∷
     []
 
 -- ---- a case holds by the value of its definition
@@ -223,6 +255,26 @@ all-hold : {l : List Case} → Every Computed l → Every CaseHolds l
 all-hold done = done
 all-hold (_then_ {c} h k) = holds c h then all-hold k
 
+-- ---- what testing answers is what is decided of the sheet's cue
+module _ (s : String) (t : Sheet) (e : read (bytes s) ≡ sheet.got t []) (R : Readable (cue-size t) (cue-of t)) (O : Orderly t) where
+  abbrev asked : (X : sheets.Timing) → Dec (Tightest (cue-size t) (cue-of t) X)
+  asked X = tightest? (cue-size t) (cue-of t) R O X
+
+  says : (X : sheets.Timing) → some-beyond (t .triggers) X ≡ false → (v : Bool) → Says (sheets.Tightest t X) v →
+      answer v ≡ testing (bytes s) (t .triggers) X
+  says X near v h =
+      testing-says (bytes s) (t .triggers) X t [] (admitted-on (bytes s) (t .triggers) X t [] e refl near ∙ ordered-got (bytes s) t [] e O) v h
+
+  says-yes : (X : sheets.Timing) → some-beyond (t .triggers) X ≡ false → T (decide (asked X)) → answer true ≡ testing (bytes s) (t .triggers) X
+  says-yes X near y = says X near true (tightest-cue t X .1 (decide-yes (asked X) y))
+
+  says-no : (X : sheets.Timing) → some-beyond (t .triggers) X ≡ false → ¬ (T (decide (asked X))) → answer false ≡ testing (bytes s) (t .triggers) X
+  says-no X near n = says X near false (λ h. n (decide-of (asked X) (tightest-cue t X .0 h)))
+
+-- the first two of the times
+abbrev times : ℕ → ℕ → List ℤ → sheets.Timing
+times a b rest = component (pos a ∷ pos b ∷ rest)
+
 -- ---- "in the whole case, times 0,0 and 0,1 are tightest; 0,2 is not"
 abbrev whole : Sheet
 whole =
@@ -233,6 +285,7 @@ whole =
       floor = row (num (pos 5) ∷ num (pos 2) ∷ []);
       due = λ j. val (row (num (pos 1) ∷ num (pos 2) ∷ []) j);
       after = table ((absent ∷ absent ∷ []) ∷ (absent ∷ absent ∷ []) ∷ []);
+      land = none;
     }
 
 whole-readable : Readable 2 (cue-of whole)
@@ -249,14 +302,38 @@ whole-readable =
     lagged (nat.suc (nat.suc i)) h = absurd (let e : ⊥ = omega arith in e)
 
 whole-ordered : Orderly whole
-unfolding orderly? no-gain? gain-or mm mv power idm sup supL _⊗_ _⊕_ ≼-dec all-or all-dec decide
+unfolding orderly? order-table no-gain? gain-or mm mv power idm sup supL _⊗_ _⊕_ ≼-dec all-or all-dec decide
 whole-ordered = decide-yes (orderly? whole) tt
+
+-- ---- house lights that fire 1 ms too early break a land rule and no other
+abbrev lights : Sheet
+lights =
+    record {
+      panels = 1;
+      triggers = 2;
+      lag = table ((num (pos 0) ∷ absent ∷ []) ∷ []);
+      floor = row (num (pos 0) ∷ []);
+      due = λ j. val (row (num (pos 0) ∷ num (pos 0) ∷ []) j);
+      after = table ((absent ∷ absent ∷ []) ∷ (absent ∷ absent ∷ []) ∷ []);
+      land = some (table ((absent ∷ []) ∷ (num (pos 2) ∷ []) ∷ []));
+    }
+
+lights-readable : Readable 2 (cue-of lights)
+lights-readable = record { trigger = lit< tt; floored = (0, lit< tt, (pos 0, refl)); lagged = lagged }
+  where
+    lagged : (i : ℕ) → i < 1 → (j : ℕ) × (j < 2) × Present (lights .lag i j)
+    lagged nat.zero h = (0, lit< tt, (pos 0, refl))
+    lagged (nat.suc i) h = absurd (let e : ⊥ = omega arith in e)
+
+lights-ordered : Orderly lights
+unfolding orderly? order-table no-gain? gain-or mm mv power idm sup supL _⊗_ _⊕_ ≼-dec all-or all-dec decide
+lights-ordered = decide-yes (orderly? lights) tt
 
 -- ---- the whole table
 pub cases-hold : Every CaseHolds cases
 unfolding reaching reached-space admitted latest-exists latest made fit planning space-after keeping kept-byte byte-of kept-count
-    testing tightest? keeps? Keeps same-entry? deviation shortfall ordered orderly? line-words
-    list-words read sheet.lines sheet.line rows sections checked any ended items item signed value behind literal bytes least leastE steps
+    testing tightest? keeps? Keeps same-entry? deviation shortfall ordered orderly? order-table line-words
+    list-words read sheet.lines sheet.line rows sections optional checked any ended items item signed value behind literal bytes least leastE steps
     selections lines minimal needed? others combination? asked? met? under-dec fixings walk kept cut serves-as-well floor-panels through pull pullE
     overdue need seed ray candidate candidates no-gain? gain-or mm mv star power idm normal sup supL at line put sift each mapL sum val inv _⊗_
     _⊕_ maxz _+z_ neg decLe z-dec ≼-dec present-dec all-or all-dec any-dec dec-× dec-¬ dec-→ ltE-cmp ltL-cmp strict same? decide
@@ -266,20 +343,14 @@ cases-hold =
     (refl, refl) then (refl, refl) then (refl, refl) then
     (refl, refl) then (refl, refl) then (refl, refl) then
     refl then refl then refl then refl then refl then refl then refl then
-    (λ rest. whole-says 0 rest refl true (tightest-cue whole _ .1 (decide-yes (asked 0 rest) tt))) then
-    (λ rest. whole-says 1 rest refl true (tightest-cue whole _ .1 (decide-yes (asked 1 rest) tt))) then
-    (λ rest. whole-says 2 rest refl false (λ t. decide-of (asked 2 rest) (tightest-cue whole _ .0 t))) then
+    (λ rest. says-yes whole-case whole refl whole-readable whole-ordered (times 0 0 rest) refl tt) then
+    (λ rest. says-yes whole-case whole refl whole-readable whole-ordered (times 0 1 rest) refl tt) then
+    (λ rest. says-no whole-case whole refl whole-readable whole-ordered (times 0 2 rest) refl (λ h. h)) then
     (λ rest. (refl, refl)) then (λ rest. (refl, refl)) then (λ rest. (refl, refl)) then (λ rest. (refl, refl)) then
     (λ rest. (refl, refl)) then (λ rest. (refl, refl)) then (λ rest. (refl, refl)) then (λ rest. (refl, refl)) then
+    (refl, refl) then refl then (λ rest. (refl, refl)) then
+    (refl, refl) then
+    (λ rest. says-yes house-lights lights refl lights-readable lights-ordered (times 0 2 rest) refl tt) then
+    (λ rest. says-no house-lights lights refl lights-readable lights-ordered (times 0 1 rest) refl (λ h. h)) then
+    (refl, refl) then (refl, refl) then (refl, refl) then (refl, refl) then
     done)
-  where
-    asked : (b : ℕ) (rest : List ℤ) → Dec (Tightest 2 (cue-of whole) (component (pos 0 ∷ pos b ∷ rest)))
-    asked b rest = tightest? 2 (cue-of whole) whole-readable whole-ordered (component (pos 0 ∷ pos b ∷ rest))
-
-    whole-says : (b : ℕ) (rest : List ℤ) → some-beyond 2 (component (pos 0 ∷ pos b ∷ rest)) ≡ false → (v : Bool) →
-        Says (sheets.Tightest whole (component (pos 0 ∷ pos b ∷ rest))) v →
-        answer v ≡ testing (bytes whole-case) 2 (component (pos 0 ∷ pos b ∷ rest))
-    whole-says b rest near v h =
-        let X = component (pos 0 ∷ pos b ∷ rest) in
-        testing-says (bytes whole-case) 2 X whole []
-        (admitted-on (bytes whole-case) 2 X whole [] refl refl near ∙ ordered-got (bytes whole-case) whole [] refl whole-ordered) v h

@@ -99,7 +99,7 @@ module _ (n : ℕ) (P : Cue) where
   -- what keeps the order lands by d as by the lags
   pub mv-through : (x : Vec) → Keeps n order x → (i : ℕ) → mv n lag x i ≡ mv n (through n P) x i
   unfolding through
-  mv-through x k i = sym (mv-mm n lag (star n order) x i ∙ mv-ext n lag _ x i (keeps-unchanged n order x k))
+  mv-through x k i = sym (mv-mm n n lag (star n order) x i ∙ mv-ext n lag _ x i (keeps-unchanged n order x k))
 
   pub mark-keeps : NoGain n order → Keeps n order (timing (mark n P))
   unfolding Keeps

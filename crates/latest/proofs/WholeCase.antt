@@ -23,9 +23,9 @@ use Rattle.cue.specs.Latest.{made, fit, latest}
 use Rattle.cue.specs.Method.{through, pullE, pull, leastE, least, floor-panels, serves-as-well, cut, walk, fixings, kept}
 use Rattle.cue.specs.Method.{selections, need, seed, ray, candidate, candidates, lines}
 use Rattle.sheet.specs.Text.{bytes}
-use Rattle.sheet.specs.Sheet.{literal, value, behind, signed, item, ended, items, any, checked, rows, sections, read}
+use Rattle.sheet.specs.Sheet.{literal, value, behind, signed, item, ended, items, any, checked, rows, sections, optional, read}
 use Rattle.sheet.specs.Sheet as sheet
-use Rattle.sheet.specs.Cue.{orderly?}
+use Rattle.sheet.specs.Cue.{order-table, orderly?}
 use Rattle.sheet.specs.Ordered.{ordered}
 use Rattle.sheet.specs.Admitted.{admitted}
 use Rattle.sheet.specs.Meaning.{Timing}
@@ -52,8 +52,8 @@ pub texts-hold : program-text whole 2 (times (pos 0) (pos 2)) ∷ program-text w
     reached-text (full 2) ∷ [] ≡
     bytes "latest=0,1\n" ∷ bytes "latest=1,2\n" ∷ bytes "refused=10\n" ∷ bytes "refused=11\n" ∷ bytes "refused=8\n" ∷ bytes "refused=2\n" ∷
     bytes "refused=9\ncount=2\n" ∷ []
-unfolding program-text latest-text refusal-text full-text joined digits admitted ordered orderly? read sheet.lines sheet.line rows latest-exists latest fit made
-    sections checked any ended items item signed value behind literal bytes least leastE shortfall selections lines minimal needed? others
+unfolding program-text latest-text refusal-text full-text joined digits admitted ordered order-table orderly? read sheet.lines sheet.line rows
+    latest-exists latest fit made sections optional checked any ended items item signed value behind literal bytes least leastE shortfall selections lines minimal needed? others
     combination? asked? met? under-dec fixings walk kept cut serves-as-well floor-panels through pull pullE overdue need seed ray candidate candidates
     no-gain? gain-or mm mv star power idm normal sup supL at line put sift each mapL val inv _⊗_ _⊕_ maxz _+z_ neg decLe z-dec ≼-dec
     present-dec all-or all-dec any-dec dec-× dec-¬ dec-→ ltE-cmp ltL-cmp strict same?

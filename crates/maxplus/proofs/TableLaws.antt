@@ -10,9 +10,10 @@ use Rattle.maxplus.specs.Tables.{Vec, Mat, mv, mm, idm}
 use Rattle.maxplus.proofs.EntryLaws.{_▸_, ≼-absent, ⊕-l, ⊕-r, ⊕-lub, ⊗-right, ⊗-assoc, ⊗-nothing, ⊗-unit, distrib, ⊗-left-comm}
 use Rattle.maxplus.proofs.SupLaws.{sup-ub, sup-lub, sup-mono, sup-ext, sup-⊗, sup-comm, sup-⊗r}
 
-pub mv-mm : (n : ℕ) (A B : Mat) (x : Vec) (i : ℕ) → mv n (mm n A B) x i ≡ mv n A (mv n B x) i
+-- (A B) x is A (B x), for A with m columns and B with n
+pub mv-mm : (m n : ℕ) (A B : Mat) (x : Vec) (i : ℕ) → mv n (mm m A B) x i ≡ mv m A (mv n B x) i
 unfolding mv mm
-mv-mm n A B x i = simp (sup-⊗r, sup-⊗, ⊗-assoc) (sup-comm n n (λ k j. A i j ⊗ (B j k ⊗ x k)))
+mv-mm m n A B x i = simp (sup-⊗r, sup-⊗, ⊗-assoc) (sup-comm n m (λ k j. A i j ⊗ (B j k ⊗ x k)))
 
 pub idm-same : (i : ℕ) → idm i i ≡ unit
 unfolding idm

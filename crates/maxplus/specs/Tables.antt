@@ -37,7 +37,7 @@ module _ (n : ℕ) (B : Mat) where
   power zero = idm
   power (suc k) = mm n B (power k)
 
-  -- "M* is the sum of the powers 0 to n − 1 of the after table"
+  -- "M* is the sum of the powers 0 to n − 1 of the after table", since document 02 of the order table
   unfoldable pub star : Mat
   star i j = sup n (λ k. power k i j)
 

@@ -1,4 +1,4 @@
--- Step 1 in words: the powers of the after table, their sum, and their diagonals.
+-- Step 1 in words: the powers of the order table, their sum, and their diagonals.
 use mathlib.Core.Path.{_≡_, refl, ap, ap₂, _∙_}
 use mathlib.Core.List.{List, []}
 use Prim.Native.Nat.{ℕ, _+_, _≤_, _<_}
@@ -24,13 +24,13 @@ use Rattle.tables.proofs.SquareLaws.{entry-unit, closely-within, meant-within}
 use Rattle.cue.specs.Sizes.{size-limit}
 
 -- a product of tables that are held
-pub mm-held : {m n : ℕ} {A B : Mat} {a b r : List (List ℕ)} → Holds m n A a → Holds n n B b →
-    Holds m n (mm n (meant a) (meant b)) r → Holds m n (mm n A B) r
+pub mm-held : {m k n : ℕ} {A B : Mat} {a b r : List (List ℕ)} → Holds m k A a → Holds k n B b →
+    Holds m n (mm k (meant a) (meant b)) r → Holds m n (mm k A B) r
 unfolding mm
-mm-held {n} h g e = record { at = λ i j hi hj. e .at i j hi hj ∙ sup-ext n (λ k hk. ap₂ _⊗_ (h .at i k hi hk) (g .at k j hk hj)) }
+mm-held {k} h g e = record { at = λ i j hi hj. e .at i j hi hj ∙ sup-ext k (λ l hl. ap₂ _⊗_ (h .at i l hi hl) (g .at l j hl hj)) }
 
 module _ (n : ℕ) (t : List (List ℕ)) where
-  -- a sheet that has these after rules and nothing else
+  -- a cue that has this order table and nothing else
   abbrev alone : Cue
   alone = record { panels = 0; lag = λ i j. absent; floor = λ i. absent; due = λ j. pos 0; order = meant t }
 

@@ -10,10 +10,10 @@ use tables::joined;
 use tables::product;
 
 // "Timings that keep the order exist exactly when no diagonal entry of powers 1 to n is above 0." Then the lent table is M*, "the sum of the
-// powers 0 to n − 1 of the after table".
-pub fn closed(after: &[[u64; 6]; 6], star: &mut [[u64; 6]; 6], n: usize) -> bool
-    requires { ⌜ (n ≤ size-limit) × Closely n n order-limit (now after) ⌝ }
-    ensures { λ r. ⌜ Closed n (meant (now (after .entry))) (now (star .exit)) r ⌝ }
+// powers 0 to n − 1 of the after table", since document 02 of the order table.
+pub fn closed(order: &[[u64; 6]; 6], star: &mut [[u64; 6]; 6], n: usize) -> bool
+    requires { ⌜ (n ≤ size-limit) × Closely n n order-limit (now order) ⌝ }
+    ensures { λ r. ⌜ Closed n (meant (now (order .entry))) (now (star .exit)) r ⌝ }
 {
     let blank = [0u64; 6];
     let mut sum = [blank; 6];
@@ -21,7 +21,7 @@ pub fn closed(after: &[[u64; 6]; 6], star: &mut [[u64; 6]; 6], n: usize) -> bool
     let mut k: usize = 0;
     while k < n {
         sum = joined(&power, &sum, n);
-        power = product(after, &power, n, n);
+        power = product(order, &power, n, n, n);
         if !diagonal_low(&power, n) {
             return false;
         }

@@ -5,10 +5,11 @@ ghost use mathlib.Core.List.{List};
 ghost use Prim.Native.Nat.{ℕ};
 ghost use Rattle.sheet.specs.Sheet as spec;
 ghost use Rattle.sheet.specs.Sheet.{read};
-ghost use Rattle.sheet.specs.Cue.{cue-size, cue-of};
+ghost use Rattle.sheet.specs.Cue.{cue-size, order-table, cue-of};
 ghost use Rattle.sheet.specs.Ordered.{ordered};
 ghost use Rattle.reading.specs.Reading.{answer};
 ghost use Rattle.cue.specs.Cue as theory;
+ghost use Rattle.tables.specs.Held.{Holds};
 ghost use Rattle.preparing.specs.Prepared.{Worded, HoldsCue, Tabled, PreparedAs};
 use candidates::Marks;
 use reading::Reading;
@@ -48,15 +49,15 @@ pub struct Prepared {
 
 // The one place where the words of a sheet become those of its cue: the lent tables are its order and its lags.
 pub fn cue_of(t: SheetWords, order: &mut [[u64; 6]; 6], lag: &mut [[u64; 6]; 6]) -> CueWords
+    requires { ⌜ ((s : spec.Sheet) × Worded s t) ⌝ }
     ensures sized { λ r. ⌜ ((s : spec.Sheet) → Worded s t → r .triggers ≡ cue-size s) ⌝ }
     ensures held { λ r. ⌜ ((s : spec.Sheet) → Worded s t → HoldsCue (cue-of s) (now (order .exit)) (now (lag .exit)) r) ⌝ }
 {
-    let after_rows = t.after;
-    let afters = tables::table(after_rows);
-    *order = afters;
     let lag_rows = t.lag;
     let lags = tables::table(lag_rows);
     *lag = lags;
+    let orders = order_of(t, &lags);
+    *order = orders;
     let floor = t.floor;
     let due = t.due;
     CueWords {
@@ -65,6 +66,24 @@ pub fn cue_of(t: SheetWords, order: &mut [[u64; 6]; 6], lag: &mut [[u64; 6]; 6])
         floor: floor,
         due: due,
     }
+}
+
+// The larger of the after table and land times lag: the product is over panels. A sheet without land lines has no such rules to multiply.
+fn order_of(t: SheetWords, lag: &[[u64; 6]; 6]) -> [[u64; 6]; 6]
+    requires { ⌜ ((s : spec.Sheet) × Worded s t × Holds (s .panels) (s .triggers) (s .lag) (now lag)) ⌝ }
+    ensures { λ r. ⌜ ((s : spec.Sheet) → Worded s t → Holds (s .panels) (s .triggers) (s .lag) (now (lag .entry)) →
+        Holds (s .triggers) (s .triggers) (order-table s) r) ⌝ }
+{
+    let after_rows = t.after;
+    let afters = tables::table(after_rows);
+    let land = t.land;
+    if !land.given {
+        return afters;
+    }
+    let land_rows = land.rows;
+    let lands = tables::table(land_rows);
+    let waits = tables::product(&lands, lag, t.triggers, t.panels, t.triggers);
+    tables::joined(&afters, &waits, t.triggers)
 }
 
 // Whether the order of a cue can be kept, and then M* and d.
@@ -83,7 +102,7 @@ pub fn closed_tables(
     if !order::closed(order, star, n) {
         return false;
     }
-    let throughs = tables::product(lag, star, cue.panels, n);
+    let throughs = tables::product(lag, star, cue.panels, n, n);
     *through = throughs;
     true
 }

@@ -2,6 +2,7 @@
 use mathlib.Core.Path.{_≡_, subst}
 use mathlib.Core.List.{List, [], _∷_}
 use mathlib.Core.Bool.{Bool, true, false, cond}
+use mathlib.Core.Option.{Option, none}
 use Prim.Native.Nat.{ℕ, zero, suc, _-_, _≤_}
 use native.Mathlib.Omega.{arith}
 use lib.Dec.{ltb, eqb}
@@ -9,10 +10,11 @@ use lib.IntN.{pos}
 use lib.ListN.{length}
 use Rattle.maxplus.specs.Whole.{neg}
 use Rattle.maxplus.specs.Entry.{E, absent, num}
-use Rattle.sheet.specs.Sheet.{Got, got, refused, _>>=_, literal, leading, value, behind, signed, item}
+use Rattle.maxplus.specs.Tables.{Mat}
+use Rattle.sheet.specs.Sheet.{Got, got, refused, got?, _>>=_, literal, leading, value, behind, signed, item}
 use Rattle.sheet.specs.Sheet.{ending, ended, items, Rule, size, entry, mark, out-of-range, no-size, absent?, any, all, checked}
 use Rattle.sheet.specs.Sheet.{line, rows, Section, section, sections, sizes, tables, part, count, panels-line, triggers-line, lag-lines, floor-line}
-use Rattle.sheet.specs.Sheet.{sheet-of, finished, lines, read}
+use Rattle.sheet.specs.Sheet.{optional, sheet-of, finished, lines, read}
 
 abbrev Numbered : {A : Type 0} → Got A → Type 0
 Numbered (got a s) = Unit {0}
@@ -84,16 +86,21 @@ sections-numbered [] s = tt
 sections-numbered (k ∷ ks) s = then-numbered (section k s) _ (rows-numbered (k .key) (k .rule) (k .lines) (k .items) s)
     (λ t s. then-numbered (sections ks s) _ (sections-numbered ks s) (λ ts s. tt))
 
-finished-numbered : (m n : ℕ) (ts : List (List (List E))) (s : List ℕ) → Numbered (finished m n ts s)
-finished-numbered m n ts (b ∷ s) = (omega arith, omega arith)
-finished-numbered m n ts [] = if-numbered (any (all absent?) (part ts lag-lines)) (refused 6) _ (omega arith, omega arith)
-    (if-numbered (any (all absent?) (part ts floor-line)) (refused 7) (got (sheet-of m n ts) []) (omega arith, omega arith) tt)
+optional-numbered : (k : Section) (s : List ℕ) → Numbered (optional k s)
+unfolding optional
+optional-numbered k s = if-numbered (got? (literal (k .key) s)) _ (got none s)
+    (then-numbered (section k s) _ (rows-numbered (k .key) (k .rule) (k .lines) (k .items) s) (λ t s. tt)) tt
+
+finished-numbered : (m n : ℕ) (ts : List (List (List E))) (land : Option Mat) (s : List ℕ) → Numbered (finished m n ts land s)
+finished-numbered m n ts land (b ∷ s) = (omega arith, omega arith)
+finished-numbered m n ts land [] = if-numbered (any (all absent?) (part ts lag-lines)) (refused 6) _ (omega arith, omega arith)
+    (if-numbered (any (all absent?) (part ts floor-line)) (refused 7) (got (sheet-of m n ts land) []) (omega arith, omega arith) tt)
 
 lines-numbered : (s : List ℕ) → Numbered (lines s)
 unfolding lines
 lines-numbered s = then-numbered (sections sizes s) _ (sections-numbered sizes s) (λ ps s.
     then-numbered (sections (tables (count (part ps panels-line)) (count (part ps triggers-line))) s) _ (sections-numbered _ s) (λ ts s.
-    finished-numbered _ _ ts s))
+    then-numbered (optional _ s) _ (optional-numbered _ s) (λ land s. finished-numbered _ _ ts land s)))
 
 pub refusal-known : (s : List ℕ) (k : ℕ) → read s ≡ refused k → (1 ≤ k) × (k ≤ 7)
 unfolding read

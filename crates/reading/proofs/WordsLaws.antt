@@ -1,7 +1,8 @@
 -- The words of a sheet are those of the rows that were read of each kind; a size's word stands for its number.
 use mathlib.Core.Path.{_≡_, refl, ap, sym, _∙_}
 use mathlib.Core.List.{List, [], _∷_}
-use mathlib.Core.Bool.{cond}
+use mathlib.Core.Bool.{Bool, cond}
+use mathlib.Core.Option.{Option}
 use Prim.Native.Nat.{ℕ, _≤_, _<_}
 use native.Mathlib.Decide.{decLt}
 use native.Mathlib.Omega.{arith}
@@ -17,10 +18,11 @@ use Rattle.words.specs.Words.{entry}
 use Rattle.words.proofs.Laws.{entry-word}
 use Rattle.sheet.specs.Good.{RowsOf}
 use Rattle.sheet.specs.Sheet.{got, mark, size, absent?, table, sections, part, tables, count}
-use Rattle.sheet.specs.Sheet.{lag-lines, floor-line, due-line, after-lines, sheet-of}
+use Rattle.sheet.specs.Sheet.{lag-lines, floor-line, due-line, after-lines, given-table, sheet-of}
 use Rattle.sheet.proofs.LineLaws.{none-at, there}
 use Rattle.sheet.proofs.SectionLaws.{row-long, row-passes, sections-of, sections-many, size-read}
 use Rattle.rows.specs.Grid.{strip, strips, grid}
+use Rattle.rows.specs.Inner.{GivenAs}
 use Rattle.rows.proofs.PlaceLaws.{strip-at, strips-at, strip-eq}
 use Rattle.reading.specs.Reading.{answer}
 use Rattle.reading.specs.declared.Reading.{Reading}
@@ -57,7 +59,8 @@ module _ {ts : List (List (List E))} {ws : List (List (List ℕ))} (S : Stacked 
       let e = entry-word (table (part ts i) 0 0) (λ z f. rw (← num-inj (sym q ∙ f)) (omega arith)) in
       (ap (λ w. up (val (entry w))) w ∙ ap (λ e. up (val e)) e, rw q l)
 
-  pub sheet-words : (m n : ℕ) (s x : List ℕ) → sections (tables m n) s ≡ got ts x →
+  pub sheet-words : (m n : ℕ) (s x : List ℕ) → sections (tables m n) s ≡ got ts x → {there : Bool} {land : Option Mat} {lands : List (List ℕ)} →
+      GivenAs there land lands →
       _≡_ {A = Reading}
       (record {
         refusal = 0;
@@ -68,10 +71,11 @@ module _ {ts : List (List (List E))} {ws : List (List (List ℕ))} (S : Stacked 
           floor = getD (getD ws floor-line []) 0 [];
           due = getD (getD ws due-line []) 0 [];
           after = each-row (getD ws after-lines []);
+          land = record { given = there; rows = each-row lands };
         };
       })
-      (answer (got (sheet-of m n ts) []))
-  sheet-words m n s x e =
+      (answer (got (sheet-of m n ts land) []))
+  sheet-words m n s x e {land = land} L =
       let many = sections-many (tables m n) s e in
       rw (
         all-words lag-lines (omega arith),
@@ -79,4 +83,6 @@ module _ {ts : List (List (List E))} {ws : List (List (List ℕ))} (S : Stacked 
         first-words floor-line (omega arith),
         first-words due-line (omega arith),
         due-words (sections-of (tables m n) s e due-line refl),
+        L .is,
+        ap each-row (L .words) ∙ each-row-grid (given-table land),
       )

@@ -2,17 +2,20 @@
 use mathlib.Core.Path.{_≡_}
 use mathlib.Core.List.{List, [], _∷_}
 use mathlib.Core.Bool.{Bool, true, false}
+use mathlib.Core.Option.{Option}
 use Prim.Native.Nat.{ℕ, _≤_, _<_}
 use lib.ListN.{length, drop, getD}
 use Rattle.maxplus.specs.Entry.{E, present?}
+use Rattle.maxplus.specs.Tables.{Mat}
 use Rattle.words.specs.Words.{entry}
 use Rattle.sheet.specs.Sheet as sheet
-use Rattle.sheet.specs.Sheet.{Got, got, any, all, absent?, table, Section, section, sections, part, sizes, tables}
+use Rattle.sheet.specs.Sheet.{Got, got, any, all, absent?, table, Section, section, sections, optional, land-kind, part, sizes, tables}
 use Rattle.sheet.specs.Good.{RowsOf}
 use Rattle.rows.specs.Grid.{strips}
-use Rattle.rows.specs.Inner.{RowsAre, Reads}
+use Rattle.rows.specs.Inner.{RowsAre, Reads, GivenAs}
 use Rattle.rows.specs.declared.Row.{Row}
 use Rattle.rows.specs.declared.Place.{Place}
+use Rattle.rows.specs.declared.Optional.{Optional}
 use Rattle.reading.specs.Reading.{answer}
 use Rattle.reading.specs.declared.Reading.{Reading}
 use Rattle.reading.specs.declared.Group.{Group}
@@ -43,10 +46,19 @@ SectionsAre g s r held = Reads Stacked g s (r .refusal) (r .next) held
 abbrev pub each-row : List (List ℕ) → List Row
 each-row ws = six (λ i. record { at = getD ws i [] })
 
--- the answer to the rows that were read of each kind, and to the bytes left behind them
-abbrev pub FinishedIs : List (List (List ℕ)) → ℕ → ℕ → ℕ → Reading → Type 0
-FinishedIs ps m n left r = (s x : List ℕ) (ts : List (List (List E))) → sections (tables m n) s ≡ got ts x → length x ≡ left → Stacked ts ps →
-    r ≡ answer (sheet.finished m n ts x)
+-- the land lines, where they are
+abbrev pub LandIs : ℕ → ℕ → List ℕ → ℕ → Optional → List (List ℕ) → Type 0
+LandIs m n s from r held = Reads (GivenAs (r .given)) (optional (land-kind m n) (drop from s)) s (r .refusal) (r .next) held
+
+-- the answer to what was read of each kind, and to the bytes left behind it; the answer where nothing is wrong with it
+module _ (ps : List (List (List ℕ))) (there : Bool) (lands : List (List ℕ)) (m n : ℕ) where
+  abbrev pub FinishedIs : ℕ → Reading → Type 0
+  FinishedIs left r = (s x y : List ℕ) (ts : List (List (List E))) (land : Option Mat) → sections (tables m n) s ≡ got ts x → Stacked ts ps →
+      GivenAs there land lands → length y ≡ left → r ≡ answer (sheet.finished m n ts land y)
+
+  abbrev pub GoodIs : Reading → Type 0
+  GoodIs r = (s x : List ℕ) (ts : List (List (List E))) (land : Option Mat) → sections (tables m n) s ≡ got ts x → Stacked ts ps →
+      GivenAs there land lands → r ≡ answer (got (sheet.sheet-of m n ts land) [])
 
 -- some of the rows that were read has no entry
 abbrev pub EmptyRow : List (List ℕ) → ℕ → Bool → Type 0

@@ -9,11 +9,13 @@ ghost use Rattle.words.specs.Words.{entry};
 ghost use Rattle.sheet.specs.Sheet as sheet;
 ghost use Rattle.sheet.specs.Sheet.{read, sections};
 ghost use Rattle.reading.specs.Reading.{answer};
-ghost use Rattle.reading.specs.Inner.{kinds, most, SectionIs, SectionsAre, FinishedIs, EmptyRow, EmptyWords, each-row};
+ghost use Rattle.reading.specs.Inner.{kinds, most, SectionIs, SectionsAre, LandIs, FinishedIs, GoodIs, EmptyRow, EmptyWords, each-row};
 ghost use Rattle.cue.specs.Sizes.{size-limit};
 use rows::Items;
+use rows::Optional;
 use rows::Place;
 use rows::Row;
+use rows::read_optional;
 use rows::read_rows;
 
 // The most bytes that a sheet may have.
@@ -37,6 +39,12 @@ const DUE: usize = 2;
 
 const AFTER: usize = 3;
 
+// The land lines: whether the sheet has them, and their rows, which are absent throughout where it has none.
+pub struct Land {
+    pub given: bool,
+    pub rows: [Row; 6],
+}
+
 // A good sheet. A struct can't hold an array of arrays, so a table in it is an array of rows.
 pub struct SheetWords {
     pub panels: usize,
@@ -45,6 +53,7 @@ pub struct SheetWords {
     pub floor: [u64; 6],
     pub due: [u64; 6],
     pub after: [Row; 6],
+    pub land: Land,
 }
 
 // Document 01's refusal, 1 to 7, and no sheet; or 0 and the sheet.
@@ -85,7 +94,13 @@ pub fn read_sheet(s: &[u8]) -> Reading
     if tables.refusal != 0 {
         return refused(tables.refusal);
     }
-    finished(&parts, panels, triggers, s.len() - tables.next)
+    let mut land = [[0u64; 6]; 6];
+    let lands = read_land(s, tables.next, panels, triggers, &mut land);
+    if lands.refusal != 0 {
+        return refused(lands.refusal);
+    }
+    let left = s.len() - lands.next;
+    finished(&parts, lands.given, &land, panels, triggers, left)
 }
 
 // Reads the lines of the `k`-th kind of a group: this is the list of the kinds, each with its key, what its items may be, how many lines it
@@ -148,6 +163,20 @@ fn read_sections(
     }
 }
 
+// Reads the land lines, where the sheet has them.
+fn read_land(
+    s: &[u8],
+    from: usize,
+    panels: usize,
+    triggers: usize,
+    rows: &mut [[u64; 6]; 6],
+) -> Optional
+    requires { ⌜ (from ≤ length (now s)) × (panels ≤ size-limit) × (triggers ≤ size-limit) ⌝ }
+    ensures { λ r. ⌜ LandIs panels triggers (now (s .entry)) from r (now (rows .exit)) ⌝ }
+{
+    read_optional(s, from, b"land=", Items::Entry, triggers, panels, rows)
+}
+
 // The number of a size line.
 fn size(line: [[u64; 6]; 6]) -> usize
     ensures { λ r. ⌜ r ≡ up (val (entry (getD (getD line 0 []) 0 0))) ⌝ }
@@ -156,10 +185,17 @@ fn size(line: [[u64; 6]; 6]) -> usize
     words::above(at[0]) as usize
 }
 
-// The answer once all lines are read, with `left` bytes behind them: the one place where the rows of each kind are used.
-fn finished(parts: &[[[u64; 6]; 6]; TABLES], panels: usize, triggers: usize, left: usize) -> Reading
+// The answer once all lines are read, with `left` bytes behind them.
+fn finished(
+    parts: &[[[u64; 6]; 6]; TABLES],
+    given: bool,
+    land: &[[u64; 6]; 6],
+    panels: usize,
+    triggers: usize,
+    left: usize,
+) -> Reading
     requires { ⌜ (panels ≤ size-limit) × (triggers ≤ size-limit) ⌝ }
-    ensures { λ r. ⌜ FinishedIs (now (parts .entry)) panels triggers left r ⌝ }
+    ensures { λ r. ⌜ FinishedIs (now (parts .entry)) given (now (land .entry)) panels triggers left r ⌝ }
 {
     let lag = parts[LAG];
     let floor = parts[FLOOR];
@@ -174,10 +210,26 @@ fn finished(parts: &[[[u64; 6]; 6]; TABLES], panels: usize, triggers: usize, lef
     if no_floor {
         return refused(7);
     }
+    good(parts, given, land, panels, triggers)
+}
+
+// The answer of a good sheet: what was read of each kind, as its tables and marks.
+fn good(
+    parts: &[[[u64; 6]; 6]; TABLES],
+    given: bool,
+    land: &[[u64; 6]; 6],
+    panels: usize,
+    triggers: usize,
+) -> Reading
+    ensures { λ r. ⌜ GoodIs (now (parts .entry)) given (now (land .entry)) panels triggers r ⌝ }
+{
+    let lag = parts[LAG];
+    let floor = parts[FLOOR];
     let due = parts[DUE];
     let after = parts[AFTER];
     let lags = table(lag);
     let afters = table(after);
+    let lands = table(*land);
     let floors = floor[0];
     let dues = due[0];
     let sheet = SheetWords {
@@ -187,6 +239,10 @@ fn finished(parts: &[[[u64; 6]; 6]; TABLES], panels: usize, triggers: usize, lef
         floor: floors,
         due: dues,
         after: afters,
+        land: Land {
+            given: given,
+            rows: lands,
+        },
     };
     Reading {
         refusal: 0,
@@ -228,6 +284,10 @@ fn refused(refusal: u8) -> Reading
         floor: marks,
         due: marks,
         after: table,
+        land: Land {
+            given: false,
+            rows: table,
+        },
     };
     Reading {
         refusal: refusal,

@@ -2,6 +2,7 @@
 use mathlib.Core.Path.{_≡_, refl, ap, ap₂, sym, _∙_}
 use mathlib.Core.List.{List, [], _∷_, _++_, append-nil}
 use mathlib.Core.Bool.{Bool, true, false, not}
+use mathlib.Core.Option.{none, some}
 use Prim.Native.Nat.{ℕ, suc, _+_, _-_, _≤_, _<_}
 use native.Mathlib.Omega.{arith}
 use lib.ListN.{length, drop, set, length-append}
@@ -9,10 +10,12 @@ use Rattle.maxplus.specs.Entry.{E, absent}
 use Rattle.maxplus.specs.Finite.{mapL}
 use Rattle.maxplus.proofs.EachLaws.{each-set, map-append, map-length}
 use Rattle.words.specs.Words.{word}
-use Rattle.sheet.specs.Sheet.{Got, got, refused, literal, ended, items, Rule, line, rows, row, table}
+use Rattle.sheet.specs.Sheet.{Got, got, refused, literal, ended, items, Rule, line, rows, row, table, Section}
 use Rattle.rows.specs.Grid.{strip, strips}
-use Rattle.rows.specs.Inner.{clip, LiteralAt, words-of, verdict, FaultIs, Found, Reads}
+use Rattle.rows.specs.Inner.{clip, LiteralAt, words-of, verdict, FaultIs, Found, Reads, RowsAre, OptionalIs}
+use Rattle.rows.specs.declared.Place.{Place}
 use Rattle.sheet.proofs.LineLaws.{onto, onto-onto, onto-nil, front, at-last, at-other}
+use Rattle.sheet.proofs.SectionLaws.{optional-none, optional-refused, optional-some}
 use Rattle.rows.proofs.FaultLaws.{verdict-good, good-words}
 use Rattle.cue.specs.Sizes.{size-limit}
 
@@ -176,3 +179,30 @@ module _ {A W : Type 0} {Holds : A → W → Type 0} {part : Got A} {s : List �
 
   pub reads-found : refusal ≡ 0 → Found Holds part s next held → Reads Holds part s refusal next held
   reads-found h f = record { fault = λ n. absurd (n h); found = λ h. f }
+
+-- ---- lines that may be missing
+module _ (key : List ℕ) (r : Rule) (lines n : ℕ) where
+  abbrev lines-of : Section
+  lines-of = record { key = key; rule = r; lines = lines; items = n }
+
+  pub lines-missing : (s : List ℕ) (from : ℕ) {held : List (List ℕ)} → LiteralAt s from key false → from ≤ length s →
+      held ≡ strips (λ i j. absent) → OptionalIs key r lines n s from (record { refusal = 0; given = false; next = from }) held
+  lines-missing s from l h e =
+      reads-found refl
+      (record { value = none; is = optional-none lines-of (drop from s) 2 l; within = h; words = record { is = refl; words = e } })
+
+  pub lines-given : (s : List ℕ) (from : ℕ) {p : Place} {held : List (List ℕ)} → LiteralAt s from key true →
+      RowsAre (rows key r lines n (drop from s)) s p held →
+      OptionalIs key r lines n s from (record { refusal = p .refusal; given = true; next = p .next }) held
+  lines-given s from (l, h) R =
+      record {
+        fault = λ f. optional-refused lines-of (drop from s) _ l _ (R .fault f);
+        found = λ z.
+            let F = R .found z in
+            record {
+              value = some (table (F .value));
+              is = optional-some lines-of (drop from s) _ l (F .value) _ (F .is);
+              within = F .within;
+              words = record { is = refl; words = F .words };
+            };
+      }

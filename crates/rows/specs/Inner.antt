@@ -2,18 +2,21 @@
 use mathlib.Core.Path.{_≡_}
 use mathlib.Core.List.{List, [], _∷_}
 use mathlib.Core.Bool.{Bool, true, false, cond}
+use mathlib.Core.Option.{Option}
 use Prim.Native.Nat.{ℕ, zero, suc, _+_, _≤_}
 use lib.Dec.{eqb}
 use lib.ListN.{length, drop}
 use Rattle.maxplus.specs.Entry.{E}
 use Rattle.maxplus.specs.Finite.{mapL}
 use Rattle.sheet.specs.Sheet as sheet
-use Rattle.sheet.specs.Sheet.{Got, got, refused, limit, literal, absent?, no-size, out-of-range, checked, row, table}
+use Rattle.maxplus.specs.Tables.{Mat}
+use Rattle.sheet.specs.Sheet.{Got, got, refused, limit, literal, absent?, no-size, out-of-range, checked, row, table, Section, optional, given, given-table}
 use Rattle.rows.specs.Grid.{strip, strips}
 use Rattle.rows.specs.declared.Items.{Items}
 use Rattle.rows.specs.declared.Items.the-variants as rule
 use Rattle.rows.specs.declared.Faults.{Faults}
 use Rattle.rows.specs.declared.Place.{Place}
+use Rattle.rows.specs.declared.Optional.{Optional}
 use Rattle.items.specs.Inner as items
 
 -- a number out of range counts as the first one past the limit
@@ -67,3 +70,12 @@ module _ {A W : Type 0} (Holds : A → W → Type 0) (part : Got A) (s : List �
 
 abbrev pub RowsAre : Got (List (List E)) → List ℕ → Place → List (List ℕ) → Type 0
 RowsAre g s r held = Reads (λ t ws. ws ≡ strips (table t)) g s (r .refusal) (r .next) held
+
+-- lines that may be missing: whether they are there, and their words
+pub record GivenAs (there : Bool) (c : Option Mat) (ws : List (List ℕ)) : Type 0 where
+  pub is : there ≡ given c
+  pub words : ws ≡ strips (given-table c)
+
+abbrev pub OptionalIs : List ℕ → sheet.Rule → ℕ → ℕ → List ℕ → ℕ → Optional → List (List ℕ) → Type 0
+OptionalIs key r lines n s from o held =
+    Reads (GivenAs (o .given)) (optional (record { key = key; rule = r; lines = lines; items = n }) (drop from s)) s (o .refusal) (o .next) held

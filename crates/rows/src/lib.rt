@@ -6,7 +6,7 @@ ghost use Rattle.words.specs.Words.{entry};
 ghost use Rattle.sheet.specs.Sheet.{limit, ended, no-size, out-of-range};
 ghost use Rattle.sheet.specs.Sheet as sheet;
 ghost use Rattle.items.specs.Inner.{ItemIs};
-ghost use Rattle.rows.specs.Inner.{LiteralAt, FaultIs, RowsAre, faults, has-fault, rule-of};
+ghost use Rattle.rows.specs.Inner.{LiteralAt, FaultIs, RowsAre, OptionalIs, faults, has-fault, rule-of};
 ghost use Rattle.cue.specs.Sizes.{size-limit};
 use items::Item;
 use items::item_at;
@@ -44,6 +44,13 @@ struct Faults {
 // The place behind what was read; or a refusal, 2 to 5.
 pub struct Place {
     pub refusal: u8,
+    pub next: usize,
+}
+
+// Whether lines that may be missing are there, and the place behind them; or a refusal, 2 to 5.
+pub struct Optional {
+    pub refusal: u8,
+    pub given: bool,
     pub next: usize,
 }
 
@@ -98,6 +105,36 @@ pub fn read_rows(
     Place {
         refusal: refusal,
         next: at,
+    }
+}
+
+// Reads such lines where a sheet may have or not have them: the key that comes next decides. Without them every word is absent.
+pub fn read_optional(
+    s: &[u8],
+    from: usize,
+    key: &[u8],
+    rule: Items,
+    lines: usize,
+    count: usize,
+    rows: &mut [[u64; 6]; 6],
+) -> Optional
+    requires { ⌜ (from ≤ length (now s)) × (lines ≤ size-limit) × (count ≤ size-limit) ⌝ }
+    ensures { λ r. ⌜ OptionalIs (now (key .entry)) (rule-of rule) lines count (now (s .entry)) from r (now (rows .exit)) ⌝ }
+{
+    if !literal_at(s, from, key) {
+        let cleared = [[0u64; 6]; 6];
+        *rows = cleared;
+        return Optional {
+            refusal: 0,
+            given: false,
+            next: from,
+        };
+    }
+    let read = read_rows(s, from, key, rule, lines, count, rows);
+    Optional {
+        refusal: read.refusal,
+        given: true,
+        next: read.next,
     }
 }
 

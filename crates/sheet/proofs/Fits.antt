@@ -1,6 +1,6 @@
 -- All finite results of a sheet that is read fit signed 32 bits (specs/Fits): cue's sizes at the limits on a sheet's entries, and the sums
 -- that a tested timing makes with them.
-use mathlib.Core.Path.{_≡_}
+use mathlib.Core.Path.{_≡_, refl}
 use mathlib.Core.Bool.{false}
 use mathlib.Core.List.{[], _∷_}
 use Prim.Native.Nat.{ℕ, _+_, _*_, _≤_, _<_}
@@ -10,34 +10,30 @@ use borrow.Author.Tests.{ltb-false}
 use lib.Dec.{ltb}
 use lib.IntN.{ℤ, pos}
 use Rattle.maxplus.specs.Whole.{up, dn}
-use Rattle.maxplus.specs.Entry.{E, num, _⊗_, inv}
+use Rattle.maxplus.specs.Entry.{num, inv}
 use Rattle.maxplus.specs.Finite.{each}
-use Rattle.maxplus.specs.Tables.{sup, mv}
+use Rattle.maxplus.specs.Tables.{mv}
 use Rattle.maxplus.proofs.EntryLaws.{num-inj}
 use Rattle.maxplus.proofs.EachLaws.{each-at, length-each}
 use Rattle.cue.specs.Results.{Within, Signed32}
-use Rattle.cue.proofs.Bounds.{above-⊗, below-⊗, above-inv, below-inv, above-sup, below-sup, power-within, times-le, signed32, results-32}
+use Rattle.cue.proofs.Bounds.{power-within, times-le, signed32, results-32}
 use Rattle.cue.proofs.Walk.{steps-bound}
 use Rattle.cue.proofs.Few.{selections-few, steps-few, lines-few}
 use Rattle.sheet.specs.Sheet.{Sheet, limit}
-use Rattle.sheet.specs.Sizes.{order-limit}
+use Rattle.sheet.specs.Sizes.{order-limit, star-size, through-size, mark-down, least-up, need-down, line-down}
 use Rattle.sheet.specs.Meaning.{Timing, landing, overdue, shortfall, deviation}
 use Rattle.sheet.specs.Times.{far-limit, beyond, some-beyond}
 use Rattle.sheet.specs.Cue.{cue-size, cue-of}
 use Rattle.sheet.specs.Good.{Good}
 use Rattle.sheet.specs.Fits.{Fits, All-fit}
 use Rattle.sheet.proofs.LineLaws.{none-or, none-at}
+use Rattle.sheet.proofs.WithinLaws.{within-⊗, within-inv, within-sup}
 use Rattle.sheet.proofs.Good.{read-good}
 
--- ---- sums, differences and largest values of entries within limits
-within-⊗ : {k l : ℕ} {a b : E} → Within k k a → Within l l b → Within (k + l) (k + l) (a ⊗ b)
-within-⊗ h i = record { low = above-⊗ _ _ (h .low) (i .low); high = below-⊗ _ _ (h .high) (i .high) }
-
-within-inv : {k : ℕ} {a : E} → Within k k a → Within k k (inv a)
-within-inv h = record { low = above-inv _ (h .high); high = below-inv _ (h .low) }
-
-within-sup : (n : ℕ) {k : ℕ} (f : ℕ → E) → ((j : ℕ) → j < n → Within k k (f j)) → Within k k (sup n f)
-within-sup n f h = record { low = above-sup n f (λ j q. h j q .low); high = below-sup n f (λ j q. h j q .high) }
+-- ---- the sizes as multiples of the limit: an order entry, M*, d and r, Δ, w, a line
+pub values : (order-limit ≡ 2 * limit) × (star-size ≡ 10 * limit) × (through-size ≡ 11 * limit) × (mark-down ≡ 11 * limit) ×
+    (least-up ≡ 13 * limit) × (need-down ≡ 25 * limit) × (line-down ≡ 48 * limit)
+values = (refl, refl, refl, refl, refl, refl, refl)
 
 -- ---- a timing that is tested
 pub not-beyond : (x : ℤ) → beyond x ≡ false → (up x ≤ far-limit) × (dn x ≤ far-limit)

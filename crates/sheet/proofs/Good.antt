@@ -2,6 +2,7 @@
 use mathlib.Core.Path.{_≡_, refl, sym}
 use mathlib.Core.List.{List, [], _∷_}
 use mathlib.Core.Bool.{Bool, true, false, cond, not}
+use mathlib.Core.Option.{Option, none, some}
 use Prim.Native.Nat.{ℕ, _≤_, _<_}
 use native.Mathlib.Omega.{arith}
 use lib.Dec.{ltb}
@@ -9,13 +10,16 @@ use lib.ListN.{length, getD}
 use borrow.Author.Tests.{ltb-false}
 use Rattle.maxplus.specs.Whole.{up, dn}
 use Rattle.maxplus.specs.Entry.{E, absent, num, val, Present}
+use Rattle.maxplus.specs.Tables.{Mat}
 use Rattle.maxplus.proofs.EntryLaws.{num-inj, absent-not}
 use Rattle.cue.specs.Results.{Within}
-use Rattle.sheet.specs.Sheet.{got, refused, Rule, size, limit, out-of-range, absent?, any, all, table, Sheet, sections, sizes, tables, part, count}
-use Rattle.sheet.specs.Sheet.{panels-line, triggers-line, lag-lines, floor-line, due-line, after-lines, sheet-of, finished, lines, read}
+use Rattle.sheet.specs.Sheet.{got, refused, Rule, size, entry, limit, out-of-range, absent?, any, all, table, Sheet, sections, sizes, tables, part}
+use Rattle.sheet.specs.Sheet.{count, panels-line, triggers-line, lag-lines, floor-line, due-line, after-lines, optional, land-kind, given-table}
+use Rattle.sheet.specs.Sheet.{sheet-of, finished, lines, read}
 use Rattle.sheet.specs.Good.{RowsOf, Good}
 use Rattle.sheet.proofs.LineLaws.{true-not-false, none-or, none-at, at-any, not-got, bind-got, passed, there}
-use Rattle.sheet.proofs.SectionLaws.{row-long, row-passes, sections-of, size-read}
+use Rattle.sheet.proofs.SectionLaws.{row-long, row-passes, sections-of, optional-of, size-read}
+use Rattle.sheet.proofs.Seam.{order-within}
 use Rattle.cue.specs.Sizes.{size-limit}
 
 -- ---- entries
@@ -45,11 +49,24 @@ module _ {r : Rule} {m n : ℕ} {t : List (List E)} (R : RowsOf r m n t) (i : �
       not-true false e = refl
       not-true true e = absurd (true-not-false (sym e))
 
+-- the entries of a table
+table-within : {m n : ℕ} {t : List (List E)} → RowsOf entry m n t → (i j : ℕ) → i < m → j < n → Within limit limit (table t i j)
+table-within R i j h q = entry-within R i h (row-passes R i h) j q
+
+-- ---- the land lines
+land-within : (m n : ℕ) (s : List ℕ) (land : Option Mat) {x : List ℕ} → optional (land-kind m n) s ≡ got land x →
+    (i j : ℕ) → i < n → j < m → Within limit limit (given-table land i j)
+land-within m n s none e i j h q = in-range absent refl
+land-within m n s (some c) e i j h q =
+    let (t, R, same) = optional-of (land-kind m n) s e in
+    rw (← same) (table-within R i j h q)
+
 -- ---- the sheet
 module _ (m n : ℕ) (few-m : m ≤ size-limit) (some-n : 1 ≤ n) (few-n : n ≤ size-limit) (s : List ℕ) {ts : List (List (List E))} {x : List ℕ}
     (e : sections (tables m n) s ≡ got ts x) where
-  parts-good : any (all absent?) (part ts lag-lines) ≡ false → any (all absent?) (part ts floor-line) ≡ false → Good (sheet-of m n ts)
-  parts-good no-lag no-floor =
+  parts-good : (land : Option Mat) {y : List ℕ} → optional (land-kind m n) x ≡ got land y → any (all absent?) (part ts lag-lines) ≡ false →
+      any (all absent?) (part ts floor-line) ≡ false → Good (sheet-of m n ts land)
+  parts-good land f no-lag no-floor =
       let lags = sections-of (tables m n) s e lag-lines refl in
       let floors = sections-of (tables m n) s e floor-line refl in
       let dues = sections-of (tables m n) s e due-line refl in
@@ -59,28 +76,31 @@ module _ (m n : ℕ) (few-m : m ≤ size-limit) (some-n : 1 ≤ n) (few-n : n �
         triggers-some = some-n;
         triggers-few = few-n;
         readable = record { trigger = some-n; floored = some-there floors 0 (omega arith) no-floor; lagged = λ i h. some-there lags i h no-lag };
+        afters = table-within afters;
+        lands = land-within m n x land f;
         limited = record {
-          lags = λ i j h q. entry-within lags i h (row-passes lags i h) j q;
-          floors = λ i q. entry-within floors 0 (omega arith) (row-passes floors 0 (omega arith)) i q;
+          lags = table-within lags;
+          floors = λ i q. table-within floors 0 i (omega arith) q;
           dues = λ j q.
               let p = row-passes dues 0 (omega arith) in
               let w = entry-within dues 0 (omega arith) (p .0) j q in
               let l = row-long dues 0 (omega arith) in
               rw (← there (table (part ts due-line) 0 j) (none-at absent? absent (getD (part ts due-line) 0 []) j (p .1) (omega arith))) w;
-          orders = λ i j h q. entry-within afters i h (row-passes afters i h) j q;
+          orders = order-within (sheet-of m n ts land) (table-within lags) (table-within afters) (land-within m n x land f);
         };
       }
 
-finished-got : (m n : ℕ) (ts : List (List (List E))) (y : List ℕ) {t : Sheet} {x : List ℕ} → finished m n ts y ≡ got t x →
-    (any (all absent?) (part ts lag-lines) ≡ false) × (any (all absent?) (part ts floor-line) ≡ false) × (sheet-of m n ts ≡ t)
-finished-got m n ts (b ∷ y) e = absurd (not-got e)
-finished-got m n ts [] {t} e =
-    let (f, g) = passed (any (all absent?) (part ts lag-lines)) 6 (cond (any (all absent?) (part ts floor-line)) (refused 7) (got (sheet-of m n ts) [])) e in
-    let (h, k) = passed (any (all absent?) (part ts floor-line)) 7 (got (sheet-of m n ts) []) g in
-    let c : sheet-of m n ts ≡ t = cc in
+finished-got : (m n : ℕ) (ts : List (List (List E))) (l : Option Mat) (y : List ℕ) {t : Sheet} {x : List ℕ} → finished m n ts l y ≡ got t x →
+    (any (all absent?) (part ts lag-lines) ≡ false) × (any (all absent?) (part ts floor-line) ≡ false) × (sheet-of m n ts l ≡ t)
+finished-got m n ts l (b ∷ y) e = absurd (not-got e)
+finished-got m n ts l [] {t} e =
+    let last = got (sheet-of m n ts l) [] in
+    let (f, g) = passed (any (all absent?) (part ts lag-lines)) 6 (cond (any (all absent?) (part ts floor-line)) (refused 7) last) e in
+    let (h, k) = passed (any (all absent?) (part ts floor-line)) 7 last g in
+    let c : sheet-of m n ts l ≡ t = cc in
     (f, h, c)
 
-size-good : {t : List (List E)} → RowsOf size 1 1 t → (1 ≤ count t) × (count t ≤ size-limit)
+pub size-good : {t : List (List E)} → RowsOf size 1 1 t → (1 ≤ count t) × (count t ≤ size-limit)
 unfolding val
 size-good R = let (k, q, l) = size-read R in rw q (omega arith, l)
 
@@ -93,5 +113,6 @@ read-good s t x e =
     let m = size-good (sections-of sizes s a panels-line refl) in
     let n = size-good (sections-of sizes s a triggers-line refl) in
     let (ts, z, b, h) = bind-got (sections (tables (count (part ps panels-line)) (count (part ps triggers-line))) y) g in
-    let (p, q, c) = finished-got (count (part ps panels-line)) (count (part ps triggers-line)) ts z h in
-    rw (← c) (parts-good (count (part ps panels-line)) (count (part ps triggers-line)) (m .1) (n .0) (n .1) y b p q)
+    let (l, v, d, k) = bind-got (optional (land-kind (count (part ps panels-line)) (count (part ps triggers-line))) z) h in
+    let (p, q, c) = finished-got (count (part ps panels-line)) (count (part ps triggers-line)) ts l v k in
+    rw (← c) (parts-good (count (part ps panels-line)) (count (part ps triggers-line)) (m .1) (n .0) (n .1) y b l d p q)

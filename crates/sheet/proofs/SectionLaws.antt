@@ -2,19 +2,22 @@
 use mathlib.Core.Path.{_≡_, refl, ap, _∙_}
 use mathlib.Core.Logic.{inl, inr}
 use mathlib.Core.List.{List, [], _∷_}
-use mathlib.Core.Bool.{true, false}
+use mathlib.Core.Bool.{Bool, true, false, cond}
 use Prim.Native.Nat.{ℕ, zero, suc, _≤_, _<_}
 use native.Mathlib.Omega.{arith}
 use borrow.Author.Tests.{lt-ltb, le-ltb}
 use lib.IntN.{pos}
 use lib.ListN.{length, drop, getD, drop-of-length-le}
+use mathlib.Core.Option.{Option, some}
+use mathlib.Core.Option as option
 use Rattle.maxplus.specs.Entry.{E, absent, num}
 use Rattle.maxplus.specs.Finite.{In}
+use Rattle.maxplus.specs.Tables.{Mat}
 use Rattle.maxplus.proofs.FiniteLaws.{in-at}
 use Rattle.sheet.specs.Good.{Passes, RowsOf}
-use Rattle.sheet.specs.Sheet.{got, refused, literal, ended, items, Rule, size, absent?, no-size, any, all, line, rows, table}
-use Rattle.sheet.specs.Sheet.{Section, section, sections, part, sizes, tables, count, panels-line, triggers-line, lag-lines, floor-line}
-use Rattle.sheet.specs.Sheet.{sheet-of, finished, sized, lines, read}
+use Rattle.sheet.specs.Sheet.{got, refused, got?, _>>=_, literal, ended, items, Rule, size, absent?, no-size, any, all, line, rows, table}
+use Rattle.sheet.specs.Sheet.{Section, section, sections, optional, land-kind, part, sizes, tables, count, panels-line, triggers-line}
+use Rattle.sheet.specs.Sheet.{lag-lines, floor-line, sheet-of, finished, sized, lines, read}
 use Rattle.sheet.proofs.LineLaws.{bind-got, onto, front, none-at, checked-passes, size-there}
 use Rattle.cue.specs.Sizes.{size-limit}
 
@@ -112,6 +115,35 @@ module _ {r : Rule} {lines items : ℕ} {t : List (List E)} (R : RowsOf r lines 
   pub row-passes : Passes r (getD t i [])
   row-passes = R .good (getD t i []) in-rows
 
+-- ---- lines that may be missing, of the kind k
+module _ (k : Section) (s : List ℕ) where
+  pub optional-none : (f : ℕ) → literal (k .key) s ≡ refused f → optional k s ≡ got option.none s
+  unfolding optional
+  optional-none f e = rw e
+
+  module _ (x : List ℕ) (e : literal (k .key) s ≡ got tt x) where
+    pub optional-refused : (f : ℕ) → section k s ≡ refused f → optional k s ≡ refused f
+    unfolding optional
+    optional-refused f p = rw (e, p)
+
+    pub optional-some : (t : List (List E)) (y : List ℕ) → section k s ≡ got t y → optional k s ≡ got (some (table t)) y
+    unfolding optional
+    optional-some t y p = rw (e, p)
+
+  -- those that were read
+  pub optional-of : {c : Mat} {x : List ℕ} → optional k s ≡ got (some c) x →
+      (t : List (List E)) × RowsOf (k .rule) (k .lines) (k .items) t × (table t ≡ c)
+  unfolding optional
+  optional-of {c} {x} e = go (got? (literal (k .key) s)) e
+    where
+      go : (b : Bool) → cond b (section k s >>= λ t s. got (some (table t)) s) (got option.none s) ≡ got (some c) x →
+          (t : List (List E)) × RowsOf (k .rule) (k .lines) (k .items) t × (table t ≡ c)
+      go false q = absurd (let z : _≡_ {A = ℕ} 0 1 = cc in omega arith)
+      go true q =
+          let (t, z, p, f) = bind-got (section k s) q in
+          let h : table t ≡ c = cc in
+          (t, rows-of (k .key) (k .rule) (k .lines) (k .items) s p, h)
+
 -- a size line that was read has one number, 1 to 6
 pub size-read : {t : List (List E)} → RowsOf size 1 1 t → (m : ℕ) × (table t 0 0 ≡ num (pos (suc m))) × (suc m ≤ size-limit)
 size-read {t} R =
@@ -124,27 +156,31 @@ module _ (m n : ℕ) (x : List ℕ) where
   pub sized-refused : (f : ℕ) → sections (tables m n) x ≡ refused f → sized m n x ≡ refused f
   sized-refused f e = rw e
 
-  pub sized-read : (ts : List (List (List E))) (y : List ℕ) → sections (tables m n) x ≡ got ts y → sized m n x ≡ finished m n ts y
-  sized-read ts y e = rw e
+  module _ (ts : List (List (List E))) (y : List ℕ) (e : sections (tables m n) x ≡ got ts y) where
+    pub sized-land : (f : ℕ) → optional (land-kind m n) y ≡ refused f → sized m n x ≡ refused f
+    sized-land f p = rw (e, p)
 
-module _ (m n : ℕ) (ts : List (List (List E))) where
-  pub finished-left : (x : List ℕ) → ¬ (length x ≡ 0) → finished m n ts x ≡ refused 2
+    pub sized-read : (land : Option Mat) (z : List ℕ) → optional (land-kind m n) y ≡ got land z → sized m n x ≡ finished m n ts land z
+    sized-read land z p = rw (e, p)
+
+module _ (m n : ℕ) (ts : List (List (List E))) (land : Option Mat) where
+  pub finished-left : (x : List ℕ) → ¬ (length x ≡ 0) → finished m n ts land x ≡ refused 2
   finished-left [] h = absurd (h refl)
   finished-left (b ∷ x) h = refl
 
-  finished-all : (x : List ℕ) → length x ≡ 0 → finished m n ts x ≡ finished m n ts []
+  finished-all : (x : List ℕ) → length x ≡ 0 → finished m n ts land x ≡ finished m n ts land []
   finished-all [] h = refl
   finished-all (b ∷ x) h = absurd (let y : ⊥ = omega arith in y)
 
   module _ (x : List ℕ) (none : length x ≡ 0) where
-    pub finished-no-lag : any (all absent?) (part ts lag-lines) ≡ true → finished m n ts x ≡ refused 6
+    pub finished-no-lag : any (all absent?) (part ts lag-lines) ≡ true → finished m n ts land x ≡ refused 6
     finished-no-lag e = finished-all x none ∙ rw e
 
     module _ (e : any (all absent?) (part ts lag-lines) ≡ false) where
-      pub finished-no-floor : any (all absent?) (part ts floor-line) ≡ true → finished m n ts x ≡ refused 7
+      pub finished-no-floor : any (all absent?) (part ts floor-line) ≡ true → finished m n ts land x ≡ refused 7
       finished-no-floor f = finished-all x none ∙ rw (e, f)
 
-      pub finished-good : any (all absent?) (part ts floor-line) ≡ false → finished m n ts x ≡ got (sheet-of m n ts) []
+      pub finished-good : any (all absent?) (part ts floor-line) ≡ false → finished m n ts land x ≡ got (sheet-of m n ts land) []
       finished-good f = finished-all x none ∙ rw (e, f)
 
 module _ (s : List ℕ) where

@@ -1,15 +1,15 @@
 -- What is true of every sheet that reading gives: of the rows of each kind of line; of its sizes, that each panel has a lag and some panel a
--- floor, and that every entry is within the limit.
+-- floor, and that every entry is within its limit.
 use mathlib.Core.Path.{_≡_}
 use mathlib.Core.Bool.{false}
 use mathlib.Core.List.{List}
-use Prim.Native.Nat.{ℕ, _≤_}
+use Prim.Native.Nat.{ℕ, _≤_, _<_}
 use lib.ListN.{length}
 use Rattle.maxplus.specs.Entry.{E}
 use Rattle.maxplus.specs.Finite.{In}
 use Rattle.cue.specs.Vectors.{Readable}
-use Rattle.cue.specs.Results.{Limited}
-use Rattle.sheet.specs.Sheet.{Rule, size, entry, mark, limit, absent?, no-size, out-of-range, any, Sheet}
+use Rattle.cue.specs.Results.{Within, Limited}
+use Rattle.sheet.specs.Sheet.{Rule, size, entry, mark, limit, absent?, no-size, out-of-range, any, Sheet, given-table}
 use Rattle.sheet.specs.Sizes.{order-limit}
 use Rattle.sheet.specs.Cue.{cue-size, cue-of}
 use Rattle.cue.specs.Sizes.{size-limit}
@@ -31,4 +31,6 @@ pub record Good (t : Sheet) : Type 0 where
   pub triggers-some : 1 ≤ t .triggers
   pub triggers-few : t .triggers ≤ size-limit
   pub readable : Readable (cue-size t) (cue-of t)
+  pub afters : (i j : ℕ) → i < t .triggers → j < t .triggers → Within limit limit (t .after i j)
+  pub lands : (i j : ℕ) → i < t .triggers → j < t .panels → Within limit limit (given-table (t .land) i j)
   pub limited : Limited (cue-size t) limit order-limit (cue-of t)

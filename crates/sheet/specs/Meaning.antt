@@ -6,22 +6,24 @@ use Rattle.maxplus.specs.Whole.{neg}
 use Rattle.maxplus.specs.Entry.{E, num, _≼_, _⊗_, inv}
 use Rattle.maxplus.specs.Tables.{sup, Vec, mv}
 use Rattle.maxplus.specs.Latest.{LatestOf}
-use Rattle.sheet.specs.Sheet.{Sheet}
+use Rattle.sheet.specs.Sheet.{Sheet, given-table}
 
 -- "A timing is n whole numbers x, milliseconds, of any size": X 0 … X (n − 1), whatever stands past them
 abbrev pub Timing : Type 0
 Timing = ℕ → ℤ
 
 module _ (S : Sheet) where
-  open Sheet S using (panels, triggers, lag, floor, due, after)
+  open Sheet S using (panels, triggers, lag, floor, due, after, land)
 
   -- "Landing y(i) is the largest a(i,j) + x(j)."
   unfoldable pub landing : Timing → Vec
   landing X = mv triggers lag (λ j. num (X j))
 
-  -- "A timing keeps the order when it keeps every after rule": x(i) ≥ b(i,j) + x(j)
-  unfoldable pub Keeps : Timing → Type 0
-  Keeps X = (i j : ℕ) → i < triggers → j < triggers → after i j ⊗ num (X j) ≼ num (X i)
+  -- "A timing keeps the order when it keeps every after rule", x(i) ≥ b(i,j) + x(j), and every rule c(i,j) of the land lines, "x(i) ≥
+  -- c(i,j) + y(j)": "From then on 'keeps the order' includes landings" (document 02, No. 2)
+  pub record Keeps (X : Timing) : Type 0 where
+    pub after-rules : (i j : ℕ) → i < triggers → j < triggers → after i j ⊗ num (X j) ≼ num (X i)
+    pub land-rules : (i j : ℕ) → i < triggers → j < panels → given-table land i j ⊗ landing X j ≼ num (X i)
 
   -- "the largest x(j) − q(j)"
   unfoldable pub overdue : Timing → E

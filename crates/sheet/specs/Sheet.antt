@@ -1,6 +1,7 @@
--- From a sheet's bytes to its tables, or to the refusal of the first fault met (document 01, "The sheet" and "Reading").
+-- From a sheet's bytes to its tables, or to the refusal of the first fault met (document 01, "The sheet" and "Reading"; document 02).
 use mathlib.Core.List.{List, [], _∷_}
-use mathlib.Core.Bool.{Bool, false, cond, not, _&&_, _||_}
+use mathlib.Core.Bool.{Bool, true, false, cond, not, _&&_, _||_}
+use mathlib.Core.Option.{Option, none, some, Option·getD}
 use Prim.Native.Nat.{ℕ, zero, suc, _+_, _-_, _*_}
 use Prim.Native.String.{String}
 use lib.Dec.{leb, ltb, eqb}
@@ -21,6 +22,11 @@ infixr 10 _>>=_
 abbrev pub _>>=_ : {A B : Type 0} → Got A → (A → List ℕ → Got B) → Got B
 got a s >>= f = f a s
 refused k >>= f = refused k
+
+-- whether something was read
+abbrev pub got? : {A : Type 0} → Got A → Bool
+got? (got a s) = true
+got? (refused k) = false
 
 -- "the key bytes exactly as shown", and likewise a comma or LF; anything else is 2
 unfoldable pub literal : List ℕ → List ℕ → Got (Unit {0})
@@ -166,6 +172,14 @@ unfoldable pub sections : List Section → List ℕ → Got (List (List (List E)
 sections [] s = got [] s
 sections (k ∷ ks) s = section k s >>= λ t s. sections ks s >>= λ ts s. got (t ∷ ts) s
 
+-- the table of lines that a sheet may have or not: "either all n lines are there or none" (document 02, No. 2); the key that comes next decides
+unfoldable pub optional : Section → List ℕ → Got (Option Mat)
+optional k s = cond (got? (literal (k .key) s)) (section k s >>= λ t s. got (some (table t)) s) (got none s)
+
+-- "A sheet may end with n more lines land= of m items"
+abbrev pub land-kind : ℕ → ℕ → Section
+land-kind m n = kind "land=" entry n m
+
 -- the rows of the k-th kind, none past the last
 abbrev pub part : List (List (List E)) → ℕ → List (List E)
 part ts k = getD ts k []
@@ -177,14 +191,23 @@ pub record Sheet : Type 0 where
   pub floor : Vec
   pub due : ℕ → ℤ
   pub after : Mat
+  pub land : Option Mat
+
+-- whether such lines are there; their table: "or none, which reads as all absent"
+abbrev pub given : Option Mat → Bool
+given none = false
+given (some c) = true
+
+abbrev pub given-table : Option Mat → Mat
+given-table c = Option·getD c (λ i j. absent)
 
 -- a size line's one number
 abbrev pub count : List (List E) → ℕ
 count t = up (val (table t 0 0))
 
 -- The tables of a sheet. The rows of a kind are used here and in the refusals below, nowhere else.
-abbrev pub sheet-of : ℕ → ℕ → List (List (List E)) → Sheet
-sheet-of m n ts =
+abbrev pub sheet-of : ℕ → ℕ → List (List (List E)) → Option Mat → Sheet
+sheet-of m n ts land =
     record {
       panels = m;
       triggers = n;
@@ -192,19 +215,20 @@ sheet-of m n ts =
       floor = table (part ts floor-line) 0;
       due = λ j. val (table (part ts due-line) 0 j);
       after = table (part ts after-lines);
+      land = land;
     }
 
 -- "After the lines: bytes left over are 2; then 6: a panel with no lag; then 7: no floor at all."
-abbrev pub finished : ℕ → ℕ → List (List (List E)) → List ℕ → Got Sheet
-finished m n ts (b ∷ s) = refused 2
-finished m n ts [] =
+abbrev pub finished : ℕ → ℕ → List (List (List E)) → Option Mat → List ℕ → Got Sheet
+finished m n ts land (b ∷ s) = refused 2
+finished m n ts land [] =
     cond (any (all absent?) (part ts lag-lines)) (refused 6)
     (cond (any (all absent?) (part ts floor-line)) (refused 7)
-    (got (sheet-of m n ts) []))
+    (got (sheet-of m n ts land) []))
 
 -- the rest of a sheet with m panels and n triggers
 abbrev pub sized : ℕ → ℕ → List ℕ → Got Sheet
-sized m n s = sections (tables m n) s >>= λ ts s. finished m n ts s
+sized m n s = sections (tables m n) s >>= λ ts s. optional (land-kind m n) s >>= λ land s. finished m n ts land s
 
 unfoldable pub lines : List ℕ → Got Sheet
 lines s = sections sizes s >>= λ ps s. sized (count (part ps panels-line)) (count (part ps triggers-line)) s

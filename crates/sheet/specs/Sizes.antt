@@ -1,11 +1,11 @@
 -- How large each result is for the sheets that are read: cue's sizes at the limits on a sheet's entries.
-use Prim.Native.Nat.{ℕ}
+use Prim.Native.Nat.{ℕ, _*_}
 use Rattle.cue.specs.Sizes as sizes
 use Rattle.sheet.specs.Sheet.{limit}
 
--- the entries of the order table are those of the after lines
+-- an entry of the order table is one of an after line, or one of a land line and a lag
 abbrev pub order-limit : ℕ
-order-limit = limit
+order-limit = 2 * limit
 
 -- M*; d
 abbrev pub star-size : ℕ

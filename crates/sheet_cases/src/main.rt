@@ -58,6 +58,11 @@ fn put_reading(s: &[u8]) {
     io::write_all(1, b" due");
     put_row(due, t.triggers);
     put_rows(b" after", after, t.triggers, t.triggers);
+    let land = t.land;
+    if land.given {
+        let lands = land.rows;
+        put_rows(b" land", lands, t.triggers, t.panels);
+    }
 }
 
 // One case: its label, and what its sheet gives.

@@ -72,36 +72,36 @@ pub fn joined(a: &[[u64; 6]; 6], b: &[[u64; 6]; 6], n: usize) -> [[u64; 6]; 6]
     r
 }
 
-// The first m rows and n columns of the product.
-pub fn product(a: &[[u64; 6]; 6], b: &[[u64; 6]; 6], m: usize, n: usize) -> [[u64; 6]; 6]
-    requires { ⌜ (m ≤ size-limit) × (n ≤ size-limit) × Closely m n far (now a) × Closely n n far (now b) ⌝ }
-    ensures { λ r. ⌜ Holds m n (mm n (meant (now (a .entry))) (meant (now (b .entry)))) r ⌝ }
+// The first m rows and n columns of the product, over k places between.
+pub fn product(a: &[[u64; 6]; 6], b: &[[u64; 6]; 6], m: usize, k: usize, n: usize) -> [[u64; 6]; 6]
+    requires { ⌜ (m ≤ size-limit) × (k ≤ size-limit) × (n ≤ size-limit) × Closely m k far (now a) × Closely k n far (now b) ⌝ }
+    ensures { λ r. ⌜ Holds m n (mm k (meant (now (a .entry))) (meant (now (b .entry)))) r ⌝ }
 {
     let blank = [0u64; 6];
     let mut r = [blank; 6];
     let mut i: usize = 0;
     while i < m {
-        r[i] = row_product(a[i], b, n);
+        r[i] = row_product(a[i], b, k, n);
         i += 1;
     }
     r
 }
 
 // One row of the product: the largest, over the way between, of the rows of b, each shifted.
-fn row_product(row: [u64; 6], b: &[[u64; 6]; 6], n: usize) -> [u64; 6]
-    requires { ⌜ (n ≤ size-limit) × CloselyV n far row × Closely n n far (now b) ⌝ }
-    ensures { λ r. ⌜ HoldsV n (λ j. sup n (λ k. meantV row k ⊗ meant (now (b .entry)) k j)) r ⌝ }
+fn row_product(row: [u64; 6], b: &[[u64; 6]; 6], k: usize, n: usize) -> [u64; 6]
+    requires { ⌜ (k ≤ size-limit) × (n ≤ size-limit) × CloselyV k far row × Closely k n far (now b) ⌝ }
+    ensures { λ r. ⌜ HoldsV n (λ j. sup k (λ l. meantV row l ⊗ meant (now (b .entry)) l j)) r ⌝ }
 {
     let mut r = [0u64; 6];
-    let mut k: usize = 0;
-    while k < n {
-        raise(&mut r, row[k], b[k], n);
-        k += 1;
+    let mut l: usize = 0;
+    while l < k {
+        raise(&mut r, row[l], b[l], n);
+        l += 1;
     }
     r
 }
 
-// Raises each place of r to y shifted. Most entries of an after table are absent, and shifting by them adds nothing.
+// Raises each place of r to y shifted. Most entries of an order table are absent, and shifting by them adds nothing.
 pub fn raise(r: &mut [u64; 6], shift: u64, y: [u64; 6], n: usize)
     requires { ⌜ (n ≤ size-limit) × Near shift × CloselyV n far y × (length (now r) ≡ 6) ⌝ }
     ensures { λ _. ⌜ Raised n (entry shift) (meantV y) (now (r .entry)) (now (r .exit)) ⌝ }

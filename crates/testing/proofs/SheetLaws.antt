@@ -37,7 +37,7 @@ module _ {P : theory.Cue} {orders lags : List (List ℕ)} {c : CueWords} (H : Ho
   sheet-words e d =
       record {
         panels-are = sym (H .panels-are);
-        afters = H .orders-are;
+        orders = H .orders-are;
         lags = rw (H .panels-are) (H .lags-are);
         floors = rw (H .panels-are) (H .floors-are);
         dues = H .dues-are;

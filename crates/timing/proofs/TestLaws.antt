@@ -32,14 +32,14 @@ pub reaches-tightest : {n : ℕ} {P : Cue} (X : ℕ → ℤ) → Readable n P �
 reaches-tightest {n} {P} X R np true h = tightest-test n P R np X .1 h
 reaches-tightest {n} {P} X R np false h = λ t. h (tightest-test n P R np X .0 t)
 
-module _ {panels n : ℕ} {after lag : List (List ℕ)} {floor due : List ℕ} {least : ℕ} {X : ℕ → ℤ} {x : LineWords} (w : TimingWords n X x) where
-  module _ {P : Cue} (s : MeasuredWords panels n after lag floor due least P) where
+module _ {panels n : ℕ} {order lag : List (List ℕ)} {floor due : List ℕ} {least : ℕ} {X : ℕ → ℤ} {x : LineWords} (w : TimingWords n X x) where
+  module _ {P : Cue} (s : MeasuredWords panels n order lag floor due least P) where
     -- ---- words and what they mean
-    order-of-words : Keeps n (meant after) (meantV (x .at)) → Keeps n (P .order) (timing X)
-    order-of-words = keeps-same (s .afters .at) (w .words .is .at)
+    order-of-words : Keeps n (meant order) (meantV (x .at)) → Keeps n (P .order) (timing X)
+    order-of-words = keeps-same (s .orders .at) (w .words .is .at)
 
-    order-in-words : Keeps n (P .order) (timing X) → Keeps n (meant after) (meantV (x .at))
-    order-in-words = keeps-same (λ i j hi hj. sym (s .afters .at i j hi hj)) (λ j hj. sym (w .words .is .at j hj))
+    order-in-words : Keeps n (P .order) (timing X) → Keeps n (meant order) (meantV (x .at))
+    order-in-words = keeps-same (λ i j hi hj. sym (s .orders .at i j hi hj)) (λ j hj. sym (w .words .is .at j hj))
 
     overdue-words : overdue n (meantV due) (meantV (x .at)) ≡ overdue n (timing (P .due)) (timing X)
     unfolding overdue
@@ -58,7 +58,7 @@ module _ {panels n : ℕ} {after lag : List (List ℕ)} {floor due : List ℕ} {
     deviation-words = ap₂ _⊗_ overdue-words shortfall-words
 
     -- ---- the test's answers
-    reaches-word : (d : ℕ) → Keeps n (meant after) (meantV (x .at)) →
+    reaches-word : (d : ℕ) → Keeps n (meant order) (meantV (x .at)) →
         entry d ≡ deviation-of panels n (meant lag) (meantV floor) (meantV due) (meantV (x .at)) → Says (Reaches n P X) (eqb d least)
     reaches-word d k e = go (eqb d least) refl
       where
@@ -66,12 +66,12 @@ module _ {panels n : ℕ} {after lag : List (List ℕ)} {floor due : List ℕ} {
         go true q = (order-of-words k, sym (e ∙ deviation-words) ∙ ap entry (eqb-true d least q) ∙ s .least-is)
         go false q = λ r. eqb-false d least q (entry-inj (e ∙ deviation-words ∙ r .1 ∙ sym (s .least-is)))
 
-  pub tested-kept : (d : ℕ) → Keeps n (meant after) (meantV (x .at)) →
-      entry d ≡ deviation-of panels n (meant lag) (meantV floor) (meantV due) (meantV (x .at)) → TestSays panels n after lag floor due least X (eqb d least)
+  pub tested-kept : (d : ℕ) → Keeps n (meant order) (meantV (x .at)) →
+      entry d ≡ deviation-of panels n (meant lag) (meantV floor) (meantV due) (meantV (x .at)) → TestSays panels n order lag floor due least X (eqb d least)
   tested-kept d k e = record {
     reaches = λ P s. reaches-word s d k e;
     tightest = λ P s R np. reaches-tightest X R np (eqb d least) (reaches-word s d k e);
   }
 
-  pub tested-broken : ¬ (Keeps n (meant after) (meantV (x .at))) → TestSays panels n after lag floor due least X false
+  pub tested-broken : ¬ (Keeps n (meant order) (meantV (x .at))) → TestSays panels n order lag floor due least X false
   tested-broken h = record { reaches = λ P s r. h (order-in-words s (r .0)); tightest = λ P s R np t. h (order-in-words s (t .keeps)) }

@@ -16,11 +16,11 @@ use Rattle.tables.specs.Held.{Holds, HoldsV, Says}
 abbrev pub Reaches : ℕ → Cue → (ℕ → ℤ) → Type 0
 Reaches n P X = Keeps n (P .order) (timing X) × (deviation n P (timing X) ≡ num (method.least n P))
 
-module _ (panels n : ℕ) (after lag : List (List ℕ)) (floor due : List ℕ) (least : ℕ) where
+module _ (panels n : ℕ) (order lag : List (List ℕ)) (floor due : List ℕ) (least : ℕ) where
   -- the words are those of the tables P and of their least deviation
   pub record MeasuredWords (P : Cue) : Type 0 where
     pub panels-are : P .panels ≡ panels
-    pub afters : Holds n n (P .order) after
+    pub orders : Holds n n (P .order) order
     pub lags : Holds panels n (P .lag) lag
     pub floors : HoldsV panels (P .floor) floor
     pub dues : HoldsV n (timing (P .due)) due

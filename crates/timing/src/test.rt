@@ -14,7 +14,7 @@ use crate::times::words_of;
 
 // "Otherwise yes exactly when the timing is tightest, else no": `least` is the word of the least deviation of the tables.
 pub fn tested(
-    after: &[[u64; 6]; 6],
+    order: &[[u64; 6]; 6],
     lag: &[[u64; 6]; 6],
     floor: [u64; 6],
     due: [u64; 6],
@@ -23,11 +23,11 @@ pub fn tested(
     panels: usize,
     n: usize,
 ) -> bool
-    requires { ⌜ SheetClose panels n (now lag) floor due × Closely n n order-limit (now after) × (some-beyond n (component (timing .at)) ≡ false) ⌝ }
-    ensures { λ r. ⌜ TestSays panels n (now (after .entry)) (now (lag .entry)) floor due least (component (timing .at)) r ⌝ }
+    requires { ⌜ SheetClose panels n (now lag) floor due × Closely n n order-limit (now order) × (some-beyond n (component (timing .at)) ≡ false) ⌝ }
+    ensures { λ r. ⌜ TestSays panels n (now (order .entry)) (now (lag .entry)) floor due least (component (timing .at)) r ⌝ }
 {
     let x = words_of(timing, n);
-    if keeps(after, x) {
+    if keeps(order, x) {
         return deviation(lag, floor, due, x, panels) == least;
     }
     false

@@ -1,5 +1,5 @@
 //! The whole case from Rust: plans it, chooses times from its lines, tests them, finds the latest that
-//! are no later than wished, and compares it with another sheet.
+//! are no later than wished, lets a trigger wait for a panel, and compares it with another sheet.
 //!
 //!     rt staticlib planner_c
 //!     cargo run --offline --manifest-path embed/rust/Cargo.toml --example whole_case
@@ -15,6 +15,19 @@ floor=5,2
 due=1,2
 after=-,-
 after=-,-
+";
+
+/// The whole case with land lines: trigger 2 comes at most 1 before panel 1 has changed.
+const WAITING: &[u8] = b"panels=2
+triggers=2
+lag=2,0
+lag=4,1
+floor=5,2
+due=1,2
+after=-,-
+after=-,-
+land=-,-
+land=-1,-
 ";
 
 /// Trigger 2 comes 3 after trigger 1, and trigger 1 at most 1 before trigger 2: 3 − 1 is above 0.
@@ -68,6 +81,13 @@ fn main() -> Result<(), Box<dyn Error>> {
         test(SHEET, &wished)?,
         reached.times(),
         test(SHEET, reached.times())?
+    );
+
+    let waiting = plan(WAITING, &mut space)?;
+    println!(
+        "with land lines {} line(s), times {:?}",
+        waiting.count,
+        waiting.times(&[1]).expect("one weight for each line")
     );
 
     for (i, panel) in kept(SHEET)?.panels().iter().enumerate() {

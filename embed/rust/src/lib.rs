@@ -20,6 +20,11 @@
 //! assert_eq!(tuzhelar::test(sheet, &[0, 2]), Ok(false));
 //! assert_eq!(tuzhelar::latest(sheet, &[0, 2], &mut space)?.times(), [0, 1]);
 //!
+//! // Land lines make triggers wait for panels: here x(2) is at least −1 plus the landing of panel 1.
+//! let waiting = [&sheet[..], b"land=-,-\nland=-1,-\n"].concat();
+//! let plan = tuzhelar::plan(&waiting, &mut space)?;
+//! assert_eq!(plan.lines().map(|line| line.to_string()).collect::<Vec<_>>(), ["-1,0"]);
+//!
 //! // Whether the same times are tightest on another sheet, here the same with its panels exchanged.
 //! let other = b"panels=2\ntriggers=2\nlag=4,1\nlag=2,0\nfloor=2,5\ndue=1,2\nafter=-,-\nafter=-,-\n";
 //! let (mut left, mut right) = ([0; 20 * tuzhelar::LINE_WORDS], [0; 20 * tuzhelar::LINE_WORDS]);
@@ -133,8 +138,8 @@ pub fn kept(sheet: &[u8]) -> Result<Kept, Refusal> {
     })
 }
 
-/// Whether the times, one for each trigger, are tightest: they keep the order and no times that do have a
-/// smaller deviation.
+/// Whether the times, one for each trigger, are tightest: they keep the order, which is every rule of the
+/// after and land lines, and no times that do have a smaller deviation.
 ///
 /// # Errors
 /// [`Refusal`] 1 to 7; then 10, there are not as many times as triggers; then 11, one is beyond

@@ -11,7 +11,7 @@ pub enum Refusal {
     /// 1: the sheet has more than 2,048 bytes.
     TooLong,
     /// 2: a line is missing, has the wrong key, number of items, numeral or line end, or is a size that
-    /// is absent; or bytes follow the last line.
+    /// is absent; or bytes follow the last line. There is a land line for each trigger, or none at all.
     Form,
     /// 3: a size is not 1 to 6.
     Size,
@@ -23,7 +23,7 @@ pub enum Refusal {
     NoLag,
     /// 7: no panel has a floor.
     NoFloor,
-    /// 8: no timing keeps the order.
+    /// 8: no timing keeps the order: all rules of the after and land lines.
     Order,
     /// 9: the list has more lines than the lent space holds.
     Space {
@@ -77,24 +77,28 @@ impl fmt::Display for Refusal {
     fn fmt(&self, f: &mut fmt::Formatter<'_>) -> fmt::Result {
         let sentence = match self {
             Refusal::TooLong => {
-                "the sheet has more than 2,048 bytes; no good sheet has more than 762: \
+                "the sheet has more than 2,048 bytes; no good sheet has more than 1,080: \
                  look for text behind its last line"
             }
             Refusal::Form => {
-                "a line is missing or ill-formed, or bytes follow the last line; look at the order of \
-                 the lines, their keys, their numbers of items, numerals such as 05, -0 or +5, blanks, \
-                 and the line end of each"
+                "a line is missing or ill-formed, or bytes follow the last line; the lines are panels=, \
+                 triggers=, lag= for each panel, floor=, due=, after= for each trigger, then land= for \
+                 each trigger or none: look at their order, their keys, their numbers of items, numerals \
+                 such as 05, -0 or +5, blanks, and the line end of each"
             }
             Refusal::Size => "the number of panels or of triggers is not 1 to 6",
-            Refusal::Range => "an entry is below -100,000 or above 100,000",
+            Refusal::Range => {
+                "an entry is below -100,000 or above 100,000; look at the lag=, floor=, due=, after= and \
+                 land= lines"
+            }
             Refusal::NoDue => "a due mark is absent; each trigger needs one",
             Refusal::NoLag => {
                 "a panel has no lag: no trigger reaches it; look for a lag line of minus signs alone"
             }
             Refusal::NoFloor => "no panel has a floor; at least one needs one",
             Refusal::Order => {
-                "no times keep the order; look for a circle of after rules whose numbers add up to \
-                 more than 0"
+                "no times keep the order: rules of the after= and land= lines, these with the lags of \
+                 their panels, form a circle that adds up to more than 0"
             }
             Refusal::Space { count } => {
                 return write!(

@@ -12,11 +12,11 @@ use Rattle.order.proofs.closed.Statement.{statement}
 use Rattle.order.proofs.closed.Tie as tie
 
 abbrev Inv-loop : tie.InvT-loop
-Inv-loop after star n sum₀ power₀ k₀ sum power k =
-    Holds n n (powers n after k) sum × Holds n n (maxplus.power n (meant after) k) power × LowTo n after k × (k ≤ n)
+Inv-loop order star n sum₀ power₀ k₀ sum power k =
+    Holds n n (powers n order k) sum × Holds n n (maxplus.power n (meant order) k) power × LowTo n order k × (k ≤ n)
 
 abbrev μ-loop : tie.MeasureT-loop
-μ-loop after star n sum₀ power₀ k₀ sum power k = n - k
+μ-loop order star n sum₀ power₀ k₀ sum power k = n - k
 
 abbrev start : tie.At-loop Inv-loop μ-loop → tie.Start Inv-loop μ-loop
 start c = c .before .before
@@ -29,7 +29,7 @@ loop c = at-sum c .before .before .before
 
 -- the next power
 next : (c : tie.After-product Inv-loop μ-loop) → let a = start (loop c) .args in
-    Holds (a .n) (a .n) (maxplus.power (a .n) (meant (a .after .now)) (loop c .loop .k + 1)) (c .product .result)
+    Holds (a .n) (a .n) (maxplus.power (a .n) (meant (a .order .now)) (loop c .loop .k + 1)) (c .product .result)
 next c = power-more _ _ (loop c .loop .k) (loop c .loop .inv .1) (c .product .ensures)
 
 identity-requires : tie.Need-identity-requires Inv-loop μ-loop
@@ -45,7 +45,7 @@ product-requires : tie.Need-product-requires Inv-loop μ-loop
 product-requires c κs =
     let l : tie.At-loop Inv-loop μ-loop = search in
     let p = start l .pre in
-    (omega arith, omega arith, closely-more (omega arith) (p .1), power-near _ _ (p .0) (p .1) (l .loop .k) (omega arith) (l .loop .inv .1))
+    (omega arith, omega arith, omega arith, closely-more (omega arith) (p .1), power-near _ _ (p .0) (p .1) (l .loop .k) (omega arith) (l .loop .inv .1))
 
 diagonal-low-requires : tie.Need-diagonal-low-requires Inv-loop μ-loop
 diagonal-low-requires c κs = omega arith

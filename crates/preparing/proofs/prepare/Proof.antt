@@ -28,7 +28,11 @@ returns c s e =
     unready _ (c .not-prepared .ensures) (i .if1 .taken) (ordered-refused _ _ (reading-refused _ _ e (i .if1 .taken)))
 
 cue-of-requires : tie.Need-cue-of-requires
-cue-of-requires c κs = search needs
+cue-of-requires c κs =
+    let b : tie.Start = search in
+    let i : tie.Else1 = search in
+    let (s, e) = b .pre in
+    let (t, x, q, W) = reading-good _ _ e (i .if1 .left) in (t, W)
 
 closed-tables-requires : tie.Need-closed-tables-requires
 closed-tables-requires c κs =

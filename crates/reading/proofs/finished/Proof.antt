@@ -9,7 +9,6 @@ use Rattle.sheet.specs.Sheet.{got, any, all, absent?, sections, part, tables, l
 use Rattle.sheet.proofs.SectionLaws.{sections-of, sections-many, finished-left, finished-no-lag, finished-no-floor, finished-good}
 use Rattle.reading.specs.Reading.{answer}
 use Rattle.reading.specs.Inner.{Stacked}
-use Rattle.reading.proofs.WordsLaws.{sheet-words}
 use Rattle.reading.proofs.finished.Statement.{statement}
 use Rattle.reading.proofs.finished.Tie as tie
 
@@ -50,65 +49,48 @@ refused-requires : tie.Need-refused-requires
 refused-requires c κs = search needs
 
 returns : tie.Need-returns
-returns c = λ s x ts e l S.
+returns c = λ s x y ts land e S L l.
     let t : tie.Then1 = search in
     let over = t .if1 .taken in
-    c .refused .ensures ∙ ap answer (sym (finished-left _ _ ts x (λ z. let y : ⊥ = omega arith in y)))
+    c .refused .ensures ∙ ap answer (sym (finished-left _ _ ts land y (λ z. let b : ⊥ = omega arith in b)))
 
 refused-requires-2 : tie.Need-refused-requires-2
 refused-requires-2 c κs = search needs
 
 returns-2 : tie.Need-returns-2
-returns-2 c = λ s x ts e l S.
+returns-2 c = λ s x y ts land e S L l.
     let t : tie.Then2 = search in
     let all : tie.Else1 = search in
     let none = all .if1 .left in
     let lag : tie.After-empty-row = search in
-    c .refused2 .ensures ∙ ap answer (sym (finished-no-lag _ _ ts x (omega arith) (sym (no-lag lag s x ts e S) ∙ t .if2 .taken)))
+    c .refused2 .ensures ∙ ap answer (sym (finished-no-lag _ _ ts land y (omega arith) (sym (no-lag lag s x ts e S) ∙ t .if2 .taken)))
 
 refused-requires-3 : tie.Need-refused-requires-3
 refused-requires-3 c κs = search needs
 
 returns-3 : tie.Need-returns-3
-returns-3 c = λ s x ts e l S.
+returns-3 c = λ s x y ts land e S L l.
     let t : tie.Then3 = search in
     let some : tie.Else2 = search in
     let all : tie.Else1 = search in
     let none = all .if1 .left in
     let floor : tie.After-empty-row2 = search in
-    c .refused3 .ensures ∙ ap answer (sym (finished-no-floor _ _ ts x (omega arith)
+    c .refused3 .ensures ∙ ap answer (sym (finished-no-floor _ _ ts land y (omega arith)
     (sym (no-lag (floor .before) s x ts e S) ∙ some .if2 .left) (sym (no-floor floor s x ts e S) ∙ t .if3 .taken)))
 
-element-copy-out-due : tie.Need-element-copy-out-due
-element-copy-out-due c = search needs
-
-element-copy-out-after : tie.Need-element-copy-out-after
-element-copy-out-after c = search needs
-
-table-requires : tie.Need-table-requires
-table-requires c κs = search needs
-
-table-requires-2 : tie.Need-table-requires-2
-table-requires-2 c κs = search needs
-
-array-copy-out-floors : tie.Need-array-copy-out-floors
-array-copy-out-floors c = search needs
-
-array-copy-out-dues : tie.Need-array-copy-out-dues
-array-copy-out-dues c = search needs
+good-requires : tie.Need-good-requires
+good-requires c κs = search needs
 
 returns-4 : tie.Need-returns-4
-returns-4 c = λ s x ts e l S.
-    let t : tie.After-table = search in
+returns-4 c = λ s x y ts land e S L l.
     let good : tie.Else3 = search in
     let some : tie.Else2 = search in
     let all : tie.Else1 = search in
     let none = all .if1 .left in
     let floor : tie.After-empty-row2 = search in
-    let a = start (floor .before) .args in
-    rw (t .table .ensures, c .before .before .table2 .ensures) (sheet-words S (a .panels) (a .triggers) s x e
-    ∙ ap answer (sym (finished-good _ _ ts x (omega arith) (sym (no-lag (floor .before) s x ts e S) ∙ some .if2 .left)
-    (sym (no-floor floor s x ts e S) ∙ good .if3 .left))))
+    c .good2 .ensures s x ts land e S L
+    ∙ ap answer (sym (finished-good _ _ ts land y (omega arith) (sym (no-lag (floor .before) s x ts e S) ∙ some .if2 .left)
+    (sym (no-floor floor s x ts e S) ∙ good .if3 .left)))
 
 pub finished-spec : {M : Type 1} → statement M
 finished-spec =
@@ -124,10 +106,5 @@ finished-spec =
     returns-2
     refused-requires-3
     returns-3
-    element-copy-out-due
-    element-copy-out-after
-    table-requires
-    table-requires-2
-    array-copy-out-floors
-    array-copy-out-dues
+    good-requires
     returns-4)

@@ -9,10 +9,10 @@ use Rattle.tables.proofs.product.Statement.{statement}
 use Rattle.tables.proofs.product.Tie as tie
 
 abbrev Inv-loop : tie.InvT-loop
-Inv-loop a b m n r₀ i₀ r i = (i ≤ m) × Filled (λ i w. HoldsV n (mm n (meant a) (meant b) i) w) [] r i
+Inv-loop a b m k n r₀ i₀ r i = (i ≤ m) × Filled (λ i w. HoldsV n (mm k (meant a) (meant b) i) w) [] r i
 
 abbrev μ-loop : tie.MeasureT-loop
-μ-loop a b m n r₀ i₀ r i = m - i
+μ-loop a b m k n r₀ i₀ r i = m - i
 
 loop-holds : tie.Need-loop-holds Inv-loop μ-loop
 loop-holds c = (omega arith, filled-none _ _ _)
@@ -25,7 +25,7 @@ element-copy-out-row-product c = omega arith
 
 row-product-requires : tie.Need-row-product-requires Inv-loop μ-loop
 row-product-requires c κs = let l = c .before .before in let s = l .before in
-    (s .pre .1, record { at = λ j h. s .pre .2 .at (l .loop .i) j (omega arith) h }, s .pre .3)
+    (s .pre .1, s .pre .2, record { at = λ j h. s .pre .3 .at (l .loop .i) j (omega arith) h }, s .pre .4)
 
 mul-r : tie.Need-mul-r Inv-loop μ-loop
 mul-r c = omega arith

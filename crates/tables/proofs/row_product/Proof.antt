@@ -11,10 +11,10 @@ use Rattle.tables.proofs.row_product.Statement.{statement}
 use Rattle.tables.proofs.row_product.Tie as tie
 
 abbrev Inv-loop : tie.InvT-loop
-Inv-loop b n row r₀ k₀ r k = (k ≤ n) × (length r ≡ 6) × HoldsV n (λ j. sup k (λ k. meantV row k ⊗ meant b k j)) r
+Inv-loop b k n row r₀ l₀ r l = (l ≤ k) × (length r ≡ 6) × HoldsV n (λ j. sup l (λ l. meantV row l ⊗ meant b l j)) r
 
 abbrev μ-loop : tie.MeasureT-loop
-μ-loop b n row r₀ k₀ r k = n - k
+μ-loop b k n row r₀ l₀ r l = k - l
 
 loop-holds : tie.Need-loop-holds Inv-loop μ-loop
 loop-holds c = (omega arith, refl, row-none _)
@@ -35,10 +35,10 @@ raise-requires : tie.Need-raise-requires Inv-loop μ-loop
 raise-requires c κs =
     let l : tie.At-loop Inv-loop μ-loop = search in
     let s : tie.Start Inv-loop μ-loop = search in
-    (s .pre .0, s .pre .1 .at (l .loop .k) (omega arith), record { at = λ j h. s .pre .2 .at (l .loop .k) j (omega arith) h }, l .loop .inv .1)
+    (s .pre .1, s .pre .2 .at (l .loop .l) (omega arith), record { at = λ j h. s .pre .3 .at (l .loop .l) j (omega arith) h }, l .loop .inv .1)
 
-add-k : tie.Need-add-k Inv-loop μ-loop
-add-k c = omega arith
+add-l : tie.Need-add-l Inv-loop μ-loop
+add-l c = omega arith
 
 loop-less : tie.Need-loop-less Inv-loop μ-loop
 loop-less c = omega arith
@@ -47,10 +47,10 @@ loop-again : tie.Need-loop-again Inv-loop μ-loop
 unfolding meant meantV
 loop-again c =
     let l : tie.At-loop Inv-loop μ-loop = search in
-    (omega arith, c .raise .ensures .size, row-more _ (l .loop .k) (l .loop .inv .2) (c .raise .ensures) (λ j h. refl))
+    (omega arith, c .raise .ensures .size, row-more _ (l .loop .l) (l .loop .inv .2) (c .raise .ensures) (λ j h. refl))
 
 returns : tie.Need-returns Inv-loop μ-loop
-returns c = let e : c .before .loop .k ≡ c .before .before .args .n = omega arith in rw e at (c .before .loop .inv .2)
+returns c = let e : c .before .loop .l ≡ c .before .before .args .k = omega arith in rw e at (c .before .loop .inv .2)
 
 pub row-product-spec : {M : Type 1} → statement M
 row-product-spec =
@@ -64,7 +64,7 @@ row-product-spec =
     mul-raise-2
     element-copy-out-raise
     raise-requires
-    add-k
+    add-l
     loop-less
     loop-again
     returns)

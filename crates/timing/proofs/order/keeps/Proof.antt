@@ -10,16 +10,16 @@ use Rattle.timing.proofs.order.keeps.Statement.{statement}
 use Rattle.timing.proofs.order.keeps.Tie as tie
 
 abbrev Inv-loop2 : tie.InvT-loop2
-Inv-loop2 after x n i j₀ j = (j ≤ n) × ((b : ℕ) → b < j → meant after i b ⊗ meantV (x .at) b ≼ meantV (x .at) i)
+Inv-loop2 order x n i j₀ j = (j ≤ n) × ((b : ℕ) → b < j → meant order i b ⊗ meantV (x .at) b ≼ meantV (x .at) i)
 
 abbrev μ-loop2 : tie.MeasureT-loop2
-μ-loop2 after x n i j₀ j = n - j
+μ-loop2 order x n i j₀ j = n - j
 
 abbrev Inv-loop : tie.InvT-loop
-Inv-loop after x n i₀ i = (i ≤ n) × ((a : ℕ) → a < i → (b : ℕ) → b < n → meant after a b ⊗ meantV (x .at) b ≼ meantV (x .at) a)
+Inv-loop order x n i₀ i = (i ≤ n) × ((a : ℕ) → a < i → (b : ℕ) → b < n → meant order a b ⊗ meantV (x .at) b ≼ meantV (x .at) a)
 
 abbrev μ-loop : tie.MeasureT-loop
-μ-loop after x n i₀ i = n - i
+μ-loop order x n i₀ i = n - i
 
 loop-holds : tie.Need-loop-holds Inv-loop2 μ-loop2 Inv-loop μ-loop
 loop-holds c = (omega arith, below-none _)
