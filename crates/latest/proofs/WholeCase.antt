@@ -53,8 +53,8 @@ pub texts-hold : program-text whole 2 (times (pos 0) (pos 2)) ∷ program-text w
     bytes "latest=0,1\n" ∷ bytes "latest=1,2\n" ∷ bytes "refused=10\n" ∷ bytes "refused=11\n" ∷ bytes "refused=8\n" ∷ bytes "refused=2\n" ∷
     bytes "refused=9\ncount=2\n" ∷ []
 unfolding program-text latest-text refusal-text full-text joined digits admitted ordered order-table orderly? read sheet.lines sheet.line rows
-    latest-exists latest fit made sections optional checked any ended items item signed value behind literal bytes least leastE shortfall selections lines minimal needed? others
-    combination? asked? met? under-dec fixings walk kept cut serves-as-well floor-panels through pull pullE overdue need seed ray candidate candidates
-    no-gain? gain-or mm mv star power idm normal sup supL at line put sift each mapL val inv _⊗_ _⊕_ maxz _+z_ neg decLe z-dec ≼-dec
-    present-dec all-or all-dec any-dec dec-× dec-¬ dec-→ ltE-cmp ltL-cmp strict same?
+    latest-exists latest fit made sections optional checked any ended items item signed value behind literal bytes least leastE shortfall selections
+    lines minimal needed? others combination? asked? met? under-dec fixings walk kept cut serves-as-well floor-panels through pull pullE overdue need
+    seed ray candidate candidates no-gain? gain-or mm mv star power idm normal sup supL at line put sift each mapL val inv _⊗_ _⊕_ maxz _+z_ neg
+    decLe z-dec ≼-dec present-dec all-or all-dec any-dec dec-× dec-¬ dec-→ ltE-cmp ltL-cmp strict same?
 texts-hold = refl
