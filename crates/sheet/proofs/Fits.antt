@@ -16,7 +16,7 @@ use Rattle.maxplus.specs.Tables.{mv}
 use Rattle.maxplus.proofs.EntryLaws.{num-inj}
 use Rattle.maxplus.proofs.EachLaws.{each-at, length-each}
 use Rattle.cue.specs.Results.{Within, Signed32}
-use Rattle.cue.proofs.Bounds.{power-within, times-le, signed32, results-32}
+use Rattle.cue.proofs.Bounds.{power-within, times-le, signed32, results-six, results-32}
 use Rattle.cue.proofs.Walk.{steps-bound}
 use Rattle.cue.proofs.Few.{selections-few, steps-few, lines-few}
 use Rattle.sheet.specs.Sheet.{Sheet, limit}
@@ -72,6 +72,8 @@ fits t G =
           let p : k * order-limit ≤ 6 * order-limit = times-le k 6 order-limit (le-trans hk (G .triggers-few)) in
           signed32 (omega arith) (omega arith) (power-within n 5 limit order-limit P (G .limited) (G .triggers-few) k i j hi hj);
       results = λ o. results-32 n limit order-limit P o (G .limited) (G .triggers-few) (omega arith);
+      orders = G .limited .orders;
+      sizes = λ o. results-six n limit order-limit P o (G .limited) (G .triggers-few);
       steps-most = steps-bound n P _;
       steps = let h = steps-few n P (G .triggers-few) (G .panels-few) in omega arith;
       selections = let h = selections-few n P (G .triggers-few) (G .panels-few) in omega arith;

@@ -5,7 +5,7 @@ use mathlib.Core.List.{List}
 use Prim.Native.Nat.{ℕ, _^_, _≤_, _<_}
 use lib.ListN.{length}
 use Rattle.maxplus.specs.Tables.{power}
-use Rattle.cue.specs.Results.{Signed32, Results}
+use Rattle.cue.specs.Results.{Within, Signed32, Results}
 use Rattle.sheet.specs.Sheet.{got, Sheet, limit, read}
 use Rattle.sheet.specs.Sizes.{order-limit}
 use Rattle.sheet.specs.Meaning.{Timing, landing}
@@ -17,6 +17,9 @@ pub record Fits (t : Sheet) : Type 0 where
   -- the powers that say whether the order can be kept; where it can, the results of steps 1 to 7
   pub powers : (k i j : ℕ) → k ≤ cue-size t → i < cue-size t → j < cue-size t → Signed32 (power (cue-size t) (cue-of t .order) k i j)
   pub results : Orderly t → Results limit order-limit (λ k l. Signed32) (cue-size t) (cue-of t)
+  -- how far from 0 the entries of the order table and these results are, each by the name of its size
+  pub orders : (i j : ℕ) → i < cue-size t → j < cue-size t → Within order-limit order-limit (cue-of t .order i j)
+  pub sizes : Orderly t → Results limit order-limit Within (cue-size t) (cue-of t)
   -- the walk's numbers and the number of lines
   pub steps-most : sheet-steps t ≤ most-steps t
   pub steps : sheet-steps t < 2 ^ 31
