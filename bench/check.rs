@@ -1,7 +1,7 @@
 //! The two sides on random sheets: small, with many equal entries, absent ones, after and land rules,
 //! some with a fault, some with too little space.
 
-use crate::classes::SHEETS;
+use crate::classes::{KEPT, PLAN, SHEETS};
 use crate::plain::LINE_WORDS;
 use crate::random::Random;
 use crate::sides::{SPACE, agreed};
@@ -10,12 +10,15 @@ use std::io::Result;
 /// Differences that are printed in full.
 const SHOWN: usize = 3;
 
-/// Sheets by the code of their answer, and those on which the sides differ.
+/// Answers by their code, 0 to 9, and those in which the sides differ.
 #[derive(Default)]
 pub struct Tally {
-    codes: [usize; 10],
+    plans: Codes,
+    tables: Codes,
     differ: usize,
 }
+
+type Codes = [usize; 10];
 
 impl Tally {
     /// Compares the stored sheets, then `count` random ones; true if no answer and no word differs.
@@ -29,20 +32,28 @@ impl Tally {
             let lines = *random.pick(&[0, 1, 2, 4, 8, 200, 200, 200]);
             self.compare(&sheet, LINE_WORDS * lines + random.below(LINE_WORDS));
         }
-        println!("sheets by code 0 to 9: {:?}", self.codes);
+        println!("plans by code 0 to 9: {:?}", self.plans);
+        println!("kept tables by code 0 to 9: {:?}", self.tables);
         println!("different: {}", self.differ);
         Ok(self.differ == 0)
     }
 
+    /// Compares a sheet's plan and its kept table, or their refusals.
     fn compare(&mut self, sheet: &[u8], words: usize) {
-        if let Some(answer) = agreed(|side| side.plan, sheet, words) {
-            self.codes[answer.code as usize] += 1;
-            return;
-        }
-        self.differ += 1;
-        if self.differ <= SHOWN {
-            let text = String::from_utf8_lossy(sheet);
-            println!("different with {words} words:\n{text}");
+        let works = [
+            ("plan", &mut self.plans, PLAN),
+            ("kept table", &mut self.tables, KEPT),
+        ];
+        for (name, codes, work) in works {
+            if let Some(answer) = agreed(work, sheet, words) {
+                codes[answer.code as usize] += 1;
+                continue;
+            }
+            self.differ += 1;
+            if self.differ <= SHOWN {
+                let text = String::from_utf8_lossy(sheet);
+                println!("different {name} with {words} words:\n{text}");
+            }
         }
     }
 }

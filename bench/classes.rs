@@ -15,13 +15,14 @@ const HIRED: usize = 1000;
 const LAND: &str = "land";
 const LANDED: usize = 300;
 
-/// The planning of a class's sheets, and the latest times asked of them.
-const PLAN: fn(&Side) -> Work = |side| side.plan;
+/// The planning of a class's sheets, their kept tables, and the latest times asked of them.
+pub const PLAN: fn(&Side) -> Work = |side| side.plan;
+pub const KEPT: fn(&Side) -> Work = |side| side.kept;
 const LATEST: fn(&Side) -> Work = |side| side.latest;
 
 /// Key, name, sheets and work of each class that both sides do; sheets but HIRE and LAND are a stored
 /// one.
-const CLASSES: [Kind; 9] = [
+const CLASSES: [Kind; 11] = [
     (WHOLE, "whole case", WHOLE, PLAN),
     (HIRE, "1,000 sheets of request 6", HIRE, PLAN),
     (LAND, "300 sheets with land lines", LAND, PLAN),
@@ -29,6 +30,13 @@ const CLASSES: [Kind; 9] = [
     (AFTER, "46,656 selections, after rules", AFTER, PLAN),
     (LISTED, "22,500 selections, 22 lines", LISTED, PLAN),
     (LINES72, "72 lines", LINES72, PLAN),
+    ("kept", "kept table, 46,656 selections", UNPRUNED, KEPT),
+    (
+        "kept_after",
+        "kept table, 46,656 selections, after rules",
+        AFTER,
+        KEPT,
+    ),
     (
         "latest",
         "latest times, 1,000 sheets of request 6",

@@ -1,5 +1,5 @@
-//! Times planning, and asking for the latest times, by the proved library beside a plain Rust planner
-//! that goes the same way. Run from the top of the repository:
+//! Times planning, the kept table and asking for the latest times, by the proved library beside a plain
+//! Rust planner that goes the same way. Run from the top of the repository:
 //!
 //! - `bench [CLASS..]` writes a table of times, of all classes or of those named
 //! - `bench --count [CLASS..]` writes a table of instructions
@@ -24,7 +24,7 @@ use sides::{SIDES, SPACE};
 use std::process::ExitCode;
 
 const USAGE: &str = "usage: bench [CLASS..] | --count [CLASS..] | --check [SHEETS [SEED]] | --plans library|plain CLASS all|none
-classes: whole hire land unpruned_distinct unpruned_after lines_times_selections lines72 latest latest72 programs";
+classes: whole hire land unpruned_distinct unpruned_after lines_times_selections lines72 kept kept_after latest latest72 programs";
 /// What `--check` does by default.
 const CHECKED: &str = "20000";
 const SEED: &str = "1";

@@ -1,7 +1,7 @@
 //! The planning program beside which `plan` is timed: a sheet on standard input, its plan on
 //! standard output.
 
-// The latest times are the benchmark's alone.
+// The kept table and the latest times are the benchmark's alone.
 #[allow(dead_code, unused_imports)]
 mod plain;
 mod text;

@@ -3,13 +3,17 @@
 
 use crate::plain::{self, LINE_WORDS, MOST, NoPlan};
 
-/// 0 or the refusal; then planning's deviation, steps, selections and count, or the count and the
-/// latest times; 0 where there is nothing.
+/// 0 or the refusal; then planning's deviation, steps, selections and count; or the kept table's
+/// deviation, steps, selections and panels, and each panel's byte and number of bits; or the count and
+/// the latest times; 0 where there is nothing.
 #[derive(Debug, PartialEq, Eq)]
 pub struct Answer {
     pub code: u32,
-    pub words: [i64; 1 + MOST],
+    pub words: [i64; WORDS],
 }
+
+/// The most words of an answer: the kept table's.
+const WORDS: usize = 4 + 2 * MOST;
 
 /// What is done with a sheet and a lent space.
 pub type Work = fn(&[u8], &mut [i32]) -> Answer;
@@ -17,6 +21,8 @@ pub type Work = fn(&[u8], &mut [i32]) -> Answer;
 pub struct Side {
     pub name: &'static str,
     pub plan: Work,
+    /// The kept table, which leaves the space alone.
+    pub kept: Work,
     /// The latest times that are no later than 0 for every trigger.
     pub latest: Work,
 }
@@ -25,11 +31,13 @@ pub const SIDES: [Side; 2] = [
     Side {
         name: "library",
         plan: by_library,
+        kept: kept_by_library,
         latest: latest_by_library,
     },
     Side {
         name: "plain",
         plan: by_plain,
+        kept: kept_by_plain,
         latest: latest_by_plain,
     },
 ];
@@ -49,6 +57,12 @@ unsafe extern "C" {
         answer: *mut i64,
         answer_len: usize,
     ) -> u32;
+    fn tuzhelar_kept(
+        sheet: *const u8,
+        sheet_len: usize,
+        answer: *mut i64,
+        answer_len: usize,
+    ) -> u32;
     fn tuzhelar_latest(
         sheet: *const u8,
         sheet_len: usize,
@@ -62,7 +76,7 @@ unsafe extern "C" {
 }
 
 fn by_library(sheet: &[u8], space: &mut [i32]) -> Answer {
-    let mut words = [0; 1 + MOST];
+    let mut words = [0; WORDS];
     // SAFETY: each pointer goes with the length of the slice it comes from, and no slice overlaps
     // another.
     let code = unsafe {
@@ -78,9 +92,17 @@ fn by_library(sheet: &[u8], space: &mut [i32]) -> Answer {
     Answer { code, words }
 }
 
+fn kept_by_library(sheet: &[u8], _: &mut [i32]) -> Answer {
+    let mut words = [0; WORDS];
+    // SAFETY: as in `by_library`.
+    let code =
+        unsafe { tuzhelar_kept(sheet.as_ptr(), sheet.len(), words.as_mut_ptr(), words.len()) };
+    Answer { code, words }
+}
+
 fn latest_by_library(sheet: &[u8], space: &mut [i32]) -> Answer {
     let given = &GIVEN[..triggers(sheet)];
-    let mut words = [0; 1 + MOST];
+    let mut words = [0; WORDS];
     // SAFETY: as in `by_library`; the times are only read.
     let code = unsafe {
         tuzhelar_latest(
@@ -104,7 +126,7 @@ fn triggers(sheet: &[u8]) -> usize {
 }
 
 fn by_plain(sheet: &[u8], space: &mut [i32]) -> Answer {
-    let mut words = [0; 1 + MOST];
+    let mut words = [0; WORDS];
     match plain::plan(sheet, space) {
         Ok(plan) => {
             let numbers = [
@@ -120,12 +142,32 @@ fn by_plain(sheet: &[u8], space: &mut [i32]) -> Answer {
     }
 }
 
+fn kept_by_plain(sheet: &[u8], _: &mut [i32]) -> Answer {
+    let mut words = [0; WORDS];
+    match plain::kept_table(sheet) {
+        Ok(table) => {
+            let numbers = [
+                table.deviation.into(),
+                table.steps.into(),
+                table.selections.into(),
+                table.panels as i64,
+            ];
+            words[..4].copy_from_slice(&numbers);
+            for (i, pair) in words[4..].chunks_exact_mut(2).enumerate() {
+                pair.copy_from_slice(&[table.kept[i].into(), table.counts[i].into()]);
+            }
+            Answer { code: 0, words }
+        }
+        Err(refused) => refusal(refused.into(), 0),
+    }
+}
+
 fn latest_by_plain(sheet: &[u8], space: &mut [i32]) -> Answer {
-    let mut words = [0; 1 + MOST];
+    let mut words = [0; WORDS];
     match plain::latest(sheet, &GIVEN, space) {
         Ok(latest) => {
             words[0] = latest.count as i64;
-            words[1..].copy_from_slice(&latest.times);
+            words[1..=MOST].copy_from_slice(&latest.times);
             Answer { code: 0, words }
         }
         Err(refused) => refusal(refused, 0),
@@ -134,7 +176,7 @@ fn latest_by_plain(sheet: &[u8], space: &mut [i32]) -> Answer {
 
 /// The answer of a refusal, with 9's count at its place.
 fn refusal(refused: NoPlan, place: usize) -> Answer {
-    let mut words = [0; 1 + MOST];
+    let mut words = [0; WORDS];
     let code = match refused {
         NoPlan::Refused(refusal) => refusal as u32,
         NoPlan::NoRoom(count) => {

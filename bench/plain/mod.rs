@@ -6,12 +6,15 @@ mod cue;
 mod entry;
 mod extreme;
 mod few;
+mod kept;
 mod latest;
 mod lines;
 mod sheet;
 mod tally;
+mod walk;
 
 pub use entry::MOST;
+pub use kept::kept_table;
 pub use latest::latest;
 pub use lines::LINE_WORDS;
 pub use sheet::Refusal;

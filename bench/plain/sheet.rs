@@ -21,6 +21,7 @@ pub enum Refusal {
 }
 
 pub struct Sheet {
+    pub panels: usize,
     pub triggers: usize,
     pub lag: Table,
     pub floor: Line,
@@ -38,6 +39,7 @@ pub fn read(bytes: &[u8]) -> Result<Sheet, Refusal> {
     let panels = reader.size(b"panels=")?;
     let triggers = reader.size(b"triggers=")?;
     let mut sheet = Sheet {
+        panels,
         triggers,
         lag: [NO_LINE; MOST],
         floor: NO_LINE,

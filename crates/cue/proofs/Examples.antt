@@ -19,7 +19,7 @@ use Rattle.maxplus.proofs.CombinationLaws.{under-dec, met?, asked?, combination
 use Rattle.cue.specs.Minimal.{others, needed?, minimal}
 use Rattle.cue.specs.Cue.{Cue, overdue, shortfall}
 use Rattle.cue.specs.Method.{through, pullE, pull, leastE, least, floor-panels, serves-as-well, cut, walk, fixings, kept, kept-byte}
-use Rattle.cue.specs.Method.{selections, steps, need, seed, ray, candidate, candidates, lines}
+use Rattle.cue.specs.Method.{Selection, selections, steps, need, seed, ray, candidate, candidates, lines}
 use Rattle.cue.specs.Latest.{made, fit, latest}
 
 -- row 1, 2, … of entries; what is not written is absent
@@ -61,6 +61,10 @@ pair a b (suc j) = b
 abbrev reached : Cue → (ℕ → ℤ) → ℤ × ℤ
 reached P G = let X = latest 2 P G in (X 0, X 1)
 
+-- step 6's w of the panels fixed
+abbrev bounds : Cue → Selection → E × E
+bounds P s = (need 2 P (least 2 P) s 0, need 2 P (least 2 P) s 1)
+
 -- two panels that ask the same of two equal triggers: a trigger that serves the second as well as the first is taken for both
 abbrev alike : Cue
 alike = sheet ((zero-lag ∷ zero-lag ∷ []) ∷ (zero-lag ∷ zero-lag ∷ []) ∷ []) (zero-lag ∷ zero-lag ∷ []) []
@@ -87,9 +91,13 @@ computed : (shown 2 alike ≡ (pos 0, 3 ∷ 3 ∷ [], 4, 2, (absent, (unit, tt))
     (shown 2 one-floor ≡ (pos 0, 1 ∷ 0 ∷ [], 1, 1, (unit, (absent, tt)) ∷ (unit, (unit, tt)) ∷ [])) ×
     (shown 2 followed ≡ (pos 1, 2 ∷ [], 1, 1, (unit, (num (negsuc 0), tt)) ∷ [])) ×
     (reached whole (pair (pos 0) (pos 2)) ≡ (pos 0, pos 1)) ×
-    (reached whole (pair (pos 1) (pos 2)) ≡ (pos 1, pos 2))
+    (reached whole (pair (pos 1) (pos 2)) ≡ (pos 1, pos 2)) ×
+    (bounds whole [] ≡ (absent, absent)) ×
+    (bounds whole ((0, 0) ∷ []) ≡ (num (pos 1), absent)) ×
+    (bounds whole ((0, 0) ∷ (1, 0) ∷ []) ≡ (num (pos 1), absent)) ×
+    (bounds whole ((0, 1) ∷ (1, 0) ∷ []) ≡ (num (negsuc 3), num (pos 3)))
 unfolding least leastE shortfall through pull pullE overdue kept kept-byte byte-of floor-panels serves-as-well cut walk fixings selections steps need seed ray
     candidate candidates lines minimal needed? others combination? asked? met? under-dec normal star power idm mm mv sup supL each mapL sum
     at line put sift strict same? ltE-cmp ltL-cmp ≼-dec z-dec present-dec all-or all-dec any-dec dec-× dec-→ dec-¬ decLe _⊗_ _⊕_ inv val
     maxz _+z_ neg made fit latest
-computed = (refl, refl, refl, refl, refl)
+computed = (refl, refl, refl, refl, refl, refl, refl, refl, refl)

@@ -40,6 +40,7 @@ pub mod Order
 pub mod Deviation
 pub mod Cone
 pub mod Walk
+pub mod NeedLaws
 pub mod Candidates
 pub mod Extreme
 pub mod LocalTest

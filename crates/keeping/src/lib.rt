@@ -42,7 +42,7 @@ pub fn kept_table(bytes: &[u8]) -> KeptTable
     let f = marks.levels;
     let m = marks.panels;
     let masks = marks.kept;
-    let counts = walk::count(f, &masks, &gains);
+    let counts = walk::count(f, &masks, &gains, &needs, marks.triggers);
     let kept = marked.kept;
     KeptTable {
         refusal: 0,

@@ -87,8 +87,8 @@ module _ {A : Type 0} where
   pub supL-same : (l : List A) {f g : A → E} → ((a : A) → In a l → f a ≡ g a) → supL l f ≡ supL l g
   supL-same l {f} {g} h = ≼-anti (supL-lub l f (λ a k. ≼-of (h a k) ▸ supL-ub l g a k)) (supL-lub l g (λ a k. ≼-back (h a k) ▸ supL-ub l f a k))
 
-  -- the largest over a list of k places is the largest over its places
-  supL-end : (l : List A) (a : A) (f : A → E) → supL (l ++ a ∷ []) f ≡ f a ⊕ supL l f
+  -- one more at the end
+  pub supL-end : (l : List A) (a : A) (f : A → E) → supL (l ++ a ∷ []) f ≡ f a ⊕ supL l f
   supL-end l a f = ≼-anti
       (supL-lub (l ++ a ∷ []) f (λ b h. elim (in-app l (a ∷ []) b h) [
         | inl i ↦ supL-ub l f b i ▸ ⊕-r _ _
@@ -97,6 +97,7 @@ module _ {A : Type 0} where
       (⊕-lub (supL-ub (l ++ a ∷ []) f a (in-right l (a ∷ []) a (inl refl)))
       (supL-lub l f (λ b h. supL-ub (l ++ a ∷ []) f b (in-left l (a ∷ []) b h))))
 
+  -- the largest over a list of k places is the largest over its places
   pub supL-each : (k : ℕ) (g : ℕ → A) (f : A → E) → supL (each k (λ i. g i ∷ [])) f ≡ sup k (λ i. f (g i))
   unfolding sup supL each
   supL-each zero g f = refl

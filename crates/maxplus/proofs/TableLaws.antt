@@ -1,5 +1,5 @@
 -- Laws of the products of tables and vectors.
-use mathlib.Core.Path.{_≡_, refl, ap}
+use mathlib.Core.Path.{_≡_, refl, sym, ap}
 use mathlib.Core.Logic.{_⊎_, inl, inr}
 use mathlib.Core.Bool.{Bool, true, false, cond}
 use Prim.Native.Nat.{ℕ, _<_}
@@ -22,6 +22,14 @@ idm-same i = go (eqb i i) (eqb-refl i)
     go : (b : Bool) → T b → cond b unit absent ≡ unit
     go true t = refl
     go false t = absurd t
+
+pub idm-other : (i j : ℕ) → ¬ (j ≡ i) → idm i j ≡ absent
+unfolding idm
+idm-other i j h = go (eqb i j) (eqb→eq i j)
+  where
+    go : (b : Bool) → (T b → i ≡ j) → cond b unit absent ≡ absent
+    go true e = absurd (h (sym (e tt)))
+    go false e = refl
 
 pub idm-in : (i j : ℕ) (a c : E) → (i ≡ j → a ≼ c) → idm i j ⊗ a ≼ c
 unfolding idm

@@ -9,7 +9,7 @@ use lib.Dec.{T, eqb, ltb, eqb→eq, ltb→lt}
 use lib.Count.{trailingZeros}
 use lib.Bits.{bitAnd}
 use lib.ListN.{length}
-use Rattle.trigger_sets.specs.Sets.{bit, bitsFrom, members}
+use Rattle.trigger_sets.specs.Sets.{bit, Has, bitsFrom, members}
 use Rattle.trigger_sets.proofs.Tests.{both, all-at}
 
 abbrev sameList : List ℕ → List ℕ → Bool
@@ -49,6 +49,17 @@ low-all y h = all-at lowIn 63 tt y h
 pub low-in : (m : ℕ) → 0 < m → m < 64 → trailingZeros 8 m < 6
 low-in zero h k = absurd (not-suc-le-zero h)
 low-in (suc y) h k = ltb→lt (trailingZeros 8 (suc y)) 6 (low-all y (omega arith))
+
+abbrev lowHas : ℕ → Bool
+lowHas y = bit (suc y) (trailingZeros 8 (suc y))
+
+low-has-all : (y : ℕ) → y < 63 → T (lowHas y)
+unfolding trailingZeros
+low-has-all y h = all-at lowHas 63 tt y h
+
+pub low-has : (m : ℕ) → 0 < m → m < 64 → Has m (trailingZeros 8 m)
+low-has zero h k = absurd (not-suc-le-zero h)
+low-has (suc y) h k = low-has-all y (omega arith)
 
 pub members-none : members 0 ≡ []
 unfolding members bitsFrom

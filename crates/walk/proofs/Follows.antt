@@ -4,19 +4,26 @@ use mathlib.Core.Bool.{Bool, true, false, cond, _&&_}
 use mathlib.Core.List.{List, [], _∷_, _++_, append-assoc, append-nil, zip, zipWith}
 use Prim.Native.Nat.{ℕ, zero, suc, _+_, _<_, _≤_}
 use native.Mathlib.Omega.{arith}
+use native.Mathlib.Decide.{decLt}
 use borrow.Author.Tests.{lt-ltb}
 use lib.Dec.{T, eqb, ltb, eqb→eq}
 use lib.IntN.{ℤ}
 use lib.ListN.{length, getD, drop, drop-of-length-le}
 use lib.Seq.{drop-cons}
+use Rattle.maxplus.specs.Entry.{absent}
 use Rattle.maxplus.specs.Finite.{each, onlyIf, mapL, countIf}
 use Rattle.maxplus.proofs.EachLaws.{each-same, map-each, map-length, map-twice}
 use Rattle.cue.specs.Cue.{Cue}
 use Rattle.cue.specs.Method as M
 use Rattle.cue.proofs.Walk.{cut-within}
+use Rattle.words.specs.Words.{entry}
+use Rattle.words.proofs.Laws.{entry-inj, entry-zero}
+use Rattle.tables.specs.Held.{meantV, HoldsV}
 use Rattle.trigger_sets.specs.Sets.{bit}
 use Rattle.walk.specs.Trace.{Event, fixing, whole, cut, serves, walkFrom, walkOf, selections, fixings}
-use Rattle.walk.specs.State.{StepTaken, picked, startOf, countsOf}
+use Rattle.walk.specs.State.{picked, levels, startOf, countsOf}
+use Rattle.walk.specs.Remembers.{Asks, Remembers}
+use Rattle.walk.specs.Steps.{StepTaken}
 use Rattle.walk.specs.Follows.{Follows}
 use Rattle.walk.specs.declared.Walk.{Walk}
 use Rattle.walk.specs.declared.Stepped.{Stepped}
@@ -24,7 +31,8 @@ use Rattle.walk.specs.declared.Outcome.the-variants.{Selection, End}
 use Rattle.trigger_sets.proofs.ByteLaws.{sum-ext}
 use Rattle.walk.proofs.NarrowLaws.{bit-cut}
 use Rattle.walk.proofs.Whole.{start-pending}
-use Rattle.walk.proofs.Stepping.{remaining, found-selection, end-selections}
+use Rattle.walk.proofs.RememberLaws.{nothing-asked}
+use Rattle.walk.proofs.Stepping.{remaining, Walked, step-remembers, found-selection, found-deep, end-selections, end-ended}
 use Rattle.walk.proofs.EachLaws.{selections-each, fixings-each, members-each}
 
 -- ---- document 01's walk as a list of events
@@ -152,9 +160,10 @@ abbrev pub ahead : List ℕ → List (List ℕ) → ℕ → List ℕ → Walk �
 ahead masks gains f panels w = mapL (zip panels) (remaining masks gains f w)
 
 abbrev pub shown : ℕ → List ℕ → Walk → M.Selection
-shown f panels w = zip panels (picked f (w .picks))
+shown f panels w = zip panels (picked f (w .place .picks))
 
-module _ {masks : List ℕ} {gains : List (List ℕ)} {f : ℕ} {w : Walk} {r : Stepped} (panels : List ℕ) (s : StepTaken masks gains f w r) where
+module _ {masks : List ℕ} {gains needs : List (List ℕ)} {f : ℕ} {w : Walk} {r : Stepped} (panels : List ℕ)
+    (s : StepTaken masks gains needs f w r) where
   pub ahead-found : r .outcome ≡ Selection →
       ahead masks gains f panels w ≡ shown f panels (r .next) ∷ ahead masks gains f panels (r .next)
   unfolding mapL
@@ -166,5 +175,30 @@ module _ {masks : List ℕ} {gains : List (List ℕ)} {f : ℕ} {w : Walk} {r : 
 
 module _ {n : ℕ} {P : Cue} {D : ℤ} {f : ℕ} {masks : List ℕ} {gains : List (List ℕ)} {panels : List ℕ}
     (F : Follows n P D f masks gains panels) where
-  pub ahead-start : 0 < f → ahead masks gains f panels (startOf masks) ≡ M.selections n P D
-  ahead-start h = rw (start-pending masks gains f h (F .small)) (selections-follow F)
+  pub ahead-start : 0 < f → ahead masks gains f panels (startOf masks n) ≡ M.selections n P D
+  ahead-start h = rw (start-pending masks gains f n h (F .small)) (selections-follow F)
+
+-- ---- document 02, No. 3: the w of the states that a step hands back
+module _ {n : ℕ} {P : Cue} {D : ℤ} {f : ℕ} {masks : List ℕ} {gains needs : List (List ℕ)} {panels : List ℕ}
+    (F : Follows n P D f masks gains panels) (A : Asks n P D panels f needs) {w : Walk} {seen : List (List ℕ)}
+    (b : Walked masks gains needs f n w seen) {r : Stepped} (s : StepTaken masks gains needs f w r) where
+  remembered : Remembers n P D panels (levels f (r .next .place)) (r .next)
+  remembered = step-remembers b s P D panels F A
+
+  -- at a complete selection it is step 6's w of that selection
+  pub selection-bounds : r .outcome ≡ Selection → HoldsV n (M.need n P D (shown f panels (r .next))) (r .next .bounds .at)
+  selection-bounds e = rw (found-deep s e) at (remembered .bounds)
+
+  -- at the end it is absent everywhere
+  pub end-bounds : r .outcome ≡ End → (j : ℕ) → getD (r .next .bounds .at) j 0 ≡ 0
+  unfolding picked meantV
+  end-bounds e j = elim (decLt j n) [
+    | yes h ↦ entry-inj (none (r .next .place .depth) (end-ended s e .0) j h (remembered .bounds .at j h) ∙ sym entry-zero)
+    | no h ↦ remembered .sized .past j (omega arith)
+  ]
+    where
+      none : (d : ℕ) → d ≡ 0 → (j : ℕ) → j < n →
+          entry (getD (r .next .bounds .at) j 0) ≡ M.need n P D (zip panels (picked d (r .next .place .picks))) j →
+          entry (getD (r .next .bounds .at) j 0) ≡ absent
+      none zero q j h x = x ∙ nothing-asked n P D panels j
+      none (suc d) q j h x = let z : ⊥ = omega arith in absurd z

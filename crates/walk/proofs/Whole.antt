@@ -1,6 +1,7 @@
 -- The whole walk: that cutting at once and cutting late come to the same, how long it is at most, and how it starts.
 use mathlib.Core.Path.{_≡_, refl, sym, ap, ap₂, fun-ext, _∙_}
 use mathlib.Core.List.{List, [], _∷_, _++_, append-nil}
+use mathlib.Core.Logic.{inr}
 use Prim.Native.Nat.{ℕ, zero, suc, _+_, _-_, _*_, _%_, _<_, _≤_}
 use native.Mathlib.Omega.{arith}
 use native.Mathlib.Nat.{suc-mul}
@@ -8,9 +9,11 @@ use lib.Dec.{leb, leb→le}
 use lib.ListN.{length, getD, length-append}
 use Rattle.trigger_sets.specs.Sets.{members}
 use Rattle.walk.specs.Trace.{Event, fixing, forEach, cut, serves, narrow, maskAt, run, walkFrom, walkOf, Masks}
-use Rattle.walk.specs.State.{StepReady, picked, level, stack, pending, startOf}
+use Rattle.walk.specs.State.{picked, level, stack, pending, resumed, startOf}
+use Rattle.walk.specs.Steps.{StepReady}
 use Rattle.trigger_sets.proofs.Tests.{all-at}
 use Rattle.trigger_sets.proofs.MemberLaws.{members-few}
+use Rattle.walk.proofs.Walking.{inner-resumed}
 use Rattle.cue.specs.Sizes.{size-limit}
 
 pub forEach-same : (js : List ℕ) (g h : ℕ → List Event) → ((j : ℕ) → g j ≡ h j) → forEach js g ≡ forEach js h
@@ -78,25 +81,28 @@ unfolding walkOf
 walk-few kept gains f h = omega (arith, levels-few gains f 0 (λ k. getD kept k 0) [], most-few f (omega arith))
 
 -- ---- the start
-module _ (kept : List ℕ) (gains : List (List ℕ)) (f : ℕ) (h : 0 < f) where
-  start-run : Masks kept → pending kept gains f (startOf kept) ≡ run kept gains f []
+module _ (kept : List ℕ) (gains : List (List ℕ)) (f c : ℕ) (h : 0 < f) where
+  start-run : Masks kept → pending kept gains f (startOf kept c .place) ≡ run kept gains f []
   unfolding pending stack level run maskAt narrow picked
   start-run s = go f h
     where
-      go : (f : ℕ) → 0 < f → pending kept gains f (startOf kept) ≡ run kept gains f []
+      go : (f : ℕ) → 0 < f → pending kept gains f (startOf kept c .place) ≡ run kept gains f []
       go zero h = let e : ⊥ = omega arith in absurd e
       go (suc l) h =
-          let e : suc l - (0 + 1) ≡ l = omega arith in
+          let e : suc l - 1 ≡ l = omega arith in
           let z : getD kept 0 0 % 64 ≡ getD kept 0 0 = omega (arith, s 0) in
           rw (e, z) (append-nil (level kept gains l (getD kept 0 0) []))
 
-  -- at the start the whole walk is pending
-  pub start-pending : Masks kept → pending kept gains f (startOf kept) ≡ walkOf kept gains f
-  start-pending s = start-run s ∙ sym (walk-run kept gains f)
+  resumed-start : resumed f (startOf kept c .place) ≡ startOf kept c .place
+  resumed-start = inner-resumed f (startOf kept c .place) (λ e. let z : ⊥ = omega (arith, h, e) in z) .0
 
-  pub start-ready : f ≤ size-limit → Masks kept → StepReady kept gains f (startOf kept)
+  -- at the start the whole walk is pending
+  pub start-pending : Masks kept → pending kept gains f (resumed f (startOf kept c .place)) ≡ walkOf kept gains f
+  start-pending s = ap (pending kept gains f) resumed-start ∙ start-run s ∙ sym (walk-run kept gains f)
+
+  pub start-ready : f ≤ size-limit → Masks kept → StepReady kept gains f (startOf kept c .place)
   start-ready k s = record {
-    sound = record { few = k; deep = h; small = s 0; inside = (omega arith, omega arith) };
+    stands = inr (record { few = k; deep = h; small = s 0; inside = omega arith });
     masks = s;
     room = rw (start-pending s) (omega (arith, walk-few kept gains f k));
   }

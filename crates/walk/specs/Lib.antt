@@ -1,4 +1,8 @@
--- The walk as the list of what happens in it, what a state of it still has to give, and when masks follow a sheet's tables.
+-- The walk as the list of what happens in it, when masks follow a sheet's tables, what a place of it still has to give, the w that a state
+-- remembers, and a step; what the functions inside it promise.
 pub mod Trace
-pub mod State
 pub mod Follows
+pub mod State
+pub mod Remembers
+pub mod Steps
+pub mod Inner
