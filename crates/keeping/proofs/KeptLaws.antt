@@ -11,7 +11,7 @@ use Rattle.maxplus.specs.Finite.{each}
 use Rattle.maxplus.proofs.EachLaws.{length-each, each-at, each-same}
 use lib.IntN.{ℤ}
 use Rattle.cue.specs.Cue.{Cue}
-use Rattle.cue.specs.Method.{least, kept-byte, kept-count, steps, selections}
+use Rattle.cue.specs.Method.{least, floor-panels, kept-byte, kept-count, steps, selections}
 use Rattle.sheet.specs.Sheet.{Got, got}
 use Rattle.sheet.specs.Sheet as spec
 use Rattle.sheet.specs.Cue.{cue-of, Orderly, orderly?, most-steps}
@@ -19,8 +19,13 @@ use Rattle.sheet.proofs.OrderedLaws.{ordered-by}
 use Rattle.sheet.proofs.Fits.{all-fit}
 use Rattle.preparing.proofs.Results.{kept-ones}
 use Rattle.tables.proofs.Loops.{Filled}
-use Rattle.walk.specs.State.{countsOf}
+use Rattle.walk.specs.State.{countsOf, levels}
+use Rattle.walk.specs.Remembers.{Asks, Remembers}
+use Rattle.walk.specs.Steps.{StepTaken}
 use Rattle.walk.specs.declared.Counts.{Counts}
+use Rattle.walk.specs.declared.Walk.{Walk}
+use Rattle.walk.specs.declared.Stepped.{Stepped}
+use Rattle.walk.proofs.Stepping.{Walked, step-remembers}
 use Rattle.walk.proofs.Follows.{counts-follow}
 use Rattle.preparing.specs.Prepared.{MarkedAs}
 use Rattle.preparing.specs.declared.Marked.{Marked}
@@ -107,6 +112,17 @@ walked-answer s x {r} M D d ns e k f =
 
     counted : _≡_ {A = Counts} k (record { steps = steps n P (least n P); selections = length (selections n P (least n P)) })
     counted = f ∙ counts-follow (M .follows)
+
+-- ---- document 02, No. 3: the kept table walks with the table that step 6's w is made of, so in every state that a step of its walk hands back
+-- w is right
+module _ {n : ℕ} {P : Cue} {lags stars gains needs : List (List ℕ)} {m : Marked} (M : MarkedAs n P lags stars gains needs m) where
+  walk-asks : Asks n P (least n P) (floor-panels n P) (m .marks .levels) needs
+  walk-asks = record { needed = rw (M .triggers-are) at (M .prepared .needed) }
+
+  pub walk-remembers : {w : Walk} {seen : List (List ℕ)} {r : Stepped} → Walked (m .marks .kept) gains needs (m .marks .levels) n w seen →
+      StepTaken (m .marks .kept) gains needs (m .marks .levels) w r →
+      Remembers n P (least n P) (floor-panels n P) (levels (m .marks .levels) (r .next .place)) (r .next)
+  walk-remembers b s = step-remembers b s P (least n P) (floor-panels n P) (M .follows) walk-asks
 
 -- ---- the outcomes
 pub keeping-of : (s : List ℕ) {g : Got spec.Sheet} → ordered s ≡ g → kept-of g ≡ keeping s
