@@ -1,10 +1,10 @@
 //! The two sides on random sheets: small, with many equal entries, absent ones, after and land rules,
-//! some with a fault, some with too little space.
+//! idle triggers, some with a fault, some with too little space.
 
-use crate::classes::{KEPT, PLAN, SHEETS};
-use crate::plain::LINE_WORDS;
+use crate::classes::{KEPT, LATEST, PLAN, SHEETS};
+use crate::plain::{LINE_WORDS, MOST};
 use crate::random::Random;
-use crate::sides::{SPACE, agreed};
+use crate::sides::{Answer, SPACE, Side, Work, agreed};
 use std::io::Result;
 
 /// Differences that are printed in full.
@@ -15,6 +15,9 @@ const SHOWN: usize = 3;
 pub struct Tally {
     plans: Codes,
     tables: Codes,
+    latest: Codes,
+    /// Plans of sheets with a spare trigger.
+    with_spares: usize,
     differ: usize,
 }
 
@@ -34,27 +37,47 @@ impl Tally {
         }
         println!("plans by code 0 to 9: {:?}", self.plans);
         println!("kept tables by code 0 to 9: {:?}", self.tables);
+        println!("latest times by code 0 to 9: {:?}", self.latest);
+        println!("plans with spare triggers: {}", self.with_spares);
         println!("different: {}", self.differ);
         Ok(self.differ == 0)
     }
 
-    /// Compares a sheet's plan and its kept table, or their refusals.
+    /// Compares a sheet's plan and its kept table, or their refusals, and a good sheet's latest times.
     fn compare(&mut self, sheet: &[u8], words: usize) {
-        let works = [
-            ("plan", &mut self.plans, PLAN),
-            ("kept table", &mut self.tables, KEPT),
-        ];
-        for (name, codes, work) in works {
-            if let Some(answer) = agreed(work, sheet, words) {
-                codes[answer.code as usize] += 1;
-                continue;
-            }
-            self.differ += 1;
-            if self.differ <= SHOWN {
-                let text = String::from_utf8_lossy(sheet);
-                println!("different {name} with {words} words:\n{text}");
-            }
+        let plan = self.compare_in("plan", PLAN, sheet, words);
+        let table = self.compare_in("kept table", KEPT, sheet, words);
+        count(&mut self.plans, &plan);
+        count(&mut self.tables, &table);
+        let spares = |answer: Answer| answer.code == 0 && answer.words[4] != 0;
+        self.with_spares += usize::from(plan.is_some_and(spares));
+        if table.is_some_and(|answer| answer.code == 0) {
+            let latest = self.compare_in("latest times", LATEST, sheet, words);
+            count(&mut self.latest, &latest);
         }
+    }
+
+    /// What both sides answer, or a difference more.
+    fn compare_in(
+        &mut self,
+        name: &str,
+        work: fn(&Side) -> Work,
+        sheet: &[u8],
+        words: usize,
+    ) -> Option<Answer> {
+        let answer = agreed(work, sheet, words);
+        self.differ += usize::from(answer.is_none());
+        if answer.is_none() && self.differ <= SHOWN {
+            let text = String::from_utf8_lossy(sheet);
+            println!("different {name} with {words} words:\n{text}");
+        }
+        answer
+    }
+}
+
+fn count(codes: &mut Codes, answer: &Option<Answer>) {
+    if let Some(answer) = answer {
+        codes[answer.code as usize] += 1;
     }
 }
 
@@ -85,25 +108,52 @@ impl Kind {
         (offset + self.shift).to_string()
     }
 
-    fn line(&self, random: &mut Random, key: &str, count: usize) -> String {
-        let items: Vec<String> = (0..count).map(|_| self.item(random)).collect();
-        format!("{key}={}\n", items.join(","))
+    /// A line's items, where `idle` does not make them absent.
+    fn items(&self, random: &mut Random, idle: &[bool]) -> Vec<String> {
+        let item = |idle: &bool| match idle {
+            true => "-".into(),
+            false => self.item(random),
+        };
+        idle.iter().map(item).collect()
+    }
+
+    fn line(&self, random: &mut Random, key: &str, idle: &[bool]) -> String {
+        written(key, &self.items(random, idle))
     }
 
     /// A line that seldom is all absent.
-    fn needed_line(&self, random: &mut Random, key: &str, count: usize) -> String {
-        let line = self.line(random, key, count);
-        if line.contains(|item: char| item.is_ascii_digit()) || random.below(50) == 0 {
-            line
-        } else {
-            line.replacen('-', "0", 1)
+    fn needed_line(&self, random: &mut Random, key: &str, idle: &[bool]) -> String {
+        let mut items = self.items(random, idle);
+        let none = items.iter().all(|item| item == "-");
+        if let Some(at) = idle.iter().position(|idle| !idle)
+            && none
+            && random.below(50) != 0
+        {
+            items[at] = "0".into();
         }
+        written(key, &items)
     }
+}
+
+fn written(key: &str, items: &[String]) -> String {
+    format!("{key}={}\n", items.join(","))
+}
+
+/// For each trigger whether it is idle; in two sheets of three none is.
+fn idle(random: &mut Random, n: usize) -> Vec<bool> {
+    let busy = random.below(n);
+    let any = random.below(3) == 0;
+    (0..n)
+        .map(|j| any && j != busy && random.below(2) == 0)
+        .collect()
 }
 
 /// A sheet that is good more often than not; one in eight has a byte changed.
 fn sheet(random: &mut Random) -> Vec<u8> {
     let (m, n) = (1 + random.below(6), 1 + random.below(6));
+    let (none, idle) = ([false; MOST], idle(random, n));
+    // Sometimes there are rules for idle triggers, which then are not spare.
+    let no_rules = *random.pick(&[&none[..n], &idle, &idle, &idle]);
     let (lag, floor, mut due, mut after) = (
         Kind::some(random),
         Kind::some(random),
@@ -114,13 +164,18 @@ fn sheet(random: &mut Random) -> Vec<u8> {
     // Rules above 0 make circles that cannot be kept, so most are below.
     after.shift = -after.span.min(500) * *random.pick(&[0, 1, 1, 2]);
     let mut text = format!("panels={m}\ntriggers={n}\n");
-    (0..m).for_each(|_| text += &lag.needed_line(random, "lag", n));
-    text += &floor.needed_line(random, "floor", m);
-    text += &due.line(random, "due", n);
-    (0..n).for_each(|_| text += &after.line(random, "after", n));
+    (0..m).for_each(|_| text += &lag.needed_line(random, "lag", &idle));
+    text += &floor.needed_line(random, "floor", &none[..m]);
+    text += &due.line(random, "due", &none[..n]);
+    for &idle in no_rules {
+        let row: Vec<bool> = no_rules.iter().map(|other| idle || *other).collect();
+        text += &after.line(random, "after", &row);
+    }
     if random.below(2) == 0 {
         let land = land_kind(random, &lag);
-        (0..n).for_each(|_| text += &land.line(random, "land", m));
+        for &idle in no_rules {
+            text += &land.line(random, "land", &[idle; MOST][..m]);
+        }
     }
     let mut bytes = text.into_bytes();
     if random.below(8) == 0 {

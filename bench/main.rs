@@ -16,6 +16,7 @@ mod programs;
 mod random;
 mod report;
 mod sides;
+mod spare;
 mod times;
 
 use classes::Class;
@@ -24,7 +25,7 @@ use sides::{SIDES, SPACE};
 use std::process::ExitCode;
 
 const USAGE: &str = "usage: bench [CLASS..] | --count [CLASS..] | --check [SHEETS [SEED]] | --plans library|plain CLASS all|none
-classes: whole hire land unpruned_distinct unpruned_after lines_times_selections lines72 kept kept_after latest latest72 programs";
+classes: whole hire land spare unpruned_distinct unpruned_after lines_times_selections lines72 kept kept_after latest latest72 programs";
 /// What `--check` does by default.
 const CHECKED: &str = "20000";
 const SEED: &str = "1";

@@ -3,9 +3,9 @@
 
 use crate::plain::{self, LINE_WORDS, MOST, NoPlan};
 
-/// 0 or the refusal; then planning's deviation, steps, selections and count; or the kept table's
-/// deviation, steps, selections and panels, and each panel's byte and number of bits; or the count and
-/// the latest times; 0 where there is nothing.
+/// 0 or the refusal; then planning's deviation, steps, selections, count and byte of spare triggers; or
+/// the kept table's deviation, steps, selections and panels, and each panel's byte and number of bits; or
+/// the count and the latest times; 0 where there is nothing.
 #[derive(Debug, PartialEq, Eq)]
 pub struct Answer {
     pub code: u32,
@@ -23,7 +23,7 @@ pub struct Side {
     pub plan: Work,
     /// The kept table, which leaves the space alone.
     pub kept: Work,
-    /// The latest times that are no later than 0 for every trigger.
+    /// The latest times that are no later than 1 for every trigger.
     pub latest: Work,
 }
 
@@ -45,8 +45,9 @@ pub const SIDES: [Side; 2] = [
 /// Words lent to each plan: the space of the planning program, 2,000 lines.
 pub const SPACE: usize = 2000 * LINE_WORDS;
 
-/// The times that are given where the latest are asked for, as many of them as there are triggers.
-const GIVEN: [i64; MOST] = [0; MOST];
+/// The times that are given where the latest are asked for, as many of them as there are triggers. An
+/// answer's words are 0 before, so that a spare trigger's 1 has been handed back.
+const GIVEN: [i64; MOST] = [1; MOST];
 
 unsafe extern "C" {
     fn tuzhelar_plan(
@@ -136,6 +137,7 @@ fn by_plain(sheet: &[u8], space: &mut [i32]) -> Answer {
             ];
             words[..3].copy_from_slice(&numbers);
             words[3] = plan.count as i64;
+            words[4] = plan.spares.into();
             Answer { code: 0, words }
         }
         Err(refused) => refusal(refused, 3),

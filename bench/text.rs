@@ -21,16 +21,20 @@ fn plan_text(plan: &Plan, space: &[i32]) -> String {
         plan.deviation, plan.steps, plan.selections, plan.count
     );
     for words in space.chunks_exact(LINE_WORDS).take(plan.count) {
-        push_line(&mut text, &words[1..=words[0] as usize]);
+        push_line(&mut text, &words[1..=words[0] as usize], plan.spares);
     }
     text
 }
 
-fn push_line(text: &mut String, components: &[i32]) {
+fn push_line(text: &mut String, components: &[i32], spares: u8) {
     let mut before = "line=";
-    for &component in components {
+    for (j, &component) in components.iter().enumerate() {
         text.push_str(before);
-        push_item(text, component);
+        if spares >> j & 1 == 1 {
+            text.push('s');
+        } else {
+            push_item(text, component);
+        }
         before = ",";
     }
     text.push('\n');

@@ -5,9 +5,12 @@ use super::entry::{
 };
 use super::sheet::{Refusal, Sheet};
 
-/// What the walk and the lines are drawn from.
+/// What the walk and the lines are drawn from. A spare trigger keeps its place: it has its 0 on the
+/// diagonal of M* and no other entry, so that no panel keeps it and no line of another has it.
 pub struct Cue {
     pub triggers: usize,
+    /// Bit 0 for trigger 1.
+    pub spares: u8,
     pub due: Line,
     /// M*
     pub star: Table,
@@ -49,6 +52,7 @@ impl Cue {
         let deviation = deviation(&through, &marks, &sheet.floor);
         let mut cue = Cue {
             triggers: sheet.triggers,
+            spares: sheet.spares(),
             due: sheet.due,
             star,
             marks,
@@ -63,6 +67,11 @@ impl Cue {
             }
         }
         Ok(cue)
+    }
+
+    /// The triggers that are not spare.
+    pub fn in_use(&self) -> impl Iterator<Item = usize> {
+        (0..self.triggers).filter(|j| self.spares >> j & 1 == 0)
     }
 
     /// The panels with a floor, in sheet order.

@@ -1,5 +1,5 @@
 //! Document 02, No. 1, from the list: each line with the largest weight that lifts no component above
-//! the given times, and the largest of these.
+//! the given times, and the largest of these. A spare trigger has no component and keeps its given time.
 
 use super::cue::Cue;
 use super::entry::{ABSENT, MOST};
@@ -20,7 +20,8 @@ pub fn latest(bytes: &[u8], given: &[i64; MOST], space: &mut [i32]) -> Result<La
     let count = list(&cue, space).map_err(NoPlan::NoRoom)?;
     let lines = &space[..LINE_WORDS * count];
     let mut times = [0; MOST];
-    times[..sheet.triggers].fill(i64::MIN);
+    times[..sheet.triggers].copy_from_slice(&given[..sheet.triggers]);
+    cue.in_use().for_each(|j| times[j] = i64::MIN);
     for words in lines.chunks_exact(LINE_WORDS) {
         raise(&mut times, &words[1..], given);
     }

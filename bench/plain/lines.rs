@@ -56,7 +56,7 @@ fn gathered(cue: &Cue, last: &Line) -> Buffer {
     let mut lines = Buffer::none();
     each_bound(cue, |bound| {
         let starred = applied(&cue.star, bound);
-        for t in 0..cue.triggers {
+        for t in cue.in_use() {
             let line = candidate(cue, &starred, t);
             if line > *last {
                 consider(&mut lines, &line, cue);

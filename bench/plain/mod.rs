@@ -25,6 +25,8 @@ pub struct Plan {
     pub steps: u32,
     pub selections: u32,
     pub count: usize,
+    /// The spare triggers, bit 0 for trigger 1.
+    pub spares: u8,
 }
 
 pub enum NoPlan {
@@ -44,6 +46,7 @@ pub fn plan(bytes: &[u8], space: &mut [i32]) -> Result<Plan, NoPlan> {
         steps: counts.steps,
         selections: counts.selections,
         count,
+        spares: cue.spares,
     })
 }
 

@@ -1,6 +1,6 @@
 //! Reading a sheet: its tables, or the refusal of the first fault met.
 
-use super::entry::{ABSENT, Entry, Line, MOST, NO_LINE, Table};
+use super::entry::{ABSENT, Entry, Line, MOST, NO_LINE, Table, join, largest, places};
 
 /// The most bytes that a sheet may have.
 pub const LONGEST: usize = 2048;
@@ -29,6 +29,24 @@ pub struct Sheet {
     pub after: Table,
     /// The land lines, where there are some: a row for each trigger, a place for each panel.
     pub land: Option<Table>,
+}
+
+impl Sheet {
+    /// The spare triggers, bit 0 for trigger 1: no lag, no after entry in the row or column, and no land
+    /// entry in the row.
+    pub fn spares(&self) -> u8 {
+        let mut most = NO_LINE;
+        for row in self.lag.iter().chain(&self.after) {
+            join(&mut most, row);
+        }
+        for rules in [Some(&self.after), self.land.as_ref()]
+            .into_iter()
+            .flatten()
+        {
+            join(&mut most, &rules.each_ref().map(largest));
+        }
+        places(&most, ABSENT) % (1 << self.triggers)
+    }
 }
 
 pub fn read(bytes: &[u8]) -> Result<Sheet, Refusal> {

@@ -1,6 +1,6 @@
 /*
- * The whole case from C: plans it, chooses times from its lines, tests them, finds the latest that are no later than wished, and compares it
- * with other sheets. From the root of the repository:
+ * The whole case from C: plans it, chooses times from its lines, tests them, finds the latest that are no later than wished, plans it for a
+ * desk with an idle trigger, and compares it with other sheets. From the root of the repository:
  *
  *     rt staticlib planner_c
  *     cc -std=c99 -Wall -Wextra -Iembed/c embed/c/example.c target/staticlib/libplanner_c.a -o target/example
@@ -55,6 +55,17 @@ static const char LATER[] = "panels=2\n"
                             "after=-,-\n"
                             "after=-,-\n";
 
+/* The whole case on a desk whose third trigger is wired but idle: it is spare, and its due mark counts for nothing. */
+static const char IDLE[] = "panels=2\n"
+                           "triggers=3\n"
+                           "lag=2,0,-\n"
+                           "lag=4,1,-\n"
+                           "floor=5,2\n"
+                           "due=1,2,-700\n"
+                           "after=-,-,-\n"
+                           "after=-,-,-\n"
+                           "after=-,-,-\n";
+
 static int32_t space[LINES * TUZHELAR_LINE_WORDS], other_space[LINES * TUZHELAR_LINE_WORDS];
 
 /* Adds a weight to each line and takes the largest, component by component. Every choice of weights gives tightest times. */
@@ -82,15 +93,16 @@ static void print_numbers(const char *name, const int64_t *numbers, size_t count
     }
 }
 
-static void print_lines(size_t count, size_t triggers)
+/* The lines as the program `plan` writes them. In the words a spare trigger's component is absent; the byte of spares tells them apart. */
+static void print_lines(const struct tuzhelar_planned *planned)
 {
-    size_t i, j;
-    for (i = 0; i < count; i++) {
+    size_t triggers = (size_t)space[0], i, j;
+    for (i = 0; i < planned->count; i++) {
         printf("line=");
         for (j = 0; j < triggers; j++) {
             int32_t component = tuzhelar_component(space, i, j);
             if (component == TUZHELAR_ABSENT) {
-                printf("%s-", j == 0 ? "" : ",");
+                printf("%s%s", j == 0 ? "" : ",", tuzhelar_is_spare(planned->spares, j) ? "s" : "-");
             } else {
                 printf("%s%" PRId32, j == 0 ? "" : ",", component);
             }
@@ -99,9 +111,9 @@ static void print_lines(size_t count, size_t triggers)
     }
 }
 
-static void print_tested(const int64_t *times, size_t triggers)
+static void print_tested(const char *sheet, const int64_t *times, size_t triggers)
 {
-    uint32_t answer = tuzhelar_test_timing(SHEET, strlen(SHEET), times, triggers);
+    uint32_t answer = tuzhelar_test_timing(sheet, strlen(sheet), times, triggers);
     print_numbers("times", times, triggers);
     printf(": %s\n", tuzhelar_meaning(answer));
 }
@@ -112,7 +124,17 @@ static void choose(size_t count, size_t triggers, const int64_t *weights)
     combine(count, triggers, weights, times);
     print_numbers("weights", weights, count);
     printf(", ");
-    print_tested(times, triggers);
+    print_tested(SHEET, times, triggers);
+}
+
+/* A desk with an idle trigger: the same plan, with an `s` for it in each line, and any time for it will do. */
+static void print_idle(void)
+{
+    const int64_t times[3] = {0, 1, 12345};
+    struct tuzhelar_planned planned = tuzhelar_plan_sheet(IDLE, strlen(IDLE), space, LINES * TUZHELAR_LINE_WORDS);
+    printf("with an idle trigger deviation=%" PRId64 ", spare byte %d\n", planned.deviation, planned.spares);
+    print_lines(&planned);
+    print_tested(IDLE, times, 3);
 }
 
 /* Whether the same timings are tightest on another sheet. */
@@ -138,7 +160,7 @@ int main(void)
     triggers = (size_t)space[0];
     printf("deviation=%" PRId64 "\nsteps=%" PRId64 "\nselections=%" PRId64 "\ncount=%zu\n", planned.deviation, planned.steps,
            planned.selections, planned.count);
-    print_lines(planned.count, triggers);
+    print_lines(&planned);
 
     /* The list of this sheet is known, so that the weights can be written down: one for each of its two lines. */
     choose(planned.count, triggers, as_listed);
@@ -146,18 +168,21 @@ int main(void)
     choose(planned.count, triggers, first_later);
 
     /* Times that were wished need not be tightest. These are the latest that are, of those that are no later than wished. */
-    print_tested(wished, triggers);
+    print_tested(SHEET, wished, triggers);
     reached = tuzhelar_latest_timing(SHEET, strlen(SHEET), wished, triggers, space, LINES * TUZHELAR_LINE_WORDS);
     printf("instead ");
-    print_tested(reached.times, triggers);
+    print_tested(SHEET, reached.times, triggers);
 
     keeping = tuzhelar_kept_table(SHEET, strlen(SHEET));
     for (i = 0; i < keeping.panels; i++) {
         printf("panel %zu keeps byte %d, %d trigger(s)\n", i + 1, keeping.kept[i], keeping.counts[i]);
     }
 
+    print_idle();
+
     print_compared("panels exchanged", EXCHANGED);
     print_compared("trigger 2 due at 3", LATER);
+    print_compared("a desk with an idle trigger", IDLE);
 
     /* Refusals. A refusal leaves the space as it was. */
     planned = tuzhelar_plan_sheet(SHEET, strlen(SHEET), space, TUZHELAR_LINE_WORDS);

@@ -6,8 +6,8 @@
  *     cc -Iembed/c program.c target/staticlib/libplanner_c.a
  *
  * The library defines the five names below and calls memcpy and memset alone. It keeps nothing between calls, so that
- * threads may call it at once, each with words of its own. On the largest sheets planning, the latest times and comparing
- * were measured to take 53 KB of stack, the others 6 KB.
+ * threads may call it at once, each with words of its own. Planning, the latest times and comparing were measured to take up
+ * to 68 KB of stack, the others 6 KB.
  *
  * There are two ways in. `tuzhelar_plan_sheet`, `tuzhelar_kept_table`, `tuzhelar_test_timing`, `tuzhelar_latest_timing` and
  * `tuzhelar_same_timings`, further below, are a thin layer in C that takes null pointers and overlaps too. They call
@@ -29,8 +29,8 @@ extern "C" {
 #define TUZHELAR_SHEET_BYTES 2048 /* a longer sheet is refused, 1 */
 #define TUZHELAR_MOST 6           /* panels and triggers: each 1 to 6 */
 #define TUZHELAR_LINE_WORDS 7     /* words of a line: its count of triggers and six components, the unused ones absent */
-#define TUZHELAR_ABSENT INT32_MIN /* an absent component */
-#define TUZHELAR_PLAN_WORDS 4     /* words of planning's answer */
+#define TUZHELAR_ABSENT INT32_MIN /* an absent component, and that of a spare trigger */
+#define TUZHELAR_PLAN_WORDS 5     /* words of planning's answer */
 #define TUZHELAR_KEPT_WORDS 16    /* words of the kept table's answer */
 #define TUZHELAR_LATEST_WORDS 7   /* words of the latest times' answer */
 #define TUZHELAR_SAME_WORDS 2     /* words of comparing's answer */
@@ -71,18 +71,24 @@ extern "C" {
  *
  * `space`, `left` and `right` are what document 01 calls lent space: the rest is left, and a refusal changes no word of it.
  * The words of `answer` are results, returned through a pointer because there are several, and not lent space.
+ *
+ * A trigger is spare if it has no lag to any panel, no present after entry in its row or column, and no present land entry in
+ * its row; at least one trigger never is. A spare trigger's due mark is read and refused as any other and counts for nothing
+ * else, and its time may be any that is not refused, 11. A line's first word counts the spare triggers too; their components
+ * are absent in every line, and no other trigger's are.
  */
 
 /*
  * Planning. Returns 0 or the refusal, 1 to 9.
  *
  *   0        the list stands at the front of `space`, seven words for each line, and the rest of the space is as it was;
- *            answer[0] to answer[3] are deviation, steps, selections and count.
+ *            answer[0] to answer[4] are deviation, steps, selections, count and the spare triggers, a byte with bit 0 for
+ *            trigger 1.
  *   9        the list has more lines than the space holds, which is space_length / 7 rounded down: answer[3] is the count
  *            needed, and no other word is written.
  *   1 to 8   no word is written.
  *
- * A word of the answer that is at or past `answer_length` is dropped, and words past the fourth stay as they were.
+ * A word of the answer that is at or past `answer_length` is dropped, and words past the fifth stay as they were.
  * sheet_length 0 is 2, above 2,048 it is 1. With space_length 0 to 6 a sheet that has a plan is 9: no list is empty.
  */
 uint32_t tuzhelar_plan(const uint8_t *sheet, size_t sheet_length, int32_t *space, size_t space_length, int64_t *answer,
@@ -93,7 +99,7 @@ uint32_t tuzhelar_plan(const uint8_t *sheet, size_t sheet_length, int32_t *space
  *
  *   0        answer[0] to answer[3] are deviation, steps, selections and the number of panels. For panel i, from 0, answer[4 + 2 i]
  *            is its byte, bit j for trigger j + 1, and answer[5 + 2 i] the number of bits set: 0 and 0 for a panel without a
- *            floor and for one that the sheet does not have.
+ *            floor and for one that the sheet does not have. A spare trigger's bit is never set.
  *   1 to 8   no word is written.
  *
  * A word of the answer that is at or past `answer_length` is dropped, and words past the sixteenth stay as they were.
@@ -105,7 +111,8 @@ uint32_t tuzhelar_kept(const uint8_t *sheet, size_t sheet_length, int64_t *answe
  * is not the sheet's number of triggers; then 11, a time is beyond +-1,000,000,000; then 8.
  *
  * It writes nothing. As many times are tested as are lent: none is made up, and of more than six, which are always 10 where
- * the sheet is not refused before, none is looked at.
+ * the sheet is not refused before, none is looked at. A spare trigger has a time too; for 10 and 11 it is as any other, and
+ * whatever it is then, the answer is the same.
  */
 uint32_t tuzhelar_test(const uint8_t *sheet, size_t sheet_length, const int64_t *times, size_t times_length);
 
@@ -120,8 +127,8 @@ uint32_t tuzhelar_test(const uint8_t *sheet, size_t sheet_length, const int64_t 
  *   1 to 8, 10, 11  no word is written.
  *
  * A word of the answer that is at or past `answer_length` is dropped, and words past the seventh stay as they were. As many
- * times are taken as are lent, as tuzhelar_test has it. Given times that are tightest come back as they are; times given near
- * -1,000,000,000 can come back below it, where tuzhelar_test takes none (11).
+ * times are taken as are lent, as tuzhelar_test has it. Given times that are tightest come back as they are, and the time given
+ * for a spare trigger always does; times given near -1,000,000,000 can come back below it, where tuzhelar_test takes none (11).
  */
 uint32_t tuzhelar_latest(const uint8_t *sheet, size_t sheet_length, const int64_t *times, size_t times_length, int32_t *space,
                          size_t space_length, int64_t *answer, size_t answer_length);
@@ -131,7 +138,7 @@ uint32_t tuzhelar_latest(const uint8_t *sheet, size_t sheet_length, const int64_
  *
  *   100          every timing is tightest on both sheets or on neither;
  *   101          some timing is tightest on one of them only;
- *   102          the sheets have different numbers of triggers.
+ *   102          the sheets have different numbers of triggers, or not the same ones are spare. Of timings this says nothing.
  *                For these three each list stands at the front of its space, as tuzhelar_plan writes it, and the rest of the space
  *                is as it was: the first sheet's in `left`, the second's in `right`. answer[0] and answer[1] are their numbers of
  *                lines.
@@ -163,6 +170,7 @@ struct tuzhelar_planned {
     int64_t steps;
     int64_t selections;
     size_t count;       /* lines written; for 9 lines needed; 0 on any other refusal */
+    uint8_t spares;     /* the spare triggers, bit 0 for trigger 1; 0 on a refusal */
 };
 
 struct tuzhelar_keeping {
@@ -208,7 +216,7 @@ static inline struct tuzhelar_planned tuzhelar_plan_sheet(const void *sheet, siz
     uint8_t copy[TUZHELAR_SHEET_BYTES + 1];
     size_t length = tuzhelar_copied(copy, sheet, sheet_length);
     int32_t none = 0;
-    int64_t answer[TUZHELAR_PLAN_WORDS] = {0, 0, 0, 0};
+    int64_t answer[TUZHELAR_PLAN_WORDS] = {0, 0, 0, 0, 0};
     struct tuzhelar_planned planned;
     if (space == NULL) {
         space = &none;
@@ -219,6 +227,7 @@ static inline struct tuzhelar_planned tuzhelar_plan_sheet(const void *sheet, siz
     planned.steps = answer[1];
     planned.selections = answer[2];
     planned.count = (size_t)answer[3];
+    planned.spares = (uint8_t)answer[4];
     return planned;
 }
 
@@ -307,7 +316,13 @@ static inline struct tuzhelar_compared tuzhelar_same_timings(const void *first, 
     return compared;
 }
 
-/* Component j of line i, both from 0, of a list at the front of `space`: a number, or TUZHELAR_ABSENT. */
+/* Whether trigger j, from 0, is one of the spare triggers that planning returned. */
+static inline int tuzhelar_is_spare(uint8_t spares, size_t j)
+{
+    return j < TUZHELAR_MOST && (spares >> j & 1) != 0;
+}
+
+/* Component j of line i, both from 0, of a list at the front of `space`: a number, or TUZHELAR_ABSENT, for a spare trigger always. */
 static inline int32_t tuzhelar_component(const int32_t *space, size_t i, size_t j)
 {
     return space[TUZHELAR_LINE_WORDS * i + 1 + j];
@@ -362,7 +377,7 @@ static inline const char *tuzhelar_same_meaning(uint32_t number)
     case TUZHELAR_DIFFERENT:
         return "Other timings are tightest on the one sheet than on the other.";
     case TUZHELAR_UNLIKE:
-        return "The sheets have different numbers of triggers.";
+        return "The sheets have different numbers of triggers, or not the same ones are spare.";
     default:
         return tuzhelar_meaning(number > TUZHELAR_SECOND ? number - TUZHELAR_SECOND : number);
     }

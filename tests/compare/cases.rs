@@ -321,6 +321,7 @@ fn space_cases(checks: &mut Checks) {
         steps: 2,
         selections: 1,
         count: 2,
+        spares: 0,
     };
     let absent = i32::MIN;
     let line = |a: i32, b: i32| [2, a, b, absent, absent, absent, absent];

@@ -6,6 +6,7 @@ use crate::reference::{
 };
 use crate::search::{self, Found};
 use crate::sheets::{self, Draft, Random};
+use crate::spares;
 use crate::under_test::{DIFFERENT, KeptAnswer, LatestAnswer, NO, Operations, PlanAnswer, SAME};
 use crate::under_test::{SECOND, SameAnswer, UNLIKE, UNTOUCHED, YES};
 
@@ -32,6 +33,8 @@ pub struct Seen {
     /// Whether a good sheet has land lines, and an entry in them.
     pub land_lines: bool,
     pub land_rules: bool,
+    /// How many triggers of a good sheet are spare.
+    pub spares: usize,
     /// Plannings refused with 9.
     pub too_small: u64,
     /// Answers of the test operation: yes, no, 10, 11.
@@ -44,13 +47,14 @@ pub struct Seen {
 
 /// What the answer must hold: a refusal changes no word, but for 9 the count.
 pub fn plan_answer(answer: &Result<Plan, NoPlan>) -> PlanAnswer {
-    let mut words = [UNTOUCHED; 6];
+    let mut words = [UNTOUCHED; 7];
     let code = match answer {
         Ok(plan) => {
             words[0] = plan.deviation;
             words[1] = plan.steps as i64;
             words[2] = plan.selections as i64;
             words[3] = plan.count as i64;
+            words[4] = plan.spares.into();
             0
         }
         Err(NoPlan::Refused(number)) => *number,
@@ -159,8 +163,10 @@ pub fn compare_sheet(
             seen.size = Some((read.panels, read.triggers));
             seen.land_lines = sheet.windows(LAND.len()).any(|bytes| bytes == LAND);
             seen.land_rules = read.has_land_rules();
+            seen.spares = read.spares().count_ones() as usize;
             if survey.selections() <= LISTED_SELECTIONS {
                 lines = survey.lines();
+                spares::check_over_the_others(survey, &lines)?;
                 compare_plans(tried, sheet, survey, &lines, random, &mut seen)?;
                 compare_latest(tried, sheet, Some((survey, &lines)), random, &mut seen)?;
                 seen.listed = true;
@@ -329,7 +335,8 @@ fn timing_to_test(n: usize, lines: &[Line], random: &mut Random) -> Vec<i64> {
     times
 }
 
-/// A combination of the lines with random weights; random times where no line has a component.
+/// A combination of the lines with random weights; any times where no line has a component, as at a spare
+/// place.
 fn near_tightest(n: usize, lines: &[Line], random: &mut Random) -> Vec<i64> {
     let spread = *random.pick(&[1, 3, 10, 100, 100_000, 1_000_000]);
     let weights: Vec<i64> = lines
@@ -343,8 +350,18 @@ fn near_tightest(n: usize, lines: &[Line], random: &mut Random) -> Vec<i64> {
             .max()
     };
     (0..n)
-        .map(|at| component(at).unwrap_or_else(|| random.between(-spread, spread)))
+        .map(|at| component(at).unwrap_or_else(|| any_time(random, spread)))
         .collect()
+}
+
+/// A time within ± `spread`, anywhere or at a limit.
+fn any_time(random: &mut Random, spread: i64) -> i64 {
+    const LIMIT: i64 = reference::LONGEST_TIME;
+    match random.below(4) {
+        0 | 1 => random.between(-spread, spread),
+        2 => random.between(-LIMIT, LIMIT),
+        _ => *random.pick(&[-LIMIT, LIMIT]),
+    }
 }
 
 /// Moves all times together, so that the greatest or the least is at, beside or beyond the limit.
@@ -437,6 +454,8 @@ pub struct Searched {
     pub latest: u64,
     pub pairs: u64,
     pub equal_pairs: u64,
+    /// Pairs of other numbers of triggers, or with other spares.
+    pub unlike_pairs: u64,
 }
 
 /// A small sheet and another one, planned and compared by the implementation tried and checked by
@@ -466,7 +485,16 @@ pub fn compare_pair(
     let wanted = match &plans[..] {
         [Err(code), _] => *code,
         [_, Err(code)] => SECOND + code,
-        _ if one.triggers() != other.triggers() => UNLIKE,
+        [Ok(first), Ok(second)] if one.spares() != other.spares() => {
+            searched.unlike_pairs = 1;
+            // A trigger that is not spare is present in some line, a spare one in none.
+            same(
+                "equal lists with other spares",
+                &false,
+                &(first.lines == second.lines),
+            )?;
+            UNLIKE
+        }
         [Ok(first), Ok(second)] => {
             let alike = search::check_pair((one, first), (other, second))?;
             searched.pairs = 1;
@@ -511,6 +539,9 @@ fn planned(tried: &Operations, draft: &Draft) -> Result<Result<Found, u32>, Stri
     if count > SEARCH_SPACE / reference::LINE_WORDS {
         return Err(format!("count {count} is more than the space holds"));
     }
+    let spares = draft.spares().into_iter().enumerate();
+    let byte: i64 = spares.map(|(j, spare)| i64::from(spare) << j).sum();
+    same("spare triggers", &byte, &answer.words[4])?;
     let lines = space.chunks_exact(reference::LINE_WORDS).take(count);
     Ok(Ok(Found {
         deviation: answer.words[0],
@@ -521,14 +552,16 @@ fn planned(tried: &Operations, draft: &Draft) -> Result<Result<Found, u32>, Stri
 }
 
 /// The components of a line in the space; it must carry the sheet's count of triggers, and absent
-/// behind them.
+/// behind them and at the spare places.
 fn components(draft: &Draft, words: &[i32]) -> Result<Vec<Option<i64>>, String> {
     let n = draft.triggers();
-    if words[0] != n as i32 || words[1 + n..].iter().any(|word| *word != i32::MIN) {
+    let present = |j: usize| words[1 + j] != i32::MIN;
+    let misplaced = |j: usize| (j >= n || draft.is_spare(j)) && present(j);
+    if words[0] != n as i32 || (0..reference::SIZE).any(misplaced) {
         return Err(format!("a line holds the words {words:?}"));
     }
-    let component = |word: &i32| (*word != i32::MIN).then_some(i64::from(*word));
-    Ok(words[1..=n].iter().map(component).collect())
+    let component = |j: usize| present(j).then_some(i64::from(words[1 + j]));
+    Ok((0..n).map(component).collect())
 }
 
 fn tested_tightest(tried: &Operations, sheet: &[u8], x: &[i64]) -> bool {

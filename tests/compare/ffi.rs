@@ -48,7 +48,7 @@ unsafe extern "C" {
 }
 
 pub fn plan(sheet: &[u8], space: &mut [i32]) -> PlanAnswer {
-    let mut words = [UNTOUCHED; 6];
+    let mut words = [UNTOUCHED; 7];
     // SAFETY: each pointer goes with the length of the slice it comes from, and no slice overlaps
     // another.
     let code = unsafe {

@@ -3,15 +3,16 @@
 //! from what a sheet means; of the method it takes the least deviation alone, and no walk or lines.
 //!
 //! Why it is found so. A timing that keeps the order is tightest when x(j) − q(j) + p(i) − y(i) ≤ Δ
-//! for every trigger j and every panel i with a floor. Landing y(i) is a(i,k) + x(k) for some k, so
-//! this says: each such panel has a trigger k with x(j) ≤ x(k) + a(i,k) + q(j) − p(i) + Δ for every j.
-//! So the tightest timings are those that, for one choice of triggers or another, fulfil rules
-//! x(j) ≤ x(k) + c. The rules of the order are such rules too: x(i) ≥ c(i,j) + y(j) is to say that
-//! x(k) ≤ x(i) − c(i,j) − a(j,k) for every k. Lowering the given times until the rules of a choice hold
-//! gives the latest timing for that choice, or never ends. The one that is asked for is tightest, so it
-//! fulfils the rules of some choice; that choice's latest is no earlier, and no choice's latest is
-//! later, for each is tightest and exceeds no given time. So it is the largest of them, component by
-//! component.
+//! for every trigger j that is not spare and every panel i with a floor. Landing y(i) is a(i,k) + x(k)
+//! for some k, so this says: each such panel has a trigger k with x(j) ≤ x(k) + a(i,k) + q(j) − p(i) + Δ
+//! for every such j. So the tightest timings are those that, for one choice of triggers or another,
+//! fulfil rules x(j) ≤ x(k) + c. The rules of the order are such rules too: x(i) ≥ c(i,j) + y(j) is to
+//! say that x(k) ≤ x(i) − c(i,j) − a(j,k) for every k. Lowering the given times until the rules of a
+//! choice hold gives the latest timing for that choice, or never ends. The one that is asked for is
+//! tightest, so it fulfils the rules of some choice; that choice's latest is no earlier, and no choice's
+//! latest is later, for each is tightest and exceeds no given time. So it is the largest of them,
+//! component by component. A spare time stands in no rule, so that it stays as given: "No. 1 hands that
+//! number back".
 
 use crate::reference::{self, Line, NoPlan, Sheet, Survey, Table, Tables};
 
@@ -78,9 +79,10 @@ fn present(table: &Table) -> impl Iterator<Item = (usize, usize, i64)> {
 
 /// The rules of panel i with trigger k, whose lag is a.
 fn panel_rules(tables: &Tables, i: usize, k: usize, a: i64) -> impl Iterator<Item = Rule> {
-    let due = tables.sheet.due.iter().enumerate();
-    let by = a + tables.deviation - tables.sheet.floor[i].expect("the panel has a floor");
-    due.map(move |(j, q)| (j, k, by + q.expect("due marks are present")))
+    let sheet = &tables.sheet;
+    let by = a + tables.deviation - sheet.floor[i].expect("the panel has a floor");
+    let due = |j: usize| sheet.due[j].expect("due marks are present");
+    sheet.in_use().map(move |j| (j, k, by + due(j)))
 }
 
 /// Raises `latest` to the latest times for the rules and any choice of triggers for the panels that are

@@ -16,8 +16,10 @@ mod latest;
 mod reference;
 mod search;
 mod sheets;
+mod spares;
 mod under_test;
 mod wrong;
+mod wrong_spares;
 
 use cases::Checks;
 use compare::{Searched, Seen, Trial};
@@ -41,7 +43,7 @@ const TIMED_SPACE: usize = 1 << 21;
 /// Differences that are printed in full.
 const SHOWN: u64 = 3;
 /// Pairs of small sheets that `--self` searches.
-const SELF_PAIRS: u64 = 150;
+const SELF_PAIRS: u64 = 200;
 /// Sheets among which `--self` wants every refusal of reading, 8 and every size.
 const SELF_SHEETS: u64 = 4_000;
 /// Trials in which `--self` compares the reference with itself, and each wrong program with it.
@@ -129,6 +131,7 @@ fn run_self() -> ExitCode {
     let mut checks = Checks::default();
     cases::run(&mut checks);
     land::run(&mut checks);
+    spares::run(&mut checks);
     check_search(&mut checks);
     check_sheets(&mut checks);
     check_wrong(&mut checks);
@@ -149,7 +152,11 @@ fn check_search(checks: &mut Checks) {
         searched.equal_pairs > SELF_PAIRS / 10,
     );
     let unequal = searched.pairs - searched.equal_pairs;
-    checks.check("unequal pairs are met", unequal > SELF_PAIRS / 10);
+    checks.check("unequal pairs are met", unequal > SELF_PAIRS / 20);
+    checks.check(
+        "unlike pairs are met",
+        searched.unlike_pairs > SELF_PAIRS / 20,
+    );
 }
 
 /// What the search says of a program on two small sheets.
@@ -160,11 +167,12 @@ fn search_pair(tried: &Operations, number: u64) -> Result<Searched, String> {
     compare::compare_pair(tried, &draft, &other, &mut random)
 }
 
-/// The sheets reach every refusal of reading, 8, and every size, with land rules too; the comparison
-/// finds the reference equal to itself.
+/// The sheets reach every refusal of reading, 8, and every size, with land rules too, and every kind of
+/// spare trigger; the comparison finds the reference equal to itself.
 fn check_sheets(checks: &mut Checks) {
     let mut codes = [0; 9];
     let (mut sizes, mut land_sizes) = ([[0; 6]; 6], [[0; 6]; 6]);
+    let mut kinds = [0; spares::KINDS.len()];
     for number in 0..SELF_SHEETS {
         let mut random = Random::new(SEED, number);
         match compare::trial(number, &mut random) {
@@ -179,6 +187,9 @@ fn check_sheets(checks: &mut Checks) {
                     let (m, n) = (sheet.panels - 1, sheet.triggers - 1);
                     sizes[m][n] += 1;
                     land_sizes[m][n] += u32::from(sheet.has_land_rules());
+                    for (count, (_, is_met)) in kinds.iter_mut().zip(&spares::KINDS) {
+                        *count += u32::from(is_met(&sheet));
+                    }
                 }
             }
             Trial::Two([one, other], known) if number < SELF_COMPARED => {
@@ -195,15 +206,20 @@ fn check_sheets(checks: &mut Checks) {
     checks.check("good sheets of every size are met", all_sizes(sizes));
     let name = "good sheets of every size with land rules are met";
     checks.check(name, all_sizes(land_sizes));
+    for (count, (kind, _)) in kinds.iter().zip(&spares::KINDS) {
+        checks.check(&format!("sheets with {kind} are met"), *count > 0);
+    }
 }
 
 /// Every wrong program is noticed, and one that is wrong in its meaning is also found by search.
 fn check_wrong(checks: &mut Checks) {
-    for (name, wrong) in wrong::MEANING.iter().chain(&wrong::READING) {
+    let meaning = || wrong::MEANING.iter().chain(&wrong_spares::MEANING);
+    let others = wrong::READING.iter().chain(&wrong_spares::OTHERS);
+    for (name, wrong) in meaning().chain(others) {
         let noticed = (0..SELF_COMPARED).any(|number| noticed(wrong, number));
         checks.check(&format!("noticed: {name}"), noticed);
     }
-    for (name, wrong) in &wrong::MEANING {
+    for (name, wrong) in meaning() {
         let found = (0..SELF_PAIRS).any(|number| search_pair(wrong, number).is_err());
         checks.check(&format!("found by search: {name}"), found);
     }
@@ -233,12 +249,14 @@ struct Tally {
     listed: u64,
     /// Good sheets with land lines, and with an entry in them.
     land: [u64; 2],
+    /// Good sheets by the number of their spare triggers.
+    spares: [u64; 6],
     too_small: u64,
     tests: [u64; 4],
     latest: [u64; 5],
     searched: Searched,
-    /// Two sheets: same, other timings, other numbers of triggers, first refused, second refused, and
-    /// how often it was known that the same timings are tightest.
+    /// Two sheets: same, other timings, other numbers of triggers or other spares, first refused, second
+    /// refused, and how often it was known that the same timings are tightest.
     two: [u64; 5],
     known: u64,
 }
@@ -246,8 +264,8 @@ struct Tally {
 fn run(seconds: f64, seed: u64) -> ExitCode {
     let end = Instant::now() + Duration::from_secs_f64(seconds.clamp(0.0, 1e6));
     let mut tally = Tally::default();
-    let named = cases::sheets().into_iter().chain(land::sheets());
-    for (number, sheet) in named.enumerate() {
+    let named = [cases::sheets(), land::sheets(), spares::sheets()].concat();
+    for (number, sheet) in named.into_iter().enumerate() {
         tally.sheet(&sheet, &mut Random::new(seed, number as u64));
     }
     let mut number = 0;
@@ -306,6 +324,7 @@ impl Tally {
         self.codes[seen.code as usize] += 1;
         if let Some((panels, triggers)) = seen.size {
             self.sizes[panels - 1][triggers - 1] += 1;
+            self.spares[seen.spares] += 1;
         }
         self.listed += u64::from(seen.listed);
         self.land[0] += u64::from(seen.land_lines);
@@ -337,6 +356,10 @@ impl Tally {
              with land rules {rules}",
             self.codes[0], self.listed
         );
+        println!(
+            "good by the number of spare triggers, none first: {:?}",
+            self.spares
+        );
         let refused: Vec<String> = (1..9)
             .map(|code| format!("{code}: {}", self.codes[code]))
             .collect();
@@ -350,17 +373,19 @@ impl Tally {
         );
         let searched = &self.searched;
         println!(
-            "searched {} sheets, {} timings, {} latest ones; {} pairs, {} with equal lists",
+            "searched {} sheets, {} timings, {} latest ones; {} pairs, {} with equal lists; \
+             {} pairs with other triggers or spares",
             searched.sheets,
             searched.timings,
             searched.latest,
             searched.pairs,
-            searched.equal_pairs
+            searched.equal_pairs,
+            searched.unlike_pairs
         );
         let [same, other, unlike, first, second] = self.two;
         println!(
-            "two sheets: same timings {same}, of these known {}, others {other}, other triggers {unlike}, \
-             first refused {first}, second {second}",
+            "two sheets: same timings {same}, of these known {}, others {other}, \
+             other triggers or spares {unlike}, first refused {first}, second {second}",
             self.known
         );
         println!("good sheets by size, panels down, triggers across");
@@ -377,6 +402,7 @@ impl std::ops::AddAssign for Searched {
         self.latest += more.latest;
         self.pairs += more.pairs;
         self.equal_pairs += more.equal_pairs;
+        self.unlike_pairs += more.unlike_pairs;
     }
 }
 

@@ -1,5 +1,5 @@
 //! Document 01, word for word, in plain Rust: from a sheet's bytes to the answers; with document 02's
-//! No. 2, "Triggers that wait for a landing".
+//! No. 2, "Triggers that wait for a landing", and No. 4, "Spare triggers".
 //! Clarity before speed; it shares no code with the planner it is compared with.
 
 use std::collections::BTreeSet;
@@ -43,6 +43,25 @@ pub struct Sheet {
 impl Sheet {
     pub fn has_land_rules(&self) -> bool {
         !self.land.iter().all(|row| all_absent(row))
+    }
+
+    /// No. 4: "A trigger is now spare if it has no lag to any panel, no present after entry in its row or
+    /// column, and no present land entry in its row."
+    pub fn is_spare(&self, j: usize) -> bool {
+        let no_column = |table: &Table| table.iter().all(|row| row[j].is_none());
+        let no_row = |table: &Table| all_absent(&table[j]);
+        no_column(&self.lag) && no_row(&self.after) && no_column(&self.after) && no_row(&self.land)
+    }
+
+    /// The triggers that are not spare.
+    pub fn in_use(&self) -> impl Iterator<Item = usize> {
+        (0..self.triggers).filter(|&j| !self.is_spare(j))
+    }
+
+    /// The spare triggers in a byte, bit 0 for trigger 1.
+    pub fn spares(&self) -> u8 {
+        let spares = (0..self.triggers).filter(|&j| self.is_spare(j));
+        spares.map(|j| 1 << j).sum()
     }
 }
 
@@ -397,11 +416,16 @@ fn candidate(tables: &Tables, w: &Line, t: usize) -> Line {
 
 /// The distinct candidates of all selections, sorted: a set's order of lines is component 1, then 2
 /// and so on, absent lowest.
+///
+/// No. 4: "Plans are worked out over the others". A spare trigger stays in the tables and in its place
+/// here. It has its 0 on the diagonal of M* and no other entry in M* or d, so no panel keeps it, and the
+/// others' candidates are absent there; its own are left out. So Δ, the kept table, steps and selections
+/// are the same as if no trigger were called spare.
 pub fn candidates(tables: &Tables, walk: &Walk) -> Vec<Line> {
     let mut distinct = BTreeSet::new();
     for selection in &walk.selections {
         let w = w(tables, selection);
-        for t in 0..tables.sheet.triggers {
+        for t in tables.sheet.in_use() {
             distinct.insert(candidate(tables, &w, t));
         }
     }
@@ -484,13 +508,16 @@ impl Survey {
     }
 }
 
-/// "A success returns Δ, steps, selections and count."
+/// "A success returns Δ, steps, selections and count"; with No. 4 it also tells the spare triggers, which
+/// in the lent space look like any absent component.
 #[derive(Clone, Copy, Debug, PartialEq, Eq)]
 pub struct Plan {
     pub deviation: i64,
     pub steps: u64,
     pub selections: u64,
     pub count: usize,
+    /// Bit 0 for trigger 1.
+    pub spares: u8,
 }
 
 /// "A refusal returns its number and no other result but 9's count."
@@ -521,6 +548,7 @@ pub fn finish_plan(survey: &Survey, lines: &[Line], space: &mut [i32]) -> Result
         steps: survey.walk.steps,
         selections: survey.selections(),
         count: lines.len(),
+        spares: survey.tables.sheet.spares(),
     })
 }
 
@@ -541,7 +569,7 @@ fn line_words(triggers: usize, line: &Line) -> [i32; LINE_WORDS] {
 /// How two lists stand to one another; "Two lists are the same when their counts are equal and, at each
 /// place, both lines carry the same count of triggers and the same six components". By demand 3 they
 /// are "exactly when every timing is tightest on both or on neither", which needs equal numbers of
-/// triggers.
+/// triggers, and "Two sheets may be compared for equal lists only where the same triggers are spare".
 #[derive(Clone, Copy, Debug, PartialEq, Eq)]
 pub enum Likeness {
     Same,
@@ -573,7 +601,7 @@ pub fn same(
     left.copy_from_slice(&one);
     right.copy_from_slice(&other);
     // A list is never empty, and each of its lines begins with the sheet's number of triggers.
-    let likeness = if one[0] != other[0] {
+    let likeness = if one[0] != other[0] || p.spares != q.spares {
         Likeness::Unlike
     } else if one[..LINE_WORDS * p.count] == other[..LINE_WORDS * q.count] {
         Likeness::Same
@@ -623,9 +651,10 @@ fn rules_kept(rules: &Table, x: &[Entry], waited_for: &[Entry]) -> bool {
     rules.iter().zip(x).all(|(row, x)| kept(row, *x))
 }
 
-/// "Deviation is the largest x(j) − q(j) plus the largest p(i) − y(i) over panels with a floor."
+/// "Deviation is the largest x(j) − q(j) plus the largest p(i) − y(i) over panels with a floor." By
+/// No. 4 "The largest x(j) − q(j) is taken over triggers that are not spare."
 fn deviation(sheet: &Sheet, x: &[i64]) -> i64 {
-    let late = largest((0..x.len()).map(|j| Some(x[j] - sheet.due[j]?)));
+    let late = largest(sheet.in_use().map(|j| Some(x[j] - sheet.due[j]?)));
     let short = largest((0..sheet.panels).map(|i| Some(sheet.floor[i]? - landing(sheet, x, i)?)));
     late.zip(short)
         .map(|(late, short)| late + short)
@@ -646,12 +675,13 @@ pub fn plan_text(sheet: &[u8]) -> String {
 }
 
 /// "The fields are Δ, the walk's fixings, its selections, the number of lines, then each line,
-/// trigger 1 first. A refusal is written `refused=` and its number, LF."
+/// trigger 1 first. A refusal is written `refused=` and its number, LF." No. 4: "a spare component is
+/// written `s` in every line".
 pub fn plan_answer_text(answer: &Result<Plan, NoPlan>, space: &[i32]) -> String {
     match answer {
         Ok(plan) => {
             let lines = space.chunks_exact(LINE_WORDS).take(plan.count);
-            let lines: String = lines.map(line_text).collect();
+            let lines: String = lines.map(|words| line_text(words, plan.spares)).collect();
             format!(
                 "deviation={}\nsteps={}\nselections={}\ncount={}\n{lines}",
                 plan.deviation, plan.steps, plan.selections, plan.count
@@ -662,12 +692,14 @@ pub fn plan_answer_text(answer: &Result<Plan, NoPlan>, space: &[i32]) -> String 
     }
 }
 
-fn line_text(words: &[i32]) -> String {
-    let component = |word: &i32| match *word {
+fn line_text(words: &[i32], spares: u8) -> String {
+    let component = |(j, word): (usize, &i32)| match *word {
+        _ if spares >> j & 1 == 1 => "s".to_string(),
         i32::MIN => "-".to_string(),
         value => value.to_string(),
     };
-    let shown: Vec<String> = words[1..=words[0] as usize].iter().map(component).collect();
+    let components = words[1..=words[0] as usize].iter().enumerate();
+    let shown: Vec<String> = components.map(component).collect();
     format!("line={}\n", shown.join(","))
 }
 

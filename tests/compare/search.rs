@@ -1,13 +1,14 @@
 //! The meaning of a plan, checked by search on small sheets: document 01's definitions of landing,
-//! deviation, order and tightest, with document 02's land rules, over every timing of a window, and
-//! none of its method.
+//! deviation, order and tightest, with document 02's land rules and spare triggers, over every timing of
+//! a window, and none of its method.
 //!
 //! Why a window is enough. Moving all times together changes neither order nor deviation, so x(1)
 //! is 0. What is asked is always whether some timing fulfils one of finitely many systems of rules
 //! x(k) − x(j) ≥ c with whole c. If a system can be fulfilled, it has no circle above 0, and
 //! "the largest sum of rules along a path without repeats that ends in k" fulfils it. Those times
 //! differ by at most n − 1 rules. So with |c| ≤ C all of ±(n − 1)·C is enough, and exact. Let E be
-//! the largest entry, absolutely.
+//! the largest entry, absolutely, due marks of spare triggers apart: no rule is about a spare trigger, so
+//! its time goes through the whole window and its due mark plays no part.
 //! - Order: the rules are the after rules, with C = E, and what the land rules say of each trigger k
 //!   that reaches the panel, x(i) − x(k) ≥ c(i,j) + a(j,k), with C = 2·E. Let R be E or 2·E, as there
 //!   are land lines. So 8 is right exactly when the window has none.
@@ -20,7 +21,7 @@
 //!   second broken, and a broken rule is again one, with C + 1.
 //! - The latest tightest timing below a given one fulfils one of the systems for Δ, and each of its
 //!   components is a given one, at the end of a path of its rules: they differ by at most as much as
-//!   the given ones and the n − 1 rules.
+//!   the given ones and the n − 1 rules. A spare one is the given one itself.
 
 use crate::sheets::{Draft, Random, Table};
 
@@ -30,7 +31,7 @@ pub const TRIGGERS: usize = 3;
 /// A timing of up to three triggers; unused times are 0.
 type Timing = [i64; TRIGGERS];
 
-/// A plan as the search sees it. Components of a line: one for each trigger.
+/// A plan as the search sees it. Components of a line: one for each trigger, absent for a spare one.
 pub struct Found {
     pub deviation: i64,
     pub lines: Vec<Vec<Option<i64>>>,
@@ -79,14 +80,20 @@ fn landing(draft: &Draft, x: &[i64], i: usize) -> i64 {
         .expect("a panel has a lag")
 }
 
-/// "the largest x(j) − q(j) plus the largest p(i) − y(i) over panels with a floor"
+/// "the largest x(j) − q(j) plus the largest p(i) − y(i) over panels with a floor", the first "taken over
+/// triggers that are not spare"
 fn deviation(draft: &Draft, x: &[i64]) -> i64 {
-    let late = draft.due.iter().zip(x).map(|(q, x)| x - q).max();
+    let late = in_use(draft).map(|j| x[j] - draft.due[j]).max();
     let floors = draft.floor.iter().enumerate();
     let short = floors
         .filter_map(|(i, p)| p.map(|p| p - landing(draft, x, i)))
         .max();
-    late.expect("there is a trigger") + short.expect("there is a floor")
+    late.expect("a trigger has a lag") + short.expect("there is a floor")
+}
+
+/// The triggers that are not spare.
+fn in_use(draft: &Draft) -> impl Iterator<Item = usize> {
+    (0..draft.triggers()).filter(|&j| !draft.is_spare(j))
 }
 
 /// The least deviation of the window's timings that keep the order; none if no timing keeps it.
@@ -103,8 +110,9 @@ fn is_tightest(draft: &Draft, least: i64, x: &[i64]) -> bool {
 fn largest_entry(draft: &Draft) -> i64 {
     let land = draft.land.iter().flatten();
     let tables = draft.lag.iter().chain(&draft.after).chain(land).flatten();
-    let entries = tables.chain(&draft.floor).flatten().chain(&draft.due);
-    entries.map(|v| v.abs()).max().expect("there is a due mark")
+    let due = in_use(draft).map(|j| &draft.due[j]);
+    let entries = tables.chain(&draft.floor).flatten().chain(due);
+    entries.map(|v| v.abs()).max().expect("there is a floor")
 }
 
 /// Half the window for a sheet and its lines, by the bounds above.
@@ -117,9 +125,10 @@ fn window(draft: &Draft, lines: &[Vec<Option<i64>>]) -> i64 {
     (n - 1) * (rule + 1)
 }
 
-/// Whether `x` is the combination of all lines with present weights. The largest weights that fit
-/// are present, for a line has a present component and `x` has no absent one.
-fn is_combination(lines: &[Vec<Option<i64>>], x: &[i64]) -> bool {
+/// Whether `x` is the combination of all lines with present weights: "Every statement on combinations …
+/// is about the components that are not spare". The largest weights that fit are present, for a line has
+/// a present component and `x` has no absent one.
+fn is_combination(draft: &Draft, lines: &[Vec<Option<i64>>], x: &[i64]) -> bool {
     let mut combined: Timing = [i64::MIN; TRIGGERS];
     for line in lines {
         let room = line
@@ -130,7 +139,7 @@ fn is_combination(lines: &[Vec<Option<i64>>], x: &[i64]) -> bool {
         let Some(weight) = room else { return false };
         join(&mut combined, line, weight);
     }
-    combined[..x.len()] == *x
+    in_use(draft).all(|j| combined[j] == x[j])
 }
 
 /// `combined` becomes the componentwise largest of itself and the line with its weight.
@@ -142,11 +151,16 @@ fn join(combined: &mut Timing, line: &[Option<i64>], weight: i64) {
     }
 }
 
-/// A combination of all lines with random present weights.
-fn random_combination(lines: &[Vec<Option<i64>>], random: &mut Random, reach: i64) -> Timing {
+/// A combination of all lines with random present weights, and any numbers at the spare places.
+fn random_combination(draft: &Draft, found: &Found, random: &mut Random, reach: i64) -> Timing {
     let mut combined = [i64::MIN; TRIGGERS];
-    for line in lines {
+    for line in &found.lines {
         join(&mut combined, line, random.between(-reach, reach));
+    }
+    for (j, spare) in draft.spares().into_iter().enumerate() {
+        if spare {
+            combined[j] = random.between(-reach, reach);
+        }
     }
     combined
 }
@@ -195,7 +209,7 @@ fn check_window(
     for x in timings(n, window) {
         let x = &x[..n];
         let tightest = is_tightest(draft, found.deviation, x);
-        if tightest != is_combination(&found.lines, x) {
+        if tightest != is_combination(draft, &found.lines, x) {
             return Err(format!(
                 "times {x:?}: tightest {tightest}, combination {}",
                 !tightest
@@ -223,7 +237,7 @@ fn check_combinations(
 ) -> Result<(), String> {
     let n = draft.triggers();
     for _ in 0..16 {
-        let x = random_combination(&found.lines, random, 2 * window + 1);
+        let x = random_combination(draft, found, random, 2 * window + 1);
         let x = &x[..n];
         if x.contains(&i64::MIN) {
             return Err("a trigger is absent in every line".to_string());
@@ -253,11 +267,15 @@ pub fn latest(draft: &Draft, found: &Found, given: &[i64]) -> Result<Vec<i64>, S
     if !is_tightest(draft, found.deviation, &latest) {
         return Err(format!("given {given:?}, no timing is the latest"));
     }
+    // No. 4: a tested timing "may hold any permitted number there, and No. 1 hands that number back".
+    if (0..n).any(|j| draft.is_spare(j) && latest[j] != given[j]) {
+        return Err(format!("given {given:?}, another spare time in {latest:?}"));
+    }
     Ok(latest)
 }
 
-/// Demand 3: the lists are the same exactly when every timing is tightest on both sheets or on
-/// neither. Both plans were checked before. Gives whether every timing is.
+/// Demand 3, where the same triggers are spare: the lists are the same exactly when every timing is
+/// tightest on both sheets or on neither. Both plans were checked before. Gives whether every timing is.
 pub fn check_pair(one: (&Draft, &Found), other: (&Draft, &Found)) -> Result<bool, String> {
     let n = one.0.triggers();
     let window = window(one.0, &one.1.lines).max(window(other.0, &other.1.lines));

@@ -78,6 +78,20 @@ impl Draft {
         text.into_bytes()
     }
 
+    /// Whether nothing on the sheet but its due mark is about a trigger.
+    pub fn is_spare(&self, j: usize) -> bool {
+        let lags = self.lag.iter().map(|row| row[j]);
+        let behind_it = self.after.iter().map(|row| row[j]);
+        let waits = self.land.iter().flat_map(|land| &land[j]);
+        let rules = self.after[j].iter().chain(waits).copied().chain(behind_it);
+        lags.chain(rules).all(|entry| entry.is_none())
+    }
+
+    /// For each trigger whether it is spare.
+    pub fn spares(&self) -> Vec<bool> {
+        (0..self.triggers()).map(|j| self.is_spare(j)).collect()
+    }
+
     /// Land lines that ask nothing.
     pub fn no_land_rules(&self) -> Table {
         vec![vec![None; self.panels()]; self.triggers()]
@@ -167,6 +181,7 @@ pub fn tiny(random: &mut Random) -> Draft {
     }
     mend(random, &mut draft, manner.size);
     land(random, &mut draft, manner.size);
+    idle(random, &mut draft);
     draft
 }
 
@@ -191,6 +206,7 @@ pub fn any_size(random: &mut Random) -> Draft {
         mend(random, &mut draft, size);
     }
     land(random, &mut draft, (3 * size).min(100_000));
+    idle(random, &mut draft);
     draft
 }
 
@@ -219,6 +235,7 @@ pub fn at_limits(random: &mut Random) -> Draft {
     if random.chance(20) {
         draft.land = Some((0..n).map(|_| manner.row(random, m, 80)).collect());
     }
+    idle(random, &mut draft);
     draft
 }
 
@@ -269,6 +286,7 @@ pub fn nearly_tied(random: &mut Random) -> Draft {
     order(random, &mut draft, 2);
     mend(random, &mut draft, 3);
     land(random, &mut draft, 40);
+    idle(random, &mut draft);
     draft
 }
 
@@ -395,6 +413,61 @@ fn mend(random: &mut Random, draft: &mut Draft, size: i64) {
     }
 }
 
+/// Sometimes triggers with nothing but a due mark, which are spare, and often one among them that a
+/// single entry keeps in use.
+fn idle(random: &mut Random, draft: &mut Draft) {
+    let n = draft.triggers();
+    if n == 1 || random.chance(70) {
+        return;
+    }
+    let any = random.below(n);
+    let one = *random.pick(&[0, n - 1, any]);
+    let busy = (one + 1 + random.below(n - 1)) % n;
+    let manner = random.below(5);
+    let mut among = |j: usize| match manner {
+        0 | 1 => j == one,
+        2 | 3 => random.chance(60) || j == one,
+        _ => true,
+    };
+    for j in (0..n).filter(|&j| j != busy) {
+        if among(j) {
+            take_all(draft, j, busy);
+        }
+    }
+    if random.chance(35) {
+        give_one(random, draft, one, busy);
+    }
+}
+
+/// Takes a trigger's lags and rules; a panel that it alone reaches is now reached by the busy one.
+fn take_all(draft: &mut Draft, trigger: usize, busy: usize) {
+    for row in &mut draft.lag {
+        let lag = row[trigger].take();
+        if row.iter().all(Option::is_none) {
+            row[busy] = lag;
+        }
+    }
+    draft.after[trigger].fill(None);
+    draft.after.iter_mut().for_each(|row| row[trigger] = None);
+    let land = draft.land.iter_mut();
+    land.for_each(|land| land[trigger].fill(None));
+}
+
+/// One entry for an idle trigger: a lag, or a rule on the diagonal, in its row, in its column or in its
+/// land line. Nothing else is about the trigger, so only a rule for itself could not be kept.
+fn give_one(random: &mut Random, draft: &mut Draft, trigger: usize, other: usize) {
+    let panel = random.below(draft.panels());
+    let number = random.between(-2, 2);
+    let no_rules = draft.no_land_rules();
+    match random.below(9) {
+        0 => draft.lag[panel][trigger] = Some(number),
+        1 | 2 => draft.after[trigger][trigger] = Some(number.min(0)),
+        3 | 4 => draft.after[trigger][other] = Some(number),
+        5 | 6 => draft.after[other][trigger] = Some(number),
+        _ => draft.land.get_or_insert(no_rules)[trigger][panel] = Some(number),
+    }
+}
+
 // ------------------------------------------------------- Related sheets, for demand 3
 
 /// A draft related to another of the same triggers, and whether the same timings are known to be
@@ -407,6 +480,9 @@ pub fn related(random: &mut Random, draft: &Draft) -> (Draft, bool) {
     } else {
         (0..1 + random.below(3)).for_each(|_| change_entry(random, &mut other));
         mend(random, &mut other, 1);
+        if random.chance(30) {
+            idle(random, &mut other);
+        }
     }
     (other, known)
 }
@@ -421,7 +497,7 @@ fn keep_timings(random: &mut Random, draft: &mut Draft) {
     let by = *random.pick(&[-1, 1]);
     let move_floors = |draft: &mut Draft| draft.floor.iter_mut().for_each(|p| *p = moved(*p, by));
     let move_dues = |draft: &mut Draft| draft.due.iter_mut().for_each(|q| *q += by);
-    match random.below(13) {
+    match random.below(15) {
         0 => move_floors(draft),
         1 => move_dues(draft),
         2 => {
@@ -444,7 +520,17 @@ fn keep_timings(random: &mut Random, draft: &mut Draft) {
         8 => add_rules_that_follow(draft),
         9 | 10 => add_weaker_land_rule(random, draft),
         11 => land_written_out(draft),
-        _ => draft.land = land_said_otherwise(draft),
+        12 => draft.land = land_said_otherwise(draft),
+        _ => change_spare_dues(random, draft),
+    }
+}
+
+/// What a spare trigger's due mark is does not matter.
+fn change_spare_dues(random: &mut Random, draft: &mut Draft) {
+    for (j, spare) in draft.spares().into_iter().enumerate() {
+        if spare {
+            draft.due[j] = *random.pick(&[-99_999, -9, 0, 9, 99_999]);
+        }
     }
 }
 
@@ -612,6 +698,10 @@ pub fn damaged(random: &mut Random, draft: &Draft) -> Vec<u8> {
         draft.land = Some(misshapen_land(random, &draft));
         return draft.write();
     }
+    let spare = (0..draft.triggers()).find(|&j| draft.is_spare(j));
+    if let (Some(spare), true) = (spare, random.chance(20)) {
+        return with_faulty_due(random, &draft, spare);
+    }
     let mut bytes = draft.write();
     for _ in 0..1 + random.below(2) {
         bytes = match random.below(8) {
@@ -768,6 +858,16 @@ fn due_with_absent(random: &mut Random, line: &[u8]) -> Vec<u8> {
     let at = random.below(items.len());
     items[at] = "-".to_string();
     format!("due={}\n", items.join(",")).into_bytes()
+}
+
+/// A due mark that nothing depends on is still read.
+fn with_faulty_due(random: &mut Random, draft: &Draft, spare: usize) -> Vec<u8> {
+    let mut due: Vec<String> = draft.due.iter().map(i64::to_string).collect();
+    let right = format!("due={}\n", due.join(","));
+    due[spare] = random.pick(&["-", "-", "100001", "-0"]).to_string();
+    let faulty = format!("due={}\n", due.join(","));
+    let text = String::from_utf8_lossy(&draft.write()).replace(&right, &faulty);
+    text.into_bytes()
 }
 
 /// What is put behind a sheet. To one of a single panel and trigger, land lines are no fault.

@@ -40,12 +40,12 @@ pub const NAME: &str = if cfg!(linked) {
 /// What every word of an answer holds before the call; no result is as low.
 pub const UNTOUCHED: i64 = -7_777_777_777;
 
-/// 0 or the refusal, and the answer's words after the call: deviation, steps, selections, count and
-/// two words that stay.
+/// 0 or the refusal, and the answer's words after the call: deviation, steps, selections, count, the
+/// byte of spare triggers and two words that stay.
 #[derive(Debug, PartialEq, Eq)]
 pub struct PlanAnswer {
     pub code: u32,
-    pub words: [i64; 6],
+    pub words: [i64; 7],
 }
 
 /// 0 or the refusal, and the answer's words after the call: deviation, steps, selections, panels,

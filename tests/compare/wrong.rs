@@ -1,26 +1,46 @@
-//! Wrong programs, which the comparison must notice: each is the reference itself, to which a sheet with
-//! land lines is handed as the wrong program takes it.
+//! Wrong programs, which the comparison must notice: each is the reference itself, to which a sheet is
+//! handed as the wrong program takes it. Here those that are wrong about land lines.
 
 use crate::itself;
 use crate::reference::{self, Sheet};
 use crate::sheets::Draft;
-use crate::under_test::Operations;
+use crate::under_test::{KeptAnswer, LatestAnswer, Operations, PlanAnswer, SameAnswer};
 
-/// What a wrong program takes a sheet for.
-trait Mistake {
-    fn taken(sheet: &[u8]) -> Vec<u8>;
+/// What a wrong program takes a sheet for, or does otherwise in an operation.
+pub trait Mistake {
+    fn taken(sheet: &[u8]) -> Vec<u8> {
+        sheet.to_vec()
+    }
+
+    fn plan(sheet: &[u8], space: &mut [i32]) -> PlanAnswer {
+        itself::plan(&Self::taken(sheet), space)
+    }
+
+    fn kept(sheet: &[u8]) -> KeptAnswer {
+        itself::kept(&Self::taken(sheet))
+    }
+
+    fn test(sheet: &[u8], times: &[i64]) -> u32 {
+        itself::test(&Self::taken(sheet), times)
+    }
+
+    fn latest(sheet: &[u8], given: &[i64], space: &mut [i32]) -> LatestAnswer {
+        itself::latest(&Self::taken(sheet), given, space)
+    }
+
+    fn same(first: &[u8], second: &[u8], left: &mut [i32], right: &mut [i32]) -> SameAnswer {
+        itself::same(&Self::taken(first), &Self::taken(second), left, right)
+    }
 }
 
 /// Every operation of a wrong program.
-const fn operations<M: Mistake>() -> Operations {
+pub const fn operations<M: Mistake>() -> Operations {
     Operations {
-        plan: |sheet, space| itself::plan(&M::taken(sheet), space),
-        kept: |sheet| itself::kept(&M::taken(sheet)),
-        test: |sheet, times| itself::test(&M::taken(sheet), times),
-        latest: |sheet, given, space| itself::latest(&M::taken(sheet), given, space),
-        same: |first, second, left, right| {
-            itself::same(&M::taken(first), &M::taken(second), left, right)
-        },
+        plan: M::plan,
+        kept: M::kept,
+        test: M::test,
+        latest: M::latest,
+        same: M::same,
     }
 }
 
@@ -38,7 +58,7 @@ pub const READING: [(&str, Operations); 1] =
     [("missing land lines as absent", operations::<Missing>())];
 
 /// A good sheet changed; one that is refused stays as it is.
-fn changed(sheet: &[u8], change: impl FnOnce(&mut Draft)) -> Vec<u8> {
+pub fn changed(sheet: &[u8], change: impl FnOnce(&mut Draft)) -> Vec<u8> {
     let Ok(read) = reference::read(sheet) else {
         return sheet.to_vec();
     };

@@ -1,6 +1,6 @@
 /*
- * What embed/c/tuzhelar.h says of lengths, null pointers and overlaps, case by case; sheets with land lines; the longest sheet. Prints each
- * case that fails; the last line is 'N passed, M failed'. Also C++.
+ * What embed/c/tuzhelar.h says of lengths, null pointers and overlaps, case by case; sheets with land lines, and with spare triggers; the
+ * longest sheet. Prints each case that fails; the last line is 'N passed, M failed'. Also C++.
  */
 #include <stdio.h>
 #include <stdlib.h>
@@ -11,6 +11,7 @@
 #define SPACE 30
 #define ANSWER 20
 #define UNTOUCHED 7777
+#define NONE TUZHELAR_ABSENT
 #define LONGEST 1080 /* bytes of a good sheet, at most */
 
 static const char WHOLE[] = "panels=2\ntriggers=2\nlag=2,0\nlag=4,1\nfloor=5,2\ndue=1,2\nafter=-,-\nafter=-,-\n";
@@ -44,7 +45,7 @@ static const int32_t ONE_LINE[TUZHELAR_LINE_WORDS] = {
     1, 0, TUZHELAR_ABSENT, TUZHELAR_ABSENT, TUZHELAR_ABSENT, TUZHELAR_ABSENT, TUZHELAR_ABSENT,
 };
 static const int64_t TWO_AND_TWO[TUZHELAR_SAME_WORDS] = {2, 2}, TWO_AND_ONE[TUZHELAR_SAME_WORDS] = {2, 1};
-static const int64_t PLANNED[TUZHELAR_PLAN_WORDS] = {2, 2, 1, 2};
+static const int64_t PLANNED[TUZHELAR_PLAN_WORDS] = {2, 2, 1, 2, 0};
 static const int64_t KEPT[TUZHELAR_KEPT_WORDS] = {2, 2, 1, 2, 1, 1, 3, 2, 0, 0, 0, 0, 0, 0, 0, 0};
 static const int64_t WISHED[TUZHELAR_MOST] = {0, 2, 0, 0, 0, 0};
 static const int64_t LATEST[TUZHELAR_LATEST_WORDS] = {2, 0, 1, 0, 0, 0, 0};
@@ -324,6 +325,126 @@ static void waiting(void)
     check("land without a rule", 0, same(NO_WAIT, WHOLE, SPACE, SPACE, ANSWER) == TUZHELAR_SAME && space_holds(left, LINES, lines));
 }
 
+/* ---- Spare triggers */
+
+/* A sheet, planning's answer, the bytes that its first two panels keep, and its lines. */
+struct worked {
+    const char *sheet;
+    int64_t answer[TUZHELAR_PLAN_WORDS], kept[2];
+    int32_t lines[2][TUZHELAR_LINE_WORDS];
+};
+
+static const char IDLE[] = "panels=1\ntriggers=2\nlag=0,-\nfloor=0\ndue=0,-7\nafter=-,-\nafter=-,-\n";
+static const char BETWEEN[] =
+    "panels=2\ntriggers=3\nlag=2,-,0\nlag=4,-,1\nfloor=5,2\ndue=1,-99,2\nafter=-,-,-\nafter=-,-,-\nafter=-,-,-\n";
+static const char FIRST[] = "panels=1\ntriggers=2\nlag=-,0\nfloor=0\ndue=-7,0\nafter=-,-\nafter=-,-\n";
+/* A rule of a trigger with itself that asks for nothing: it is not spare. */
+static const char ITSELF[] = "panels=1\ntriggers=2\nlag=0,-\nfloor=0\ndue=0,-7\nafter=-,-\nafter=-,0\n";
+
+/* Those of IDLE, and sheets beside it: a trigger is spare with land lines that hold no rule, and is not with one entry of any kind. */
+static const struct worked WORKED[] = {
+    {IDLE, {0, 1, 1, 1, 2}, {1, 0}, {{2, 0, NONE, NONE, NONE, NONE, NONE}, {0}}},
+    {"panels=1\ntriggers=2\nlag=0,-\nfloor=0\ndue=0,-7\nafter=-,-\nafter=-,-\nland=-\nland=-\n",
+     {0, 1, 1, 1, 2}, {1, 0}, {{2, 0, NONE, NONE, NONE, NONE, NONE}, {0}}},
+    {ITSELF, {0, 1, 1, 2, 0}, {1, 0}, {{2, 0, NONE, NONE, NONE, NONE, NONE}, {2, 0, -7, NONE, NONE, NONE, NONE}}},
+    {"panels=1\ntriggers=2\nlag=0,-\nfloor=0\ndue=0,-7\nafter=-,0\nafter=-,-\n",
+     {0, 1, 1, 2, 0}, {1, 0}, {{2, 0, NONE, NONE, NONE, NONE, NONE}, {2, 0, -7, NONE, NONE, NONE, NONE}}},
+    {"panels=1\ntriggers=2\nlag=0,-\nfloor=0\ndue=0,-7\nafter=-,-\nafter=-9,-\n",
+     {0, 1, 1, 2, 0}, {1, 0}, {{2, 0, -9, NONE, NONE, NONE, NONE}, {2, 0, -7, NONE, NONE, NONE, NONE}}},
+    {"panels=1\ntriggers=2\nlag=0,-\nfloor=0\ndue=0,-7\nafter=-,-\nafter=-,-\nland=-\nland=-9\n",
+     {0, 1, 1, 2, 0}, {1, 0}, {{2, 0, -9, NONE, NONE, NONE, NONE}, {2, 0, -7, NONE, NONE, NONE, NONE}}},
+    {"panels=1\ntriggers=2\nlag=0,-100\nfloor=0\ndue=0,-7\nafter=-,-\nafter=-,-\n",
+     {0, 1, 1, 2, 0}, {1, 0}, {{2, 0, NONE, NONE, NONE, NONE, NONE}, {2, 0, -7, NONE, NONE, NONE, NONE}}},
+    /* The first, the last, one between others, five of six. */
+    {FIRST, {0, 1, 1, 1, 1}, {2, 0}, {{2, NONE, 0, NONE, NONE, NONE, NONE}, {0}}},
+    {"panels=2\ntriggers=3\nlag=2,0,-\nlag=4,1,-\nfloor=5,2\ndue=1,2,99\nafter=-,-,-\nafter=-,-,-\nafter=-,-,-\n",
+     {2, 2, 1, 2, 4}, {1, 3}, {{3, -1, 0, NONE, NONE, NONE, NONE}, {3, 0, NONE, NONE, NONE, NONE, NONE}}},
+    {BETWEEN, {2, 2, 1, 2, 2}, {1, 5}, {{3, -1, NONE, 0, NONE, NONE, NONE}, {3, 0, NONE, NONE, NONE, NONE, NONE}}},
+    {"panels=1\ntriggers=6\nlag=-,-,-,3,-,-\nfloor=5\ndue=1,2,3,4,5,6\nafter=-,-,-,-,-,-\nafter=-,-,-,-,-,-\nafter=-,-,-,-,-,-\n"
+     "after=-,-,-,-,-,-\nafter=-,-,-,-,-,-\nafter=-,-,-,-,-,-\n",
+     {-2, 1, 1, 1, 1 + 2 + 4 + 16 + 32}, {8, 0}, {{6, NONE, NONE, NONE, 0, NONE, NONE}, {0}}},
+};
+
+/* Planning and the kept table of each; for every length of the answer, the spare triggers are its fifth word. */
+static void spare_plans(void)
+{
+    size_t i, length;
+    for (i = 0; i < sizeof WORKED / sizeof WORKED[0]; i++) {
+        const struct worked *worked = &WORKED[i];
+        const char *sheet = worked->sheet;
+        const size_t words = TUZHELAR_LINE_WORDS * (size_t)worked->answer[3];
+        int32_t space[SPACE];
+        int64_t answer[ANSWER];
+        for (length = 0; length <= ANSWER; length++) {
+            untouched(space, answer);
+            check(sheet, length, tuzhelar_plan(bytes(sheet), strlen(sheet), space, SPACE, answer, length) == TUZHELAR_DONE);
+            check(sheet, length, answer_holds(answer, worked->answer, least(length, TUZHELAR_PLAN_WORDS)));
+            check(sheet, length, space_holds(space, worked->lines[0], words));
+            untouched(space, answer);
+            check(sheet, length, tuzhelar_plan(bytes(sheet), strlen(sheet), space, words - 1, answer, length) == TUZHELAR_SPACE);
+            check(sheet, length, length <= 3 || answer[3] == worked->answer[3]);
+            answer[3] = UNTOUCHED;
+            check(sheet, length, answer_holds(answer, worked->answer, 0) && space_holds(space, worked->lines[0], 0));
+        }
+        check(sheet, 0, tuzhelar_kept(bytes(sheet), strlen(sheet), answer, ANSWER) == TUZHELAR_DONE);
+        check(sheet, 0, memcmp(answer, worked->answer, 3 * sizeof *answer) == 0);
+        check(sheet, 0, answer[4] == worked->kept[0] && answer[6] == worked->kept[1] && answer[8] == 0);
+    }
+}
+
+/* Any time within the limits for a spare trigger, which comes back as it was given. */
+static void spare_times(void)
+{
+    static const int64_t TIMES[] = {TUZHELAR_LAST_TIME, -(int64_t)TUZHELAR_LAST_TIME, -99, 12345, 0};
+    const int64_t beyond = (int64_t)TUZHELAR_LAST_TIME + 1;
+    int64_t times[3] = {0, 0, 2};
+    size_t i;
+    for (i = 0; i < sizeof TIMES / sizeof TIMES[0]; i++) {
+        times[1] = TIMES[i];
+        check("spare, test", i, tested(IDLE, times, 2) == TUZHELAR_YES && tested(BETWEEN, times, 3) == TUZHELAR_NO);
+        check("spare, latest", i, latest(BETWEEN, times, 3, SPACE, ANSWER) == TUZHELAR_DONE);
+        check("spare, latest", i, reached[0] == 2 && reached[1] == 0 && reached[2] == TIMES[i] && reached[3] == 1 && reached[4] == 0);
+        check("spare, the latest tested", i, tested(BETWEEN, reached + 1, 3) == TUZHELAR_YES);
+    }
+    times[1] = -6;
+    check("not spare, test", 0, tested(ITSELF, times, 2) == TUZHELAR_NO);
+    times[1] = -7;
+    check("not spare, test", 1, tested(ITSELF, times, 2) == TUZHELAR_YES);
+    for (i = 0; i < 2; i++) {
+        times[1] = i == 0 ? beyond : -beyond;
+        check("spare, 11", i, tested(BETWEEN, times, 3) == TUZHELAR_TIME && latest(BETWEEN, times, 3, SPACE, ANSWER) == TUZHELAR_TIME);
+        check("spare, 11", i, left_but(0));
+        check("spare, 10 before 11", i, tested(BETWEEN, times, 2) == TUZHELAR_COMPONENTS && tested(IDLE, times, 1) == TUZHELAR_COMPONENTS);
+    }
+}
+
+/* Sheets with as many triggers of which not the same are spare are not compared, but planned. */
+static void spare_pairs(void)
+{
+    static const int64_t ONE_AND_ONE[TUZHELAR_SAME_WORDS] = {1, 1}, ONE_AND_TWO[TUZHELAR_SAME_WORDS] = {1, 2};
+    static const char OTHER_DUE[] = "panels=1\ntriggers=2\nlag=0,-\nfloor=0\ndue=0,100000\nafter=-,-\nafter=-,-\n";
+    /* On both of these sheets every timing is tightest. */
+    static const char ALL[] = "panels=1\ntriggers=2\nlag=0,0\nfloor=0\ndue=0,0\nafter=-,-\nafter=-,-\n";
+    static const char ALL_IDLE[] = "panels=1\ntriggers=2\nlag=0,-\nfloor=0\ndue=0,0\nafter=-,-\nafter=-,-\n";
+    const int32_t *idle = WORKED[0].lines[0], *itself = WORKED[2].lines[0];
+    size_t length;
+    for (length = 0; length <= ANSWER; length++) {
+        size_t written = least(length, TUZHELAR_SAME_WORDS);
+        check("same, other spares", length, same(IDLE, ITSELF, SPACE, SPACE, length) == TUZHELAR_UNLIKE);
+        check("same, other spares, the answer", length, answer_holds(compared, ONE_AND_TWO, written));
+        check("same, other spares, the spaces", length,
+              space_holds(left, idle, TUZHELAR_LINE_WORDS) && space_holds(right, itself, 2 * TUZHELAR_LINE_WORDS));
+        check("same, the same spares", length, same(IDLE, OTHER_DUE, SPACE, SPACE, length) == TUZHELAR_SAME);
+        check("same, the same spares, the answer", length, answer_holds(compared, ONE_AND_ONE, written));
+        check("same, 209 before 102", length, same(IDLE, ITSELF, SPACE, 2 * TUZHELAR_LINE_WORDS - 1, length) == 209);
+        check("same, 209 before 102", length, all_left(length > 1 ? &compared[1] : NULL));
+    }
+    check("same, another one spare", 0, same(FIRST, IDLE, SPACE, SPACE, ANSWER) == TUZHELAR_UNLIKE);
+    check("same, another one spare", 1, answer_holds(compared, ONE_AND_ONE, TUZHELAR_SAME_WORDS));
+    check("same, other spares and the same timings", 0, same(ALL_IDLE, ALL, SPACE, SPACE, ANSWER) == TUZHELAR_UNLIKE);
+    check("same, other spares and the same timings", 1, answer_holds(compared, ONE_AND_TWO, TUZHELAR_SAME_WORDS));
+}
+
 /* Every function refuses the sheet with that number, and writes nothing. */
 static void refused(const char *sheet, uint32_t number)
 {
@@ -352,6 +473,18 @@ static void land_refusals(void)
     refused("panels=1\ntriggers=1\nlag=-\nfloor=-\ndue=0\nafter=-\nland=1\n", TUZHELAR_NO_LAG);
     refused("panels=1\ntriggers=1\nlag=5\nfloor=-\ndue=0\nafter=-\nland=1\n", TUZHELAR_NO_FLOOR);
     refused("panels=1\ntriggers=1\nlag=5\nfloor=0\ndue=0\nafter=-\nland=-4\n", TUZHELAR_ORDER);
+}
+
+/* A spare trigger's due mark is read as any other, and a circle of the others is 8. */
+static void spare_refusals(void)
+{
+    refused("panels=1\ntriggers=2\nlag=0,-\nfloor=0\ndue=0,-\nafter=-,-\nafter=-,-\n", TUZHELAR_NO_DUE);
+    refused("panels=1\ntriggers=2\nlag=0,-\nfloor=0\ndue=0,100001\nafter=-,-\nafter=-,-\n", TUZHELAR_RANGE);
+    refused("panels=1\ntriggers=2\nlag=0,-\nfloor=0\ndue=0,-0\nafter=-,-\nafter=-,-\n", TUZHELAR_FORM);
+    refused("panels=1\ntriggers=2\nlag=-,-\nfloor=0\ndue=0,0\nafter=-,-\nafter=-,-\n", TUZHELAR_NO_LAG);
+    check("spare, 8", 0, latest("panels=1\ntriggers=2\nlag=0,-\nfloor=0\ndue=0,0\nafter=1,-\nafter=-,-\n", WISHED, 2, SPACE, ANSWER) ==
+                             TUZHELAR_ORDER && left_but(0));
+    check("spare, no space", 0, latest(IDLE, WISHED, 2, 0, ANSWER) == TUZHELAR_SPACE && reached[0] == 1);
 }
 
 /* Adds lines of entries that have as many bytes as one can have. Returns the length then. */
@@ -458,10 +591,13 @@ static void layer(void)
         planned = tuzhelar_plan_sheet(NULL, length, space, SPACE);
         check("no sheet, plan", length, planned.refusal == TUZHELAR_FORM && planned.deviation == 0 && planned.steps == 0);
         check("no sheet, plan", length, planned.selections == 0 && planned.count == 0 && space_holds(space, LINES, 0));
+        check("no sheet, plan", length, planned.spares == 0);
         check("no sheet, kept", length, tuzhelar_kept_table(NULL, length).refusal == TUZHELAR_FORM);
         check("no sheet, test", length, tuzhelar_test_timing(NULL, length, times, 2) == TUZHELAR_FORM);
         planned = tuzhelar_plan_sheet(WHOLE, whole, NULL, length);
         check("no space", length, planned.refusal == TUZHELAR_SPACE && planned.count == 2 && planned.deviation == 0);
+        planned = tuzhelar_plan_sheet(BETWEEN, strlen(BETWEEN), NULL, length);
+        check("no space, spares", length, planned.refusal == TUZHELAR_SPACE && planned.count == 2 && planned.spares == 0);
         check("no times", length, tuzhelar_test_timing(WHOLE, whole, NULL, length) == TUZHELAR_COMPONENTS);
     }
     planned = tuzhelar_plan_sheet(WHOLE, SIZE_MAX, space, SPACE);
@@ -471,10 +607,18 @@ static void layer(void)
 
     planned = tuzhelar_plan_sheet(WHOLE, whole, space, SPACE);
     check("plan", 0, planned.refusal == TUZHELAR_DONE && planned.deviation == 2 && planned.steps == 2);
-    check("plan", 1, planned.selections == 1 && planned.count == 2);
+    check("plan", 1, planned.selections == 1 && planned.count == 2 && planned.spares == 0);
     check("plan", 2, space_holds(space, LINES, 2 * TUZHELAR_LINE_WORDS));
     check("component", 0, tuzhelar_component(space, 0, 0) == -1 && tuzhelar_component(space, 0, 1) == 0);
     check("component", 1, tuzhelar_component(space, 1, 0) == 0 && tuzhelar_component(space, 1, 1) == TUZHELAR_ABSENT);
+
+    planned = tuzhelar_plan_sheet(BETWEEN, strlen(BETWEEN), space, SPACE);
+    check("plan, spares", 0, planned.refusal == TUZHELAR_DONE && planned.deviation == 2 && planned.count == 2 && planned.spares == 2);
+    check("component, spare", 0, tuzhelar_component(space, 0, 0) == -1 && tuzhelar_component(space, 0, 1) == TUZHELAR_ABSENT);
+    for (count = 0; count <= 64; count++) {
+        check("is it spare", count, tuzhelar_is_spare(planned.spares, count) == (count == 1));
+        check("all are spare", count, tuzhelar_is_spare(63, count) == (count < TUZHELAR_MOST));
+    }
 
     memcpy(shared.sheet, WHOLE, whole);
     planned = tuzhelar_plan_sheet(shared.sheet, whole, shared.words, SPACE);
@@ -622,6 +766,10 @@ int main(void)
     comparing();
     waiting();
     land_refusals();
+    spare_plans();
+    spare_times();
+    spare_pairs();
+    spare_refusals();
     longest();
     sheets();
     layer();

@@ -7,7 +7,9 @@
  * and land rules have a circle above 0; no byte or word that is not theirs is touched; a second planning into just enough words gives the
  * same list, and into fewer 9 with the same count; times that are tested have the answer that the meaning of the sheet gives; what the list
  * makes is tightest; the latest times that are no later than given ones are those that the meaning gives (latest.c); land lines without a
- * rule change nothing (land.c); and it is compared with a second sheet, often one that means the same or nearly so (pairs.c).
+ * rule change nothing (land.c); the spare triggers are those that the tables of the sheet say, have no part in lines and kept bytes, may have
+ * any time, and make no difference to the others (spares.c); and it is compared with a second sheet, often one that means the same or nearly
+ * so (pairs.c).
  * The last line is: N passed, M failed. A sheet that fails is written with its number, so that it can be tried alone.
  */
 #define _DEFAULT_SOURCE
@@ -27,6 +29,7 @@
 #include "reader.h"
 #include "related.h"
 #include "sheets.h"
+#include "spares.h"
 #include "tuzhelar.h"
 
 #define SHOWN 5             /* failures that are written in full */
@@ -130,8 +133,8 @@ static struct answered try_plan(struct random *random, size_t words, size_t leng
     answered.number = tuzhelar_plan(sheet, text.length, lent, words, answer, length);
     take_answer(&answered, answer, length, at_end);
     expect(marks_stay(&space_area, words * sizeof *lent, space_at_end), "words beside the space were written");
-    /* With an answer too short for the count there is nothing to hold the space to. */
-    if (answered.number != TUZHELAR_DONE || length >= TUZHELAR_PLAN_WORDS) {
+    /* With an answer too short for the count, its fourth word, there is nothing to hold the space to. */
+    if (answered.number != TUZHELAR_DONE || length > 3) {
         written = answered.number == TUZHELAR_DONE ? (size_t)answered.words[3] * TUZHELAR_LINE_WORDS : 0;
         expect(written <= words, "more lines than the space holds");
         for (i = written; i < words; i++) {
@@ -260,23 +263,25 @@ static void check_kept_words(const struct tables *tables, const struct answered 
             bits += (int)(byte >> j & 1);
         }
         expect(byte >= 0 && byte >> tables->triggers == 0, "a kept byte has more bits than triggers");
+        expect((byte & spares(tables)) == 0, "a spare trigger is kept");
         expect(kept->words[5 + 2 * i] == bits, "a count of kept triggers is not the byte's");
         expect((tables->floor[i] == NONE) == (byte == 0), "a panel keeps triggers exactly when it has a floor");
     }
     expect(all_untouched(kept, TUZHELAR_KEPT_WORDS), "words behind the kept table's answer were written");
 }
 
-/* The list's form: counts, unused components, the shift, and the order of lines. */
-static void check_lines(const int32_t *lines, size_t count, int n)
+/* The list's form: counts, components of spare triggers and unused ones, the shift, and the order of lines. */
+static void check_lines(const struct tables *tables, const int32_t *lines, size_t count)
 {
+    int n = tables->triggers, j;
     size_t i;
-    int j;
     for (i = 0; i < count; i++) {
         const int32_t *line = lines + TUZHELAR_LINE_WORDS * i, *before = line - TUZHELAR_LINE_WORDS;
         int32_t greatest = TUZHELAR_ABSENT;
         expect(line[0] == n, "a line's count of triggers is not the sheet's");
         for (j = 1; j <= MOST; j++) {
             expect(j <= n || line[j] == TUZHELAR_ABSENT, "an unused component is present");
+            expect(j > n || line[j] == TUZHELAR_ABSENT || !is_spare(tables, j - 1), "a spare trigger's component is present");
             greatest = line[j] > greatest ? line[j] : greatest;
         }
         expect(greatest == 0, "a line's greatest component is not 0");
@@ -291,7 +296,10 @@ static void check_time(struct random *random, const struct tables *tables, const
     expect(try_test(random, times, (size_t)tables->triggers) == meant(tables, times, least), what);
 }
 
-/* What the list makes is tightest: lines without absent components, and combinations of all. Other times are as the meaning says. */
+/*
+ * What the list makes is tightest: lines without absent components, and combinations of all. Other times are as the meaning says. Spare
+ * triggers have any times throughout.
+ */
 static void check_times(struct random *random, const struct tables *tables, const int32_t *lines, size_t count, int64_t least)
 {
     int n = tables->triggers, whole, j, tries;
@@ -300,9 +308,10 @@ static void check_times(struct random *random, const struct tables *tables, cons
     for (i = 0; i < count; i++) {
         for (whole = 1, j = 0; j < n; j++) {
             times[j] = lines[TUZHELAR_LINE_WORDS * i + 1 + (size_t)j];
-            whole = whole && times[j] != TUZHELAR_ABSENT;
+            whole = whole && (times[j] != TUZHELAR_ABSENT || is_spare(tables, j));
         }
         if (whole) {
+            fill_spares(random, tables, times);
             expect(try_test(random, times, (size_t)n) == TUZHELAR_YES, "a whole line is not tightest");
             expect(meant(tables, times, least) == TUZHELAR_YES, "a whole line is not tightest by the meaning");
         }
@@ -321,20 +330,29 @@ static void check_times(struct random *random, const struct tables *tables, cons
             }
         }
         for (j = 0; j < n; j++) {
-            expect(times[j] != NONE, "a component is absent in every line");
+            expect(times[j] != NONE || is_spare(tables, j), "a component is absent in every line");
         }
         if (wrong != NULL) {
             return;
         }
+        fill_spares(random, tables, times);
         expect(meant(tables, times, least) == TUZHELAR_YES, "a combination is not tightest by the meaning");
         check_time(random, tables, times, least, "testing a combination is not as the meaning says");
         times[below(random, n)] += between(random, -2, 2);
+        fill_spares(random, tables, times);
         check_time(random, tables, times, least, "testing times beside a combination is not as the meaning says");
     }
     for (j = 0; j < n; j++) {
         times[j] = between(random, -reach, reach);
     }
+    fill_spares(random, tables, times);
     check_time(random, tables, times, least, "testing is not as the meaning says");
+}
+
+/* A word of planning's answer where the sheet has a plan. */
+static int64_t plan_word(const struct tables *tables, const struct answered *kept, size_t count, size_t at)
+{
+    return at < 3 ? kept->words[at] : at == 3 ? (int64_t)count : spares(tables);
 }
 
 /* A sheet that has a plan. */
@@ -355,9 +373,10 @@ static void check_planned(struct random *random, const struct tables *tables, co
     met.too_small += plan.number == TUZHELAR_SPACE;
     met.most_lines = count > met.most_lines ? count : met.most_lines;
     met.most_selections = kept->words[2] > met.most_selections ? kept->words[2] : met.most_selections;
-    expect(all_untouched(&plan, 4), "words behind planning's answer were written");
-    for (i = 0; i < 3; i++) {
-        expect(plan.words[i] == (done ? kept->words[i] : UNTOUCHED), "planning and the kept table differ, or 9 gives more than the count");
+    expect(all_untouched(&plan, TUZHELAR_PLAN_WORDS), "words behind planning's answer were written");
+    for (i = 0; i < TUZHELAR_PLAN_WORDS; i++) {
+        expect(plan.words[i] == (done || i == 3 ? plan_word(tables, kept, count, i) : UNTOUCHED),
+               "planning and the kept table differ, the spare triggers are not the sheet's, or 9 gives more than the count");
     }
     if (count * TUZHELAR_LINE_WORDS > PROGRAM_WORDS) {
         expect(0, "a list of more than 2,000 lines, which this test cannot hold");
@@ -372,7 +391,7 @@ static void check_planned(struct random *random, const struct tables *tables, co
     again = try_plan(random, count * TUZHELAR_LINE_WORDS, length, &space);
     expect(again.number == TUZHELAR_DONE, "just enough words are refused");
     for (i = 0; i < length && i < TUZHELAR_PLAN_WORDS; i++) {
-        expect(again.words[i] == (i < 3 ? kept->words[i] : (int64_t)count), "a second planning gives another answer");
+        expect(again.words[i] == plan_word(tables, kept, count, i), "a second planning gives another answer");
     }
     expect(all_untouched(&again, length < TUZHELAR_PLAN_WORDS ? length : TUZHELAR_PLAN_WORDS), "words behind the answer were written");
     if (done) {
@@ -387,7 +406,7 @@ static void check_planned(struct random *random, const struct tables *tables, co
     again.words[3] = UNTOUCHED;
     expect(all_untouched(&again, 0), "9 gives more than the count");
 
-    check_lines(lines, count, tables->triggers);
+    check_lines(tables, lines, count);
     if (wrong == NULL) {
         check_times(random, tables, lines, count, kept->words[0]);
     }
@@ -417,6 +436,9 @@ static void check_good(struct random *random, const struct tables *tables)
     }
     if (wrong == NULL) {
         check_land(&text, tables);
+    }
+    if (wrong == NULL) {
+        check_spares(random, &text, tables);
     }
 }
 
@@ -513,13 +535,18 @@ static void print_met(void)
            met_latest.found, met_latest.given, met_latest.by_meaning, met_latest.too_small);
     printf("good sheets with land lines: %" PRIu64 ", of these without a rule: %" PRIu64 ", with rules that make 8: %" PRIu64
            ", that change the plan: %" PRIu64 "\n", met_land.sheets, met_land.no_rule, met_land.no_order, met_land.changed);
+    printf("good sheets with spare triggers: %" PRIu64 ", of these the first: %" PRIu64 ", the last: %" PRIu64 ", one between: %" PRIu64
+           ", several: %" PRIu64 ", five of six: %" PRIu64 "\n", met_spares.sheets, met_spares.first, met_spares.last, met_spares.between,
+           met_spares.several, met_spares.five);
+    printf("triggers that one entry keeps from being spare: on the diagonal: %" PRIu64 ", in the row: %" PRIu64 ", in the column: %" PRIu64
+           ", a land entry: %" PRIu64 "\n", met_spares.diagonal, met_spares.row, met_spares.column, met_spares.land);
     for (i = 0; i < 10; i++) {
         refused_first += met.compared[i];
         refused_second += met.compared[TUZHELAR_SECOND + i];
     }
-    printf("two sheets: same timings: %" PRIu64 ", of these known: %" PRIu64 ", others: %" PRIu64 ", other triggers: %" PRIu64
-           ", first refused: %" PRIu64 ", second: %" PRIu64 "\n", met.compared[TUZHELAR_SAME], met.known,
-           met.compared[TUZHELAR_DIFFERENT], met.compared[TUZHELAR_UNLIKE], refused_first, refused_second);
+    printf("two sheets: same timings: %" PRIu64 ", of these known: %" PRIu64 ", others: %" PRIu64 ", 102: %" PRIu64
+           ", of these by the spare triggers: %" PRIu64 ", first refused: %" PRIu64 ", second: %" PRIu64 "\n", met.compared[TUZHELAR_SAME],
+           met.known, met.compared[TUZHELAR_DIFFERENT], met.compared[TUZHELAR_UNLIKE], met_pairs.other_spares, refused_first, refused_second);
     printf("the longest list: %zu lines; the most selections: %" PRId64 "\n", met.most_lines, met.most_selections);
 }
 

@@ -1,8 +1,9 @@
 /*
  * Document 02, No. 1. For a sheet that has a plan and times within the limits: where the space holds the list, it holds it as after planning;
  * the times given back are tightest by the meaning of the sheet and by tuzhelar_test, none is later than given, and they are what lowering the
- * given times by the meaning comes to or, where that would take long, what the list makes with the largest weights that fit. Where the space
- * does not hold it, 9 gives the count and writes nothing else; nor does any other refusal write anything.
+ * given times by the meaning comes to or, where that would take long, what the list makes with the largest weights that fit; a spare
+ * trigger's is the one given (No. 4). Where the space does not hold the list, 9 gives the count and writes nothing else; nor does any other
+ * refusal write anything.
  */
 #include "latest.h"
 
@@ -11,6 +12,7 @@
 #include "lent.h"
 #include "meaning.h"
 #include "pairs.h"
+#include "spares.h"
 #include "tuzhelar.h"
 
 #define WORDS 14008       /* of a space, at most: those that the program `plan` lends, and some */
@@ -160,7 +162,7 @@ static int64_t latest_by_rules(const struct tables *tables, const int64_t *times
 
 /*
  * Lowers times until they keep the after and land rules and none is too late for the landings. All tightest times that are no later than those
- * given stay no later than these, and where these come to rest they are tightest. Returns whether they did.
+ * given stay no later than these, and where these come to rest they are tightest. Returns whether they did. Spare triggers are not lowered.
  */
 static int lower(const struct tables *tables, int64_t least, int64_t *times)
 {
@@ -168,8 +170,8 @@ static int lower(const struct tables *tables, int64_t least, int64_t *times)
     for (round = 0; round < ROUNDS; round++) {
         int64_t most = least - early(tables, times);
         for (lowered = 0, j = 0; j < n; j++) {
-            int64_t before = times[j];
-            times[j] = earlier(latest_by_rules(tables, times, j), tables->due[j] + most);
+            int64_t before = times[j], by_due = is_spare(tables, j) ? before : tables->due[j] + most;
+            times[j] = earlier(latest_by_rules(tables, times, j), by_due);
             lowered = lowered || times[j] != before;
         }
         if (!lowered) {
@@ -179,13 +181,13 @@ static int lower(const struct tables *tables, int64_t least, int64_t *times)
     return 0;
 }
 
-/* The list with the largest weights that lift no component above the given times. */
-static void weigh(const int32_t *lines, size_t count, int n, const int64_t *given, int64_t *times)
+/* The list with the largest weights that lift no component above the given times, which spare triggers keep. */
+static void weigh(const struct tables *tables, const int32_t *lines, size_t count, const int64_t *given, int64_t *times)
 {
+    int n = tables->triggers, j;
     size_t i;
-    int j;
     for (j = 0; j < n; j++) {
-        times[j] = NONE;
+        times[j] = is_spare(tables, j) ? given[j] : NONE;
     }
     for (i = 0; i < count; i++) {
         const int32_t *line = lines + TUZHELAR_LINE_WORDS * i + 1;
@@ -224,19 +226,20 @@ static int64_t moved(struct random *random, int manner, int64_t time)
     }
 }
 
-/* Times that the list makes, or some or all of them moved, anywhere or at a limit. */
-static void wish(struct random *random, const int32_t *lines, size_t count, int n, int64_t *times)
+/* Times that the list makes, or some or all of them moved, anywhere or at a limit; for spare triggers any. */
+static void wish(struct random *random, const struct tables *tables, const int32_t *lines, size_t count, int64_t *times)
 {
-    int far = chance(random, 20), manner = below(random, 6), all = chance(random, 50), j;
+    int n = tables->triggers, far = chance(random, 20), manner = below(random, 6), all = chance(random, 50), j;
     int64_t around[MOST];
     for (j = 0; j < n; j++) {
         around[j] = far ? limit(random) : between(random, -1000, 1000);
     }
-    weigh(lines, count, n, around, times);
+    weigh(tables, lines, count, around, times);
     for (j = 0; j < n; j++) {
         times[j] = all || chance(random, 50) ? moved(random, manner, times[j]) : times[j];
         times[j] = later(-(int64_t)TUZHELAR_LAST_TIME, earlier(TUZHELAR_LAST_TIME, times[j]));
     }
+    fill_spares(random, tables, times);
 }
 
 static int within(const int64_t *times, int n)
@@ -259,7 +262,10 @@ static void check_times(const struct asked *asked, const struct tables *tables, 
     if (lower(tables, least, wanted)) {
         met_latest.by_meaning++;
     } else {
-        weigh(lines, count, n, asked->times, wanted);
+        weigh(tables, lines, count, asked->times, wanted);
+    }
+    for (j = 0; j < n; j++) {
+        expect(!is_spare(tables, j) || found[j] == asked->times[j], "the latest times: a spare trigger's is not the one given");
     }
     for (j = 0; j < MOST; j++) {
         expect(found[j] == (j < n ? wanted[j] : 0), "the latest times are not the latest, or unused ones are not 0");
@@ -284,7 +290,7 @@ void check_latest(struct random *random, const struct text *text, const struct t
     asked.times = times;
     asked.times_length = (size_t)tables->triggers;
     for (tries = 0; tries < WISHES; tries++) {
-        wish(random, lines, count, tables->triggers, times);
+        wish(random, tables, lines, count, times);
         asked.words = needed + (size_t)below(random, 9);
         asked.answer_length = ANSWER_WORDS;
         answered = ask(random, &asked);

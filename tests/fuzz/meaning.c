@@ -1,4 +1,4 @@
-/* Document 01, "One cue in one house", and document 02, No. 2: times on the tables of a sheet, and none of the method. */
+/* Document 01, "One cue in one house", and document 02, No. 2 and 4: times on the tables of a sheet, and none of the method. */
 #include "meaning.h"
 
 #define PLACES (2 * MOST) /* of a circle: the triggers, then the panels */
@@ -62,12 +62,34 @@ int64_t early(const struct tables *tables, const int64_t *times)
     return early;
 }
 
+/* Lags and land entries are looked for in all panels, after entries in all triggers. Past the sheet's sizes none is present. */
+int is_spare(const struct tables *tables, int trigger)
+{
+    int i;
+    for (i = 0; i < MOST; i++) {
+        if (tables->lag[i][trigger] != NONE || tables->after[trigger][i] != NONE || tables->after[i][trigger] != NONE ||
+            tables->land[trigger][i] != NONE) {
+            return 0;
+        }
+    }
+    return 1;
+}
+
+int spares(const struct tables *tables)
+{
+    int byte = 0, j;
+    for (j = 0; j < tables->triggers; j++) {
+        byte |= is_spare(tables, j) << j;
+    }
+    return byte;
+}
+
 int64_t deviation(const struct tables *tables, const int64_t *times)
 {
     int64_t late = NONE;
     int j;
     for (j = 0; j < tables->triggers; j++) {
-        int64_t by = times[j] - tables->due[j];
+        int64_t by = is_spare(tables, j) ? NONE : times[j] - tables->due[j];
         late = by > late ? by : late;
     }
     return late + early(tables, times);

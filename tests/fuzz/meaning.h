@@ -10,6 +10,13 @@ int keeps_order(const struct tables *tables, const int64_t *times);
 /* The largest p(i) - y(i) over panels with a floor. */
 int64_t early(const struct tables *tables, const int64_t *times);
 
+/* A trigger of the sheet without a lag to any panel, an after entry in its row or column, or a land entry in its row. */
+int is_spare(const struct tables *tables, int trigger);
+
+/* The sheet's spare triggers, bit 0 for trigger 1. */
+int spares(const struct tables *tables);
+
+/* The largest x(j) - q(j) over triggers that are not spare, and how early the landings are. */
 int64_t deviation(const struct tables *tables, const int64_t *times);
 
 /* Whether a trigger waits for a landing. */

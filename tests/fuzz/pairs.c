@@ -1,7 +1,8 @@
 /*
  * Two sheets: the number and the words that tuzhelar_same gives and leaves are those that planning each sheet alone and comparing the lists
- * give; it refuses what the reader refuses, the first sheet before the second; and whether the same timings are tightest is what the meaning
- * of the two sheets says, for all timings made of the lists and, on small sheets, for all in a box.
+ * give; it refuses what the reader refuses, the first sheet before the second; 102 is for other numbers of triggers and for other spare ones,
+ * as the tables say; and whether the same timings are tightest is what the meaning of the two sheets says, for all timings made of the lists
+ * and, on small sheets, for all in a box.
  */
 #include "pairs.h"
 
@@ -19,6 +20,8 @@
 #define REACH 3              /* how far a box goes each way */
 #define UNTOUCHED_WORD 0x5a5a5a5a
 #define UNTOUCHED INT64_C(0x5a5a5a5a5a5a5a5a)
+
+struct met_pairs met_pairs;
 
 static struct area first_area, second_area, left_area, right_area, answer_area;
 
@@ -60,6 +63,7 @@ static void plan_alone(struct random *random, struct side *side, const struct te
     side->number = tuzhelar_plan(text->bytes, text->length, side->space, side->lent, side->words, TUZHELAR_PLAN_WORDS);
     expect(side->number == side->read || (side->read == 0 && side->number == TUZHELAR_SPACE), "planning's refusal is not the reader's");
     expect(side->space[side->lent] == UNTOUCHED_WORD, "planning wrote behind the space");
+    expect(side->number != TUZHELAR_DONE || side->words[4] == spares(&side->tables), "planning's spare triggers are not the sheet's");
 }
 
 static size_t list_words(const struct side *side)
@@ -68,6 +72,12 @@ static size_t list_words(const struct side *side)
 }
 
 /* ---- What comparing must give, by the two plans */
+
+/* As many triggers, and the same of them spare. */
+static int comparable(const struct side *first, const struct side *second)
+{
+    return first->tables.triggers == second->tables.triggers && spares(&first->tables) == spares(&second->tables);
+}
 
 static uint32_t wanted_number(const struct side *first, const struct side *second)
 {
@@ -78,7 +88,7 @@ static uint32_t wanted_number(const struct side *first, const struct side *secon
     if (second->number != TUZHELAR_DONE) {
         return TUZHELAR_SECOND + second->number;
     }
-    if (first->tables.triggers != second->tables.triggers) {
+    if (!comparable(first, second)) {
         return TUZHELAR_UNLIKE;
     }
     return words == list_words(second) && memcmp(first->space, second->space, words * sizeof *first->space) == 0 ? TUZHELAR_SAME
@@ -164,13 +174,16 @@ static int tightest(const struct side *side, const int64_t *times)
     return keeps_order(&side->tables, times) && deviation(&side->tables, times) == side->words[0];
 }
 
-/* The largest of the lines, component by component, all but one of them far lower; for `one` past the last line none is. */
+/*
+ * The largest of the lines, component by component, all but one of them far lower; for `one` past the last line none is. Spare triggers come
+ * far later than all others.
+ */
 static void combined(const struct side *side, size_t one, int64_t *times)
 {
     size_t count = (size_t)side->words[3], i;
     int j;
     for (j = 0; j < side->tables.triggers; j++) {
-        times[j] = NONE;
+        times[j] = is_spare(&side->tables, j) ? FAR : NONE;
         for (i = 0; i < count; i++) {
             int64_t component = side->space[TUZHELAR_LINE_WORDS * i + 1 + (size_t)j];
             int64_t time = component - (i == one || one == count ? 0 : FAR);
@@ -241,7 +254,9 @@ uint32_t check_pair(struct random *random, const struct text *first_text, const 
     expect(number == wanted_number(&first, &second), "comparing's number is not what the two plans say");
     if (number == TUZHELAR_SAME || number == TUZHELAR_DIFFERENT) {
         check_meaning(&first, &second, number);
-        expect(!known_same || number == TUZHELAR_SAME, "101 after changes that keep the tightest timings");
     }
+    expect(!known_same || (number != TUZHELAR_DIFFERENT && number != TUZHELAR_UNLIKE),
+           "101 or 102 after changes that keep the tightest timings and the spare triggers");
+    met_pairs.other_spares += number == TUZHELAR_UNLIKE && first.tables.triggers == second.tables.triggers;
     return number;
 }

@@ -4,12 +4,18 @@
 
 #include "sheets.h"
 
+/* What was met: sheets with as many triggers of which not the same are spare. */
+struct met_pairs {
+    uint64_t other_spares;
+};
+extern struct met_pairs met_pairs;
+
 /* The memory that the two sheets, the two spaces and the answer are lent from; 0 where it is not guarded. */
 int make_pairs(void);
 
 /*
- * Compares a sheet with another. `known_same`: the same timings are known to be tightest on both, where both have a plan. Returns the number
- * that was returned.
+ * Compares a sheet with another. `known_same`: the same triggers are known to be spare on both and, where both have a plan, the same timings
+ * tightest. Returns the number that was returned.
  */
 uint32_t check_pair(struct random *random, const struct text *first, const struct text *second, int known_same);
 

@@ -1,10 +1,8 @@
-/* Changes that keep the tightest timings, and changes of an entry, on the tables of a sheet; then the sheet anew. */
+/* Changes that keep the tightest timings, of an entry, and of what triggers are spare, on the tables of a sheet; then the sheet anew. */
 #include "related.h"
 
-#include <inttypes.h>
-#include <stdio.h>
-
 #include "meaning.h"
+#include "writer.h"
 
 static void move(int64_t *entry, int64_t by)
 {
@@ -102,12 +100,20 @@ static void replace_land(struct tables *tables, int i, int panel)
     *rule = NONE;
 }
 
-/* A change after which the same timings are tightest. */
+/* Another due mark where the trigger is spare. */
+static void move_spare_due(struct random *random, struct tables *tables, int trigger)
+{
+    if (is_spare(tables, trigger)) {
+        tables->due[trigger] = between(random, -LIMIT, LIMIT);
+    }
+}
+
+/* A change after which the same timings are tightest, and the same triggers spare. */
 static void keep_timings(struct random *random, struct tables *tables)
 {
     int panel = below(random, tables->panels);
     int64_t by = between(random, -3, 3), lower = tables->floor[panel];
-    switch (below(random, 8)) {
+    switch (below(random, 9)) {
     case 0:
         move_all(tables->floor, tables->panels, by);
         break;
@@ -130,6 +136,9 @@ static void keep_timings(struct random *random, struct tables *tables)
         break;
     case 6:
         replace_land(tables, below(random, tables->triggers), panel);
+        break;
+    case 7:
+        move_spare_due(random, tables, below(random, tables->triggers));
         break;
     default:
         add_rule(random, tables);
@@ -170,61 +179,60 @@ static void change_entry(struct random *random, struct tables *tables)
     }
 }
 
-static void add_text(struct text *text, const char *string)
+/* A trigger without its rules, and without its lags but where no other trigger reaches the panel. */
+static void set_idle(struct tables *tables, int trigger)
 {
-    while (*string != 0 && text->length < ROOM) {
-        text->bytes[text->length++] = (uint8_t)*string++;
+    int i, j;
+    for (i = 0; i < MOST; i++) {
+        tables->after[trigger][i] = tables->after[i][trigger] = tables->land[trigger][i] = NONE;
+        for (j = 0; j < tables->triggers; j++) {
+            if (j != trigger && tables->lag[i][j] != NONE) {
+                tables->lag[i][trigger] = NONE;
+            }
+        }
     }
 }
 
-static void write_line(struct text *text, const char *key, const int64_t *entries, int count)
-{
-    char item[32];
-    int i;
-    add_text(text, key);
-    for (i = 0; i < count; i++) {
-        snprintf(item, sizeof item, "%" PRId64, entries[i]);
-        add_text(text, i == 0 ? "" : ",");
-        add_text(text, entries[i] == NONE ? "-" : item);
-    }
-    add_text(text, "\n");
-}
-
-static void write_rows(struct text *text, const char *key, const int64_t (*rows)[MOST], int lines, int count)
+static void exchange_triggers(struct tables *tables, int a, int b)
 {
     int i;
-    for (i = 0; i < lines; i++) {
-        write_line(text, key, rows[i], count);
+    exchange(&tables->due[a], &tables->due[b]);
+    for (i = 0; i < MOST; i++) {
+        exchange(&tables->lag[i][a], &tables->lag[i][b]);
+        exchange(&tables->land[a][i], &tables->land[b][i]);
+        exchange(&tables->after[a][i], &tables->after[b][i]);
+    }
+    for (i = 0; i < MOST; i++) {
+        exchange(&tables->after[i][a], &tables->after[i][b]);
     }
 }
 
-/* Land lines without a rule are written or not: a sheet means the same with them and without. */
-static void write_tables(struct random *random, const struct tables *tables, struct text *text)
+/* A change of what triggers are spare: a spare one gets a rule that asks for nothing, or another place; another one loses its entries. */
+static void change_spares(struct random *random, struct tables *tables)
 {
-    int64_t panels = tables->panels, triggers = tables->triggers;
-    text->length = 0;
-    write_line(text, "panels=", &panels, 1);
-    write_line(text, "triggers=", &triggers, 1);
-    write_rows(text, "lag=", tables->lag, tables->panels, tables->triggers);
-    write_line(text, "floor=", tables->floor, tables->panels);
-    write_line(text, "due=", tables->due, tables->triggers);
-    write_rows(text, "after=", tables->after, tables->triggers, tables->triggers);
-    if (has_land_rule(tables) || chance(random, 30)) {
-        write_rows(text, "land=", tables->land, tables->triggers, tables->panels);
+    int j = below(random, tables->triggers);
+    if (!is_spare(tables, j)) {
+        set_idle(tables, j);
+    } else if (chance(random, 50)) {
+        tables->after[j][j] = 0;
+    } else {
+        exchange_triggers(tables, j, below(random, tables->triggers));
     }
 }
 
 int make_related(struct random *random, const struct tables *tables, struct text *text)
 {
     struct tables changed = *tables;
-    int known = chance(random, 50), changes;
+    int known = chance(random, 50), entries = chance(random, 70), changes;
     for (changes = below(random, 3) + !known; changes > 0; changes--) {
         if (known) {
             keep_timings(random, &changed);
-        } else {
+        } else if (entries) {
             change_entry(random, &changed);
+        } else {
+            change_spares(random, &changed);
         }
     }
-    write_tables(random, &changed, text);
+    write_tables(&changed, chance(random, 30), text);
     return known;
 }

@@ -6,8 +6,8 @@
 #include "sheets.h"
 
 /*
- * A sheet related to that of the tables, with as many triggers. Returns whether the same timings are known to be tightest on both; where it
- * is not known they often are.
+ * A sheet related to that of the tables, with as many triggers. Returns whether the same timings are known to be tightest on both, and the
+ * same triggers spare; where it is not known they often are.
  */
 int make_related(struct random *random, const struct tables *tables, struct text *text);
 

@@ -99,6 +99,7 @@ struct draft {
     struct line lines[LINES];
     int count;
     int m, n;
+    int idle;            /* triggers that lose all entries, bit 0 for trigger 1; some get one back */
     int64_t times[MOST]; /* rules are drawn so that these keep them, or anyhow */
 };
 
@@ -162,6 +163,14 @@ static int is_absent(const struct item_text *item)
     return strcmp(item->text, "-") == 0;
 }
 
+static void all_absent_in(struct line *line)
+{
+    int j;
+    for (j = 0; line != NULL && j < line->count; j++) {
+        set_item(line, j, "-");
+    }
+}
+
 /* The place of the i-th line of those with a key, or -1. */
 static int place_of(const struct draft *draft, const char *key, int i)
 {
@@ -181,7 +190,7 @@ static struct line *line_of(struct draft *draft, const char *key, int i)
     return at < 0 ? NULL : &draft->lines[at];
 }
 
-/* ---- Good sheets */
+/* ---- Good sheets: entries and rules */
 
 /* How entries are drawn: within +-size, percents of absent ones, and whether nearly all are at the limits. */
 struct manner {
@@ -309,6 +318,128 @@ static void add_tied(struct random *random, struct draft *draft, const struct ma
     }
 }
 
+/* ---- Idle triggers: with no entry left they are spare, with one they are not */
+
+static int is_idle(const struct draft *draft, int trigger)
+{
+    return draft->idle >> trigger & 1;
+}
+
+/* One trigger at any place, some, or all; but for one that is left in use. */
+static int draw_idle(struct random *random, int n)
+{
+    int all = (1 << n) - 1, in_use = 1 << below(random, n);
+    switch (below(random, 3)) {
+    case 0:
+        return 1 << below(random, n) & ~in_use;
+    case 1:
+        return below(random, all + 1) & ~in_use;
+    default:
+        return all & ~in_use;
+    }
+}
+
+/* Idle triggers lose their lags. A panel that they alone reached is reached by the first of the others. */
+static void take_lags(struct draft *draft)
+{
+    int in_use = 0, i, j;
+    while (is_idle(draft, in_use)) {
+        in_use++;
+    }
+    for (i = 0; i < draft->m; i++) {
+        struct line *lags = line_of(draft, "lag=", i);
+        for (j = 0; j < draft->n; j++) {
+            if (is_idle(draft, j) && !is_absent(&lags->items[j])) {
+                lags->items[in_use] = is_absent(&lags->items[in_use]) ? lags->items[j] : lags->items[in_use];
+                set_item(lags, j, "-");
+            }
+        }
+    }
+}
+
+/* Idle triggers lose the rules that hold them or others behind them. A row of minus signs in the land lines is left. */
+static void take_rules(struct draft *draft)
+{
+    int i, j;
+    for (j = 0; j < draft->n; j++) {
+        if (is_idle(draft, j)) {
+            all_absent_in(line_of(draft, "after=", j));
+            all_absent_in(line_of(draft, "land=", j));
+            for (i = 0; i < draft->n; i++) {
+                set_item(line_of(draft, "after=", i), j, "-");
+            }
+        }
+    }
+}
+
+/* Some of the due marks that are to count for nothing are far off. */
+static void move_due(struct random *random, struct draft *draft)
+{
+    static const int64_t FAR_OFF[] = {LIMIT, -LIMIT, 1000, -1000};
+    int j;
+    for (j = 0; j < draft->n; j++) {
+        if (is_idle(draft, j) && chance(random, 50)) {
+            set_number(line_of(draft, "due=", 0), j, FAR_OFF[below(random, COUNT_OF(FAR_OFF))]);
+        }
+    }
+}
+
+/* An entry that the draft's times keep, where it is within the limits. */
+static void set_entry(struct line *line, int at, int64_t entry)
+{
+    if (entry >= -LIMIT && entry <= LIMIT) {
+        set_number(line, at, entry);
+    }
+}
+
+/* Land lines without a rule, where there are none. */
+static void add_no_land(struct draft *draft)
+{
+    while (line_of(draft, "land=", draft->n - 1) == NULL) {
+        struct line *line = add_line(draft, "land=");
+        while (line->count < draft->m) {
+            add_absent(line);
+        }
+    }
+}
+
+/* One entry for a trigger that has none: an after entry on the diagonal, in its row or its column, a land entry, or a lag. */
+static void give_entry(struct random *random, struct draft *draft, int trigger)
+{
+    int other = below(random, draft->n), panel = below(random, draft->m);
+    int64_t slack = below(random, 3), behind = draft->times[trigger] - draft->times[other];
+    switch (below(random, 5)) {
+    case 0:
+        set_entry(line_of(draft, "after=", trigger), trigger, chance(random, 70) ? 0 : -slack);
+        break;
+    case 1:
+        set_entry(line_of(draft, "after=", trigger), other, behind - slack);
+        break;
+    case 2:
+        set_entry(line_of(draft, "after=", other), trigger, -behind - slack);
+        break;
+    case 3:
+        add_no_land(draft);
+        set_entry(line_of(draft, "land=", trigger), panel, draft->times[trigger] - landing(draft, panel) - slack);
+        break;
+    default:
+        set_entry(line_of(draft, "lag=", panel), trigger, landing(draft, panel) - draft->times[trigger] - slack);
+    }
+}
+
+/* Some idle triggers get an entry, so that they are idle no more: nor is another trigger that such a rule names. */
+static void use_some(struct random *random, struct draft *draft)
+{
+    int j;
+    for (j = 0; j < draft->n; j++) {
+        if (is_idle(draft, j) && chance(random, 20)) {
+            give_entry(random, draft, j);
+        }
+    }
+}
+
+/* ---- Good sheets, whole */
+
 static void make_draft(struct random *random, struct draft *draft)
 {
     static const int64_t SIZES[] = {1, 1, 2, 3, 9, 400, 2000, LIMIT};
@@ -324,6 +455,7 @@ static void make_draft(struct random *random, struct draft *draft)
     memset(draft, 0, sizeof *draft);
     draft->m = 1 + below(random, MOST);
     draft->n = 1 + below(random, MOST);
+    draft->idle = chance(random, 35) ? draw_idle(random, draft->n) : 0;
     for (i = 0; i < draft->n; i++) {
         draft->times[i] = between(random, -manner.size / 2, manner.size / 2);
     }
@@ -338,6 +470,8 @@ static void make_draft(struct random *random, struct draft *draft)
         add_row(random, draft, "floor=", &manner, draft->m, manner.no_floor, 1);
         add_row(random, draft, "due=", &manner, draft->n, 0, 0);
     }
+    take_lags(draft);
+    move_due(random, draft);
     if (chance(random, 90)) {
         add_kept(random, draft, "after=", &manner, draft->times, draft->n, manner.no_after);
     } else {
@@ -346,6 +480,8 @@ static void make_draft(struct random *random, struct draft *draft)
     if (chance(random, 50)) {
         add_land(random, draft, &manner);
     }
+    take_rules(draft);
+    use_some(random, draft);
 }
 
 /* ---- Faults of chosen kinds */
@@ -375,6 +511,19 @@ static void set_any(struct random *random, struct line *line, const char *text)
     }
 }
 
+/* A due mark that is absent or beyond the limit, that of a spare trigger too, which is read as any other. */
+static void wrong_due(struct random *random, struct draft *draft)
+{
+    struct line *due = line_of(draft, "due=", 0);
+    int j = below(random, draft->n);
+    while (draft->idle != 0 && chance(random, 90) && !is_idle(draft, j)) {
+        j = below(random, draft->n);
+    }
+    if (due != NULL) {
+        set_item(due, j, chance(random, 70) ? "-" : BEYOND[below(random, COUNT_OF(BEYOND))]);
+    }
+}
+
 static void wrong_key(struct random *random, struct line *line)
 {
     size_t length = strlen(line->key), at;
@@ -398,14 +547,6 @@ static void wrong_key(struct random *random, struct line *line)
             at = (size_t)below(random, (int)length);
             line->key[at] = (char)between(random, 1, 127);
         }
-    }
-}
-
-static void all_absent_in(struct line *line)
-{
-    int j;
-    for (j = 0; line != NULL && j < line->count; j++) {
-        set_item(line, j, "-");
     }
 }
 
@@ -512,6 +653,10 @@ static void add_fault(struct random *random, struct draft *draft)
 {
     struct line *line = any_line(random, draft);
     int at = below(random, draft->count), end;
+    if (draft->idle != 0 && chance(random, 20)) {
+        wrong_due(random, draft);
+        return;
+    }
     switch (below(random, 22)) {
     case 0:
         wrong_key(random, line);
@@ -566,7 +711,7 @@ static void add_fault(struct random *random, struct draft *draft)
         set_any(random, line, "-");
         break;
     case 14:
-        set_any(random, line_of(draft, "due=", 0), "-");
+        wrong_due(random, draft);
         break;
     case 15:
         all_absent_in(line_of(draft, "lag=", below(random, draft->m)));

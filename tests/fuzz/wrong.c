@@ -5,9 +5,13 @@
 #include <stdlib.h>
 #include <string.h>
 
+#include "meaning.h"
+#include "reader.h"
+#include "spares.h"
 #include "tuzhelar.h"
+#include "writer.h"
 
-#define FAULTS 54
+#define FAULTS 79
 
 uint32_t __real_tuzhelar_plan(const uint8_t *sheet, size_t sheet_length, int32_t *space, size_t space_length, int64_t *answer,
                               size_t answer_length);
@@ -29,6 +33,15 @@ uint32_t __wrap_tuzhelar_latest(const uint8_t *sheet, size_t sheet_length, const
                                 size_t space_length, int64_t *answer, size_t answer_length);
 
 static volatile uint8_t read_byte;
+
+/*
+ * Reads a byte of a sheet that may not be read. The library is compiled without the sanitizer, and so is this: else the run would end where a
+ * sheet does not lie in guarded memory, before it can say which one it is.
+ */
+__attribute__((no_sanitize_address)) static void touch(const uint8_t *byte)
+{
+    read_byte = *byte;
+}
 
 static int fault(int number)
 {
@@ -88,11 +101,152 @@ static int is_good(const uint8_t *sheet, size_t length)
     return number == TUZHELAR_DONE || number == TUZHELAR_ORDER;
 }
 
-/* The sheet that a function works on which forgets land rules: all functions do, or the one whose own fault is named. */
-static const uint8_t *worked_on(int own, uint8_t *copy, const uint8_t *sheet, size_t *length)
+/* ---- Spare triggers */
+
+/* Those of a sheet, bit 0 for trigger 1; none of one that is refused. */
+static int spares_of(const uint8_t *sheet, size_t length)
+{
+    struct tables tables;
+    return read_tables(sheet, length, &tables) == 0 ? spares(&tables) : 0;
+}
+
+/* A sheet of changed tables. Returns its length. */
+static size_t write_copy(uint8_t *copy, const struct tables *tables)
+{
+    struct text text;
+    write_tables(tables, 0, &text);
+    memcpy(copy, text.bytes, text.length);
+    return text.length;
+}
+
+/* A copy of a good sheet in which no trigger is spare. Returns its length. */
+static size_t use_all(uint8_t *copy, const uint8_t *sheet, size_t length)
+{
+    struct tables tables;
+    read_tables(sheet, length, &tables);
+    tables = all_in_use(&tables);
+    return write_copy(copy, &tables);
+}
+
+/* The triggers that are spare where one kind of entry is not looked at: in the column, on the diagonal, in the row, or of the land lines. */
+static int overlooking(const struct tables *tables, int kind)
+{
+    int byte = 0, i, j;
+    for (j = 0; j < tables->triggers; j++) {
+        struct tables fewer = *tables;
+        for (i = 0; i < MOST; i++) {
+            fewer.after[i][j] = kind == 0 && i != j ? NONE : fewer.after[i][j];
+            fewer.after[j][i] = (kind == 1 && i == j) || (kind == 2 && i != j) ? NONE : fewer.after[j][i];
+            fewer.land[j][i] = kind == 3 ? NONE : fewer.land[j][i];
+        }
+        byte |= is_spare(&fewer, j) << j;
+    }
+    return byte;
+}
+
+/* A copy of a good sheet without the after entries in the columns of triggers that have no others. Returns its length. */
+static size_t forget_columns(uint8_t *copy, const uint8_t *sheet, size_t length)
+{
+    struct tables tables;
+    int byte, i, j;
+    read_tables(sheet, length, &tables);
+    byte = overlooking(&tables, 0);
+    for (j = 0; j < tables.triggers; j++) {
+        for (i = 0; i < MOST; i++) {
+            tables.after[i][j] = byte >> j & 1 ? NONE : tables.after[i][j];
+        }
+    }
+    return write_copy(copy, &tables);
+}
+
+/* The spare triggers that planning gives. */
+static int wrong_byte(const uint8_t *sheet, size_t length, int byte)
+{
+    struct tables tables;
+    int kind;
+    read_tables(sheet, length, &tables);
+    for (kind = 0; kind < 4; kind++) {
+        if (fault(60 + kind)) {
+            return overlooking(&tables, kind);
+        }
+    }
+    if (fault(64) && before_land(sheet, length) < length) {
+        return 0; /* a land row of minus signs makes a trigger not spare */
+    }
+    if (fault(65)) {
+        return (1 << tables.triggers) - 1 - byte; /* the others */
+    }
+    return byte;
+}
+
+/* Faults of the lines on a sheet with spare triggers. */
+static void wrong_line(int spare, int32_t *line)
+{
+    int32_t packed[TUZHELAR_MOST];
+    int count = 0, j;
+    for (j = 0; j < line[0]; j++) {
+        if (spare >> j & 1) {
+            line[1 + j] = fault(77) ? 0 : line[1 + j]; /* a component for one that is spare */
+        } else {
+            packed[count++] = line[1 + j];
+        }
+    }
+    for (j = 0; fault(69) && j < line[0]; j++) {
+        line[1 + j] = j < count ? packed[j] : TUZHELAR_ABSENT; /* components moved together */
+    }
+    if (fault(68)) {
+        line[0] = count; /* spare triggers not counted */
+    }
+}
+
+/* Bits moved together over those of spare triggers. */
+static int64_t packed_byte(int spare, int64_t byte)
+{
+    int64_t packed = 0;
+    int count = 0, j;
+    for (j = 0; j < TUZHELAR_MOST; j++) {
+        if ((spare >> j & 1) == 0) {
+            packed |= (byte >> j & 1) << count++;
+        }
+    }
+    return packed;
+}
+
+/* Whether a sheet is good but for due marks of spare triggers that are absent. */
+static int lacks_spare_due(const uint8_t *sheet, size_t length)
+{
+    uint8_t copy[TUZHELAR_SHEET_BYTES];
+    size_t at = 0;
+    int lacking = 0, j = 0;
+    memcpy(copy, sheet, length);
+    while (at + 5 < length && memcmp(sheet + at, "\ndue=", 5) != 0) {
+        at++;
+    }
+    for (at += 5; at + 1 < length && sheet[at] != '\n'; at++) {
+        if (sheet[at] == '-' && (sheet[at + 1] == ',' || sheet[at + 1] == '\n')) {
+            copy[at] = '0';
+            lacking |= 1 << j;
+        }
+        j += sheet[at] == ',';
+    }
+    return lacking != 0 && (lacking & ~spares_of(copy, length)) == 0;
+}
+
+/* ---- What is forgotten or misread of a sheet */
+
+/* The sheet that a function works on which forgets land rules or spare triggers: all functions do, or the one whose own fault is named. */
+static const uint8_t *worked_on(int own_land, int own_spares, uint8_t *copy, const uint8_t *sheet, size_t *length)
 {
     size_t first = 0;
-    if ((!fault(45) && !fault(46) && !fault(own)) || !is_good(sheet, *length)) {
+    if ((fault(55) || fault(own_spares)) && is_good(sheet, *length)) {
+        *length = use_all(copy, sheet, *length);
+        return copy;
+    }
+    if (fault(79) && is_good(sheet, *length)) {
+        *length = forget_columns(copy, sheet, *length);
+        return copy;
+    }
+    if ((!fault(45) && !fault(46) && !fault(own_land)) || !is_good(sheet, *length)) {
         return sheet;
     }
     if (fault(46)) {
@@ -125,10 +279,10 @@ static uint32_t reading_land(const uint8_t *sheet, size_t length, uint32_t numbe
 static uint32_t reading(const uint8_t *sheet, size_t length, uint32_t number)
 {
     if (fault(1) && length > 0) {
-        read_byte = sheet[length]; /* a byte past the end */
+        touch(sheet + length); /* a byte past the end */
     }
     if (fault(2) && length > 0) {
-        read_byte = sheet[-1]; /* a byte before the start */
+        touch(sheet - 1); /* a byte before the start */
     }
     if (fault(3) && number == TUZHELAR_SIZE) {
         return TUZHELAR_FORM;
@@ -142,7 +296,29 @@ static uint32_t reading(const uint8_t *sheet, size_t length, uint32_t number)
     if (fault(6) && length == TUZHELAR_SHEET_BYTES) {
         return TUZHELAR_TOO_LONG;
     }
+    if (fault(76) && number == TUZHELAR_NO_DUE && lacks_spare_due(sheet, length)) {
+        return TUZHELAR_DONE; /* a spare trigger needs no due mark */
+    }
     return reading_land(sheet, length, number);
+}
+
+/* Faults of planning on a sheet with spare triggers, in its lines and its answer. */
+static void plan_spares(const uint8_t *sheet, size_t length, uint32_t number, int32_t *space, int64_t *answer, size_t answer_length)
+{
+    int spare = spares_of(sheet, length);
+    int64_t i;
+    if (number == TUZHELAR_DONE && answer_length > 4 && !fault(55)) {
+        answer[4] = wrong_byte(sheet, length, fault(56) || fault(79) ? spare : (int)answer[4]); /* these two are seen without it */
+    }
+    for (i = 0; spare != 0 && number == TUZHELAR_DONE && answer_length > 3 && i < answer[3]; i++) {
+        wrong_line(spare, space + TUZHELAR_LINE_WORDS * i);
+    }
+    if (fault(66) && number == TUZHELAR_SPACE && answer_length > 4) {
+        answer[4] = spare; /* 9 gives more than the count */
+    }
+    if (fault(67) && number == TUZHELAR_ORDER && answer_length > 4) {
+        answer[4] = 0;
+    }
 }
 
 uint32_t __wrap_tuzhelar_plan(const uint8_t *sheet, size_t sheet_length, int32_t *space, size_t space_length, int64_t *answer,
@@ -150,7 +326,7 @@ uint32_t __wrap_tuzhelar_plan(const uint8_t *sheet, size_t sheet_length, int32_t
 {
     uint8_t copy[TUZHELAR_SHEET_BYTES];
     size_t length = sheet_length;
-    const uint8_t *work = worked_on(47, copy, sheet, &length);
+    const uint8_t *work = worked_on(47, 56, copy, sheet, &length);
     uint32_t number = reading(sheet, sheet_length, __real_tuzhelar_plan(work, length, space, space_length, answer, answer_length));
     int done = number == TUZHELAR_DONE, i;
     if (fault(7) && done) {
@@ -162,8 +338,8 @@ uint32_t __wrap_tuzhelar_plan(const uint8_t *sheet, size_t sheet_length, int32_t
     if (fault(9) && number == TUZHELAR_ORDER && answer_length > 0) {
         answer[0] = 0;
     }
-    if (fault(10) && done && answer_length > 4) {
-        answer[4] = 0; /* a word too many */
+    if (fault(10) && done && answer_length > TUZHELAR_PLAN_WORDS) {
+        answer[TUZHELAR_PLAN_WORDS] = 0; /* a word too many */
     }
     if (fault(11) && done && answer_length > 3 && (size_t)answer[3] * TUZHELAR_LINE_WORDS == space_length) {
         return TUZHELAR_SPACE; /* full too early */
@@ -189,6 +365,7 @@ uint32_t __wrap_tuzhelar_plan(const uint8_t *sheet, size_t sheet_length, int32_t
     if (fault(15) && number == TUZHELAR_ORDER) {
         return TUZHELAR_DONE;
     }
+    plan_spares(sheet, sheet_length, number, space, answer, answer_length);
     return number;
 }
 
@@ -196,8 +373,9 @@ uint32_t __wrap_tuzhelar_kept(const uint8_t *sheet, size_t sheet_length, int64_t
 {
     uint8_t copy[TUZHELAR_SHEET_BYTES];
     size_t length = sheet_length;
-    const uint8_t *work = worked_on(48, copy, sheet, &length);
+    const uint8_t *work = worked_on(48, 0, copy, sheet, &length);
     uint32_t number = reading(sheet, sheet_length, __real_tuzhelar_kept(work, length, answer, answer_length));
+    size_t at;
     if (fault(16) && number == TUZHELAR_DONE && answer_length > 0) {
         answer[0]++; /* not the least deviation */
     }
@@ -206,6 +384,9 @@ uint32_t __wrap_tuzhelar_kept(const uint8_t *sheet, size_t sheet_length, int64_t
     }
     if (fault(18) && number == TUZHELAR_ORDER) {
         return TUZHELAR_DONE;
+    }
+    for (at = 4; fault(70) && number == TUZHELAR_DONE && at < answer_length && at < TUZHELAR_KEPT_WORDS; at += 2) {
+        answer[at] = packed_byte(spares_of(sheet, sheet_length), answer[at]); /* kept bits moved together */
     }
     return number;
 }
@@ -225,11 +406,22 @@ static uint32_t filled_up(const uint8_t *sheet, size_t sheet_length, const int64
     return number;
 }
 
+/* Times of spare triggers that are not looked at, be they beyond the limit. */
+static uint32_t without_spares_times(const uint8_t *sheet, size_t sheet_length, const int64_t *times, size_t times_length)
+{
+    int64_t others[TUZHELAR_MOST] = {0};
+    size_t j;
+    for (j = 0; j < times_length; j++) {
+        others[j] = spares_of(sheet, sheet_length) >> j & 1 ? 0 : times[j];
+    }
+    return __real_tuzhelar_test(sheet, sheet_length, others, times_length);
+}
+
 uint32_t __wrap_tuzhelar_test(const uint8_t *sheet, size_t sheet_length, const int64_t *times, size_t times_length)
 {
     uint8_t copy[TUZHELAR_SHEET_BYTES];
     size_t length = sheet_length;
-    const uint8_t *work = worked_on(49, copy, sheet, &length);
+    const uint8_t *work = worked_on(49, 57, copy, sheet, &length);
     uint32_t number = reading(sheet, sheet_length, __real_tuzhelar_test(work, length, times, times_length));
     if (fault(19) && number == TUZHELAR_NO) {
         return TUZHELAR_YES;
@@ -249,6 +441,25 @@ uint32_t __wrap_tuzhelar_test(const uint8_t *sheet, size_t sheet_length, const i
     if (fault(24) && times_length > TUZHELAR_MOST) {
         read_byte = (uint8_t)times[0]; /* times that are too many are read */
     }
+    if (fault(75) && number == TUZHELAR_TIME) {
+        return without_spares_times(sheet, sheet_length, times, times_length);
+    }
+    return number;
+}
+
+/* Faults of comparing sheets of which not the same triggers are spare. */
+static uint32_t same_spares(uint32_t number, const int64_t *before, int32_t *left, int64_t *answer, size_t answer_length)
+{
+    size_t i;
+    if (fault(73)) {
+        return TUZHELAR_DIFFERENT; /* their lists compared */
+    }
+    for (i = 0; fault(74) && i < TUZHELAR_SAME_WORDS && i < answer_length; i++) {
+        answer[i] = before[i]; /* no counts */
+    }
+    if (fault(78)) {
+        left[0] = 0; /* no list */
+    }
     return number;
 }
 
@@ -257,7 +468,8 @@ uint32_t __wrap_tuzhelar_same(const uint8_t *first, size_t first_length, const u
 {
     uint8_t copy[TUZHELAR_SHEET_BYTES], other[TUZHELAR_SHEET_BYTES];
     size_t length = first_length, other_length = second_length;
-    const uint8_t *work = worked_on(51, copy, first, &length), *other_work = worked_on(51, other, second, &other_length);
+    const uint8_t *work = worked_on(51, 59, copy, first, &length), *other_work = worked_on(51, 59, other, second, &other_length);
+    int64_t before[TUZHELAR_SAME_WORDS] = {answer_length > 0 ? answer[0] : 0, answer_length > 1 ? answer[1] : 0};
     uint32_t number = __real_tuzhelar_same(work, length, other_work, other_length, left, left_length, right, right_length, answer,
                                            answer_length);
     int written = number >= TUZHELAR_SAME && number <= TUZHELAR_UNLIKE;
@@ -290,16 +502,37 @@ uint32_t __wrap_tuzhelar_same(const uint8_t *first, size_t first_length, const u
         right[right_length] = 0; /* a word past the right space */
     }
     if (fault(33) && second_length > 0) {
-        read_byte = second[second_length]; /* a byte past the second sheet */
+        touch(second + second_length); /* a byte past the second sheet */
+    }
+    if (number == TUZHELAR_UNLIKE && left[0] == right[0]) { /* by the spare triggers alone */
+        return same_spares(number, before, left, answer, answer_length);
     }
     return number;
 }
 
-/* Faults of the latest times that were found. */
-static void wrong_times(const int64_t *times, size_t n, int32_t *space, int64_t *answer)
+/* The latest of the times that are found for triggers that are not spare. */
+static int64_t latest_of_others(int spare, size_t n, const int64_t *found)
 {
+    int64_t latest = INT64_MIN;
     size_t j;
     for (j = 0; j < n; j++) {
+        latest = (spare >> j & 1) == 0 && found[j] > latest ? found[j] : latest;
+    }
+    return latest;
+}
+
+/* Faults of the latest times that were found. */
+static void wrong_times(int spare, const int64_t *times, size_t n, int32_t *space, int64_t *answer)
+{
+    int64_t latest = latest_of_others(spare, n, answer + 1);
+    size_t j;
+    for (j = 0; j < n; j++) {
+        if (fault(71) && (spare >> j & 1)) {
+            answer[1 + j] = 0; /* a spare trigger's as an unused one */
+        }
+        if (fault(72) && (spare >> j & 1) && answer[1 + j] > latest) {
+            answer[1 + j] = latest; /* a spare trigger's brought to the others */
+        }
         if (fault(34)) {
             answer[1 + j] = times[j]; /* the times that were given */
         }
@@ -326,11 +559,11 @@ uint32_t __wrap_tuzhelar_latest(const uint8_t *sheet, size_t sheet_length, const
 {
     uint8_t copy[TUZHELAR_SHEET_BYTES];
     size_t length = sheet_length;
-    const uint8_t *work = worked_on(50, copy, sheet, &length);
+    const uint8_t *work = worked_on(50, 58, copy, sheet, &length);
     uint32_t number = reading(sheet, sheet_length, __real_tuzhelar_latest(work, length, times, times_length, space, space_length, answer,
                                                                           answer_length));
     if (number == TUZHELAR_DONE && answer_length >= TUZHELAR_LATEST_WORDS) {
-        wrong_times(times, times_length, space, answer);
+        wrong_times(spares_of(sheet, sheet_length), times, times_length, space, answer);
     }
     if (fault(40) && number == TUZHELAR_SPACE && answer_length > 1) {
         answer[1] = 0; /* 9 gives more than the count */

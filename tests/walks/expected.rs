@@ -1,5 +1,6 @@
 //! What crates/walk_cases has to write, worked out literally by document 01, steps 1 to 6: the walk is a
 //! recursion that restores the entries, and every state's w is made afresh from the panels fixed in it.
+//! By document 02's No. 4 the walk has the triggers that are not spare, counted among themselves.
 //!   expected CASES          writes the text
 //!   expected CASES STORED   compares it with the stored one, line by line; the last line is: N passed, M failed
 
@@ -53,6 +54,32 @@ fn sheet(text: &str) -> Sheet {
         } else {
             land
         },
+    }
+}
+
+impl Sheet {
+    /// "no lag to any panel, no present after entry in its row or column, and no present land entry in its
+    /// row"
+    fn is_spare(&self, j: usize) -> bool {
+        let no_row = |table: &Table| table[j].iter().all(Option::is_none);
+        let no_column = |table: &Table| table.iter().all(|row| row[j].is_none());
+        no_column(&self.lag) && no_row(&self.after) && no_column(&self.after) && no_row(&self.land)
+    }
+
+    /// "Plans are worked out over the others."
+    fn of_the_others(&self) -> Sheet {
+        let places: Vec<usize> = (0..self.triggers).filter(|&j| !self.is_spare(j)).collect();
+        let items = |row: &Vec<Entry>| places.iter().map(|&j| row[j]).collect();
+        let rows = |table: &Table| -> Table { places.iter().map(|&j| table[j].clone()).collect() };
+        Sheet {
+            panels: self.panels,
+            triggers: places.len(),
+            lag: self.lag.iter().map(items).collect(),
+            floor: self.floor.clone(),
+            due: places.iter().map(|&j| self.due[j]).collect(),
+            after: rows(&self.after).iter().map(items).collect(),
+            land: rows(&self.land),
+        }
     }
 }
 
@@ -259,7 +286,7 @@ impl Walk<'_> {
 
 /// Every state of the walk of a sheet, or its refusal.
 fn walked(text: &str) -> String {
-    let cue = match cue(sheet(text)) {
+    let cue = match cue(sheet(text).of_the_others()) {
         Ok(cue) => cue,
         Err(refusal) => return format!("refused={refusal}\n"),
     };

@@ -1,12 +1,22 @@
 // What testing a timing refuses, with which every operation on a sheet and a timing begins; and then all that it is made from.
+ghost use mathlib.Core.Path.{_≡_};
+ghost use mathlib.Core.Bool.{Bool, false};
+ghost use Prim.Native.Nat.{ℕ};
+ghost use Rattle.maxplus.specs.Packing.{rank, place};
 ghost use Rattle.sheet.specs.Admitted.{admitted};
-ghost use Rattle.timing.specs.Times.{component};
+ghost use Rattle.sheet.specs.Times.{some-beyond};
+ghost use Rattle.timing.specs.Times.{component, TimingWords};
+ghost use Rattle.spares.specs.Using.{PlacesOf};
 ghost use Rattle.preparing.specs.Prepared.{PreparedAs};
 use preparing::Prepared;
 use preparing::not_prepared;
 use preparing::prepare;
+use spares::Places;
+use spares::picked;
 use timing::Timing;
 use timing::limit::beyond;
+use timing::times::words_of;
+use words::LineWords;
 
 // "Reading's, then 10: not n components; 11: one beyond ±1,000,000,000; then 8." Otherwise the lent tables are those that `prepare` makes.
 pub fn admit(
@@ -33,4 +43,19 @@ pub fn admit(
         return not_prepared(11);
     }
     prepare(reading, order, lag, star, gains, needs)
+}
+
+// The words of a timing's components at the triggers in use: "A tested timing may hold any permitted number" at the others.
+pub fn times_in_use(timing: Timing, p: Places) -> LineWords
+    requires { ⌜ ((s : ℕ → Bool) × (n : ℕ) × PlacesOf s n p × (some-beyond n (component (timing .at)) ≡ false)) ⌝ }
+    ensures { λ r. ⌜ ((s : ℕ → Bool) (n : ℕ) → PlacesOf s n p → some-beyond n (component (timing .at)) ≡ false →
+        TimingWords (rank s n) (λ k. component (timing .at) (place s n k)) r) ⌝ }
+{
+    let x = words_of(timing, p.triggers);
+    let at = x.at;
+    let times = picked(at, p);
+    LineWords {
+        count: p.count,
+        at: times,
+    }
 }

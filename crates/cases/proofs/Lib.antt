@@ -1,2 +1,5 @@
 -- Cases of the operations.
+pub mod Case
 pub mod Cases
+pub mod LandCases
+pub mod SpareCases

@@ -1,8 +1,8 @@
 -- Comparing two sheets: words one by one, what planning refuses with no room, and the answer by demand 3.
 use mathlib.Core.Path.{_≡_, refl, ap, sym, subst, _∙_}
-use mathlib.Core.Logic.{_↔_}
+use mathlib.Core.Logic.{_↔_, _⊎_, inl, inr}
 use mathlib.Core.List.{List}
-use mathlib.Core.Bool.{Bool, true, false, cond, not, decide}
+use mathlib.Core.Bool.{Bool, true, false, cond, not, _||_, decide}
 use Prim.Native.Nat.{ℕ, _+_, _*_, _/_, _≤_, _<_}
 use native.Mathlib.Numerals.{add-one}
 use native.Mathlib.Omega.{arith}
@@ -15,22 +15,25 @@ use lib.Dec.{leb, eqb}
 use lib.IntN.{ℤ, pos}
 use lib.ListN.{length, take, getD}
 use lib.Seq.{take-suc, getD-take}
+use Rattle.maxplus.specs.Finite.{byte-of}
 use Rattle.maxplus.specs.Line.{Line}
-use Rattle.cue.specs.Method.{lines}
 use Rattle.sheet.specs.Sheet.{Got, got, Sheet, read}
 use Rattle.sheet.specs.Sheet as sheet
 use Rattle.reading.proofs.Refusals.{refusal-numbered}
-use Rattle.sheet.specs.Cue.{cue-of, Orderly, orderly?}
+use Rattle.sheet.specs.Cue.{Orderly, orderly?, sheet-lines}
+use Rattle.trigger_sets.specs.Sets.{bit}
+use Rattle.trigger_sets.proofs.ByteLaws.{bit-at}
 use Rattle.tables.specs.Held.{Says}
 use Rattle.planning.specs.Planning.{PlanOutcome, planned, full, refused, plan-of, planning, space-after, plan-answer}
 use Rattle.sheet.specs.Ordered.{ordered}
 use Rattle.comparing.specs.Inner.{Refuses}
-use Rattle.planning.specs.Demands.{Planned, count-of}
+use Rattle.planning.specs.Demands.{Planned, count-of, TwoPlans}
 use Rattle.comparing.specs.Comparing.{Comparison, answer, unlike, first-refused, second-refused, comparing, compared-space}
 use Rattle.planning.specs.declared.CuePlan.{CuePlan}
 use Rattle.comparing.specs.declared.Refusal.{Refusal}
-use Rattle.planning.proofs.Demands.{known, demand-3}
+use Rattle.planning.proofs.Demands.{plan, known, demand-3}
 use Rattle.sheet.specs.Asked.{Alike}
+use Rattle.sheet.specs.Meaning.{SameSpares}
 use Rattle.sheet.proofs.Decided.{alike?}
 use Rattle.sheet.proofs.OrderedLaws.{ordered-by, ordered-refused}
 use Rattle.planning.proofs.PlanLaws.{planning-refused}
@@ -56,28 +59,28 @@ pub same-word : {x y : ℤ} → SFits w32 x → SFits w32 y → ofZ w32 x ≡ of
 same-word p q e = sym (toZ-ofZ p) ∙ ap (toZ w32) e ∙ toZ-ofZ q
 
 -- ---- what planning refuses, from what it answers with no room: the count is the same, and 9 stands only where the count is more than the room
-module _ (n : ℕ) (D : ℤ) (k l : ℕ) (L : List (Line n)) where
+module _ (n : ℕ) (spare : ℕ → Bool) (D : ℤ) (k l : ℕ) (L : List (Line n)) where
   abbrev with : ℕ → CuePlan
-  with room = plan-answer (cond (leb (length L) room) (planned n D k l L) (full (length L)))
+  with room = plan-answer (cond (leb (length L) room) (planned n spare D k l L) (full (length L)))
 
   counted : (room : ℕ) → with room .count ≡ length L
   counted room = go (leb (length L) room)
     where
-      go : (b : Bool) → plan-answer (cond b (planned n D k l L) (full (length L))) .count ≡ length L
+      go : (b : Bool) → plan-answer (cond b (planned n spare D k l L) (full (length L))) .count ≡ length L
       go true = refl
       go false = refl
 
   room-for : (room : ℕ) → length L ≤ room → with room .refusal ≡ 0
   room-for room h = go (leb (length L) room) (leb-false (length L) room)
     where
-      go : (b : Bool) → (b ≡ false → room < length L) → plan-answer (cond b (planned n D k l L) (full (length L))) .refusal ≡ 0
+      go : (b : Bool) → (b ≡ false → room < length L) → plan-answer (cond b (planned n spare D k l L) (full (length L))) .refusal ≡ 0
       go true f = refl
       go false f = let q = f refl in let x : ⊥ = omega arith in absurd x
 
   no-room-for : (room : ℕ) → room < length L → with room .refusal ≡ 9
   no-room-for room h = go (leb (length L) room) (leb-true (length L) room)
     where
-      go : (b : Bool) → (b ≡ true → length L ≤ room) → plan-answer (cond b (planned n D k l L) (full (length L))) .refusal ≡ 9
+      go : (b : Bool) → (b ≡ true → length L ≤ room) → plan-answer (cond b (planned n spare D k l L) (full (length L))) .refusal ≡ 9
       go true f = let q = f refl in let x : ⊥ = omega arith in absurd x
       go false f = refl
 
@@ -93,9 +96,9 @@ module _ (g : Got Sheet) (p : CuePlan) (e : p ≡ plan-answer (plan-of 0 g)) (ro
           Refuses (record { number = 0; count = p .count }) (plan-answer (plan-of room g))
       go (sheet.refused k) e h f = let x : ⊥ = omega (arith, ap (λ (p : CuePlan). p .count) e) in absurd x
       go (got t r) e h f =
-          let L = lines (t .triggers) (cue-of t) in
-          let c = ap (λ (p : CuePlan). p .count) e ∙ counted (t .triggers) _ _ _ L 0 in
-          record { number = sym (room-for (t .triggers) _ _ _ L room (omega arith)); count = c ∙ sym (counted (t .triggers) _ _ _ L room) }
+          let L = sheet-lines t in
+          let c = ap (λ (p : CuePlan). p .count) e ∙ counted (t .triggers) _ _ _ _ L 0 in
+          record { number = sym (room-for (t .triggers) _ _ _ _ L room (omega arith)); count = c ∙ sym (counted (t .triggers) _ _ _ _ L room) }
 
   found-short : (0 < p .count → room < p .count) → Found (p .refusal)
   found-short = go g e
@@ -104,14 +107,14 @@ module _ (g : Got Sheet) (p : CuePlan) (e : p ≡ plan-answer (plan-of 0 g)) (ro
           Refuses (record { number = p .refusal; count = p .count }) (plan-answer (plan-of room g))
       go (sheet.refused k) e f = record { number = ap (λ (p : CuePlan). p .refusal) e; count = ap (λ (p : CuePlan). p .count) e }
       go (got t r) e f =
-          let L = lines (t .triggers) (cue-of t) in
-          let c = ap (λ (p : CuePlan). p .count) e ∙ counted (t .triggers) _ _ _ L 0 in
+          let L = sheet-lines t in
+          let c = ap (λ (p : CuePlan). p .count) e ∙ counted (t .triggers) _ _ _ _ L 0 in
           record {
             number = ap (λ (p : CuePlan). p .refusal) e ∙ elim (decLt 0 (length L)) [
-              | yes h ↦ no-room-for (t .triggers) _ _ _ L 0 h ∙ sym (no-room-for (t .triggers) _ _ _ L room (let q = f (omega arith) in omega arith))
-              | no h ↦ room-for (t .triggers) _ _ _ L 0 (omega arith) ∙ sym (room-for (t .triggers) _ _ _ L room (omega arith))
+              | yes h ↦ no-room-for (t .triggers) _ _ _ _ L 0 h ∙ sym (no-room-for (t .triggers) _ _ _ _ L room (let q = f (omega arith) in omega arith))
+              | no h ↦ room-for (t .triggers) _ _ _ _ L 0 (omega arith) ∙ sym (room-for (t .triggers) _ _ _ _ L room (omega arith))
             ];
-            count = c ∙ sym (counted (t .triggers) _ _ _ L room);
+            count = c ∙ sym (counted (t .triggers) _ _ _ _ L room);
           }
 
 module _ (s : List ℕ) (none : List ℤ) (few : length none / line-size ≡ 0) (p : CuePlan) (e : p ≡ plan-answer (planning s none)) (words : ℕ)
@@ -132,6 +135,10 @@ module _ (s : List ℕ) (none : List ℤ) (few : length none / line-size ≡ 0) 
       Refuses (record { number = p .refusal; count = p .count }) (plan-answer (planning s space))
   refused-short f = at-space (p .refusal) (found-short (ordered s) p at-none (words / line-size) f)
 
+-- ---- equal bytes are of the same triggers
+same-bits : (n m : ℕ) (a b : ℕ → Bool) → n ≤ 6 → n ≡ m → byte-of n a ≡ byte-of m b → (j : ℕ) → j < n → a j ≡ b j
+same-bits n m a b h e f j q = sym (bit-at n a j h q) ∙ ap (λ c. bit c j) f ∙ bit-at m b j (omega arith) (omega arith)
+
 -- ---- two sheets of which each is planned
 pub planned-read : (s : List ℕ) (space : List ℤ) → Planned (planning s space) → (t : Sheet) × (r : List ℕ) × (read s ≡ got t r)
 planned-read s space h = go (read s) refl
@@ -144,20 +151,20 @@ pub front-fits : (s : List ℕ) (space : List ℤ) → Planned (planning s space
 unfolding planning
 front-fits s space = go (ordered s)
   where
-    whole : (n : ℕ) (D : ℤ) (k l : ℕ) (L : List (Line n)) (b : Bool) → (b ≡ true → length L ≤ length space / line-size) →
-        Planned (cond b (planned n D k l L) (full (length L))) →
-        line-size * plan-answer (cond b (planned n D k l L) (full (length L))) .count ≤ length space
-    whole n D k l L true f h = let q = f refl in omega arith
-    whole n D k l L false f h = absurd h
+    whole : (n : ℕ) (spare : ℕ → Bool) (D : ℤ) (k l : ℕ) (L : List (Line n)) (b : Bool) → (b ≡ true → length L ≤ length space / line-size) →
+        Planned (cond b (planned n spare D k l L) (full (length L))) →
+        line-size * plan-answer (cond b (planned n spare D k l L) (full (length L))) .count ≤ length space
+    whole n spare D k l L true f h = let q = f refl in omega arith
+    whole n spare D k l L false f h = absurd h
 
     go : (g : Got Sheet) → Planned (plan-of (length space / line-size) g) →
         line-size * plan-answer (plan-of (length space / line-size) g) .count ≤ length space
     go (sheet.refused k) h = absurd h
-    go (got t r) h = whole _ _ _ _ (lines (t .triggers) (cue-of t)) (leb (length (lines (t .triggers) (cue-of t))) (length space / line-size))
-        (leb-true (length (lines (t .triggers) (cue-of t))) (length space / line-size)) h
+    go (got t r) h = whole _ _ _ _ _ (sheet-lines t) (leb (length (sheet-lines t)) (length space / line-size))
+        (leb-true (length (sheet-lines t)) (length space / line-size)) h
 
 accepted : (o : PlanOutcome) → Planned o → plan-answer o .refusal ≡ 0
-accepted (planned n D k l L) h = refl
+accepted (planned n spare D k l L) h = refl
 accepted (full k) h = absurd h
 accepted (refused k) h = absurd h
 
@@ -167,8 +174,11 @@ module _ (s₁ s₂ : List ℕ) (left right : List ℤ) (h₁ : Planned (plannin
   abbrev asked : Bool
   asked = decide (alike? s₁ s₂)
 
-  compared : (r : Comparison) → cond (not (eqb (P .triggers) (Q .triggers))) (unlike (P .count) (Q .count)) (answer asked (P .count) (Q .count)) ≡ r →
-      r ≡ comparing s₁ s₂ left right
+  -- the answer, by whether the numbers of triggers are equal and whether the bytes of the spares are
+  abbrev by-tests : Bool → Bool → Comparison
+  by-tests sizes spares = cond (not sizes || not spares) (unlike (P .count) (Q .count)) (answer asked (P .count) (Q .count))
+
+  compared : (r : Comparison) → by-tests (eqb (P .triggers) (Q .triggers)) (eqb (P .spares) (Q .spares)) ≡ r → r ≡ comparing s₁ s₂ left right
   unfolding comparing
   compared r h = sym (rw (← p, ← q)
       (rw (
@@ -176,11 +186,16 @@ module _ (s₁ s₂ : List ℕ) (left right : List ℤ) (h₁ : Planned (plannin
         ap (λ (p : CuePlan). p .refusal) q ∙ accepted (planning s₂ right) h₂,
       ) h))
 
-  pub unlike-answer : ¬ (P .triggers ≡ Q .triggers) → unlike (P .count) (Q .count) ≡ comparing s₁ s₂ left right
-  unlike-answer f = compared _ (rw (unequal (P .triggers) (Q .triggers) f) refl)
+  pub unlike-answer : ¬ (P .triggers ≡ Q .triggers) ⊎ ¬ (P .spares ≡ Q .spares) → unlike (P .count) (Q .count) ≡ comparing s₁ s₂ left right
+  unlike-answer (inl f) = compared _ (rw (unequal (P .triggers) (Q .triggers) f) refl)
+  unlike-answer (inr f) = compared _ (rw (unequal (P .spares) (Q .spares) f) (go (eqb (P .triggers) (Q .triggers))))
+    where
+      go : (sizes : Bool) → by-tests sizes false ≡ unlike (P .count) (Q .count)
+      go true = refl
+      go false = refl
 
   module _ (front back : List ℤ) (w₁ : front ≡ space-after (planning s₁ left) left) (w₂ : back ≡ space-after (planning s₂ right) right)
-      (k : P .triggers ≡ Q .triggers) where
+      (k : P .triggers ≡ Q .triggers) (b : P .spares ≡ Q .spares) where
     abbrev Equal : Type 0
     Equal = (P .count ≡ Q .count) × (take (line-size * P .count) front ≡ take (line-size * P .count) back)
 
@@ -197,21 +212,30 @@ module _ (s₁ s₂ : List ℕ) (left right : List ℤ) (h₁ : Planned (plannin
         go : (t : Sheet) × (r : List ℕ) × (read s₁ ≡ got t r) → (t : Sheet) × (r : List ℕ) × (read s₂ ≡ got t r) →
             Equal ↔ Alike (read s₁) (read s₂)
         go (t, m, e) (u, w, f) =
-            let x = ap (λ (p : CuePlan). p .triggers) p ∙ ap (λ o. plan-answer o .triggers) (known s₁ t m e left h₁ .plan-is) in
-            let y = ap (λ (p : CuePlan). p .triggers) q ∙ ap (λ o. plan-answer o .triggers) (known s₂ u w f right h₂ .plan-is) in
-            let same = sym x ∙ k ∙ y in
-            let d = demand-3 s₁ s₂ t u m w left right e f same h₁ h₂ in
+            let K₁ = known s₁ t m e left h₁ in
+            let K₂ = known s₂ u w f right h₂ in
+            let a₁ : P ≡ plan-answer (plan t) = p ∙ ap plan-answer (K₁ .plan-is) in
+            let a₂ : Q ≡ plan-answer (plan u) = q ∙ ap plan-answer (K₂ .plan-is) in
+            let size = sym (ap (λ (p : CuePlan). p .triggers) a₁) ∙ k ∙ ap (λ (p : CuePlan). p .triggers) a₂ in
+            let byte = sym (ap (λ (p : CuePlan). p .spares) a₁) ∙ b ∙ ap (λ (p : CuePlan). p .spares) a₂ in
+            let same : SameSpares t u = same-bits _ _ _ _ (K₁ .good .triggers-few) size byte in
+            let two : TwoPlans s₁ s₂ t u left right =
+            record { rest₁ = m; rest₂ = w; read₁ = e; read₂ = f; same-size = size; planned₁ = h₁; planned₂ = h₂ } in
+            let d = demand-3 s₁ s₂ t u left right two same in
             rw (e, f) (
-              λ q. (same, d .0 (sym c₁ ∙ q .0 ∙ c₂, cc (c₁, c₂))),
-              λ a. let l = d .1 (a .1) in (c₁ ∙ l .0 ∙ sym c₂, cc (c₁)),
+              λ q. (size, same, d .0 (sym c₁ ∙ q .0 ∙ c₂, cc (c₁, c₂))),
+              λ a. let l = d .1 (a .2) in (c₁ ∙ l .0 ∙ sym c₂, cc (c₁)),
             )
+
+    alike-answer : (a : Bool) → asked ≡ a → answer a (P .count) (Q .count) ≡ comparing s₁ s₂ left right
+    alike-answer a e = compared _ (rw (equal (P .triggers) (Q .triggers) k, equal (P .spares) (Q .spares) b, e) refl)
 
     pub same-answer : P .count ≡ Q .count → take (line-size * P .count) front ≡ take (line-size * P .count) back →
         answer true (P .count) (P .count) ≡ comparing s₁ s₂ left right
-    same-answer c e = compared _ (rw (equal (P .triggers) (Q .triggers) k, decided-yes (alike? s₁ s₂) (alike-by .0 (c, e)), ← c) refl)
+    same-answer c e = ap (answer true (P .count)) c ∙ alike-answer true (decided-yes (alike? s₁ s₂) (alike-by .0 (c, e)))
 
     pub different-answer : ¬ Equal → answer false (P .count) (Q .count) ≡ comparing s₁ s₂ left right
-    different-answer f = compared _ (rw (equal (P .triggers) (Q .triggers) k, decided-no (alike? s₁ s₂) (λ a. f (alike-by .1 a))) refl)
+    different-answer f = alike-answer false (decided-no (alike? s₁ s₂) (λ a. f (alike-by .1 a)))
 
 -- ---- a refusal, or none
 orderly-numbered : (s : List ℕ) (k : ℕ) → ordered s ≡ sheet.refused k → 1 ≤ k
@@ -229,15 +253,16 @@ pub none-refused : (s : List ℕ) (space : List ℤ) → plan-answer (planning s
 unfolding planning
 none-refused s space = go (ordered s) refl
   where
-    whole : (n : ℕ) (D : ℤ) (k l : ℕ) (L : List (Line n)) (b : Bool) → plan-answer (cond b (planned n D k l L) (full (length L))) .refusal ≡ 0 →
-        Planned (cond b (planned n D k l L) (full (length L)))
-    whole n D k l L true h = tt
-    whole n D k l L false h = let x : ⊥ = omega arith in absurd x
+    whole : (n : ℕ) (spare : ℕ → Bool) (D : ℤ) (k l : ℕ) (L : List (Line n)) (b : Bool) →
+        plan-answer (cond b (planned n spare D k l L) (full (length L))) .refusal ≡ 0 →
+        Planned (cond b (planned n spare D k l L) (full (length L)))
+    whole n spare D k l L true h = tt
+    whole n spare D k l L false h = let x : ⊥ = omega arith in absurd x
 
     go : (g : Got Sheet) → ordered s ≡ g → plan-answer (plan-of (length space / line-size) g) .refusal ≡ 0 →
         Planned (plan-of (length space / line-size) g)
     go (sheet.refused k) e h = let x : ⊥ = omega (arith, orderly-numbered s k e) in absurd x
-    go (got t r) e h = whole _ _ _ _ (lines (t .triggers) (cue-of t)) (leb (length (lines (t .triggers) (cue-of t))) (length space / line-size)) h
+    go (got t r) e h = whole _ _ _ _ _ (sheet-lines t) (leb (length (sheet-lines t)) (length space / line-size)) h
 
 module _ (o p : PlanOutcome) (space : List ℤ) where
   -- the space of a refused sheet, and the one beside it
@@ -246,11 +271,11 @@ module _ (o p : PlanOutcome) (space : List ℤ) where
   own-kept f = go o p f
     where
       go : (o p : PlanOutcome) → ¬ (plan-answer o .refusal ≡ 0) → space ≡ compared-space o p space
-      go (planned n D k l L) p f = absurd (f refl)
-      go (full c) (planned n D k l L) f = refl
+      go (planned n spare D k l L) p f = absurd (f refl)
+      go (full c) (planned n spare D k l L) f = refl
       go (full c) (full k) f = refl
       go (full c) (refused k) f = refl
-      go (refused c) (planned n D k l L) f = refl
+      go (refused c) (planned n spare D k l L) f = refl
       go (refused c) (full k) f = refl
       go (refused c) (refused k) f = refl
 
@@ -259,7 +284,7 @@ module _ (o p : PlanOutcome) (space : List ℤ) where
   other-kept f = go p f
     where
       go : (p : PlanOutcome) → ¬ (plan-answer p .refusal ≡ 0) → space ≡ compared-space o p space
-      go (planned n D k l L) f = absurd (f refl)
+      go (planned n spare D k l L) f = absurd (f refl)
       go (full k) f = refl
       go (refused k) f = refl
 
@@ -268,7 +293,7 @@ module _ (o p : PlanOutcome) (space : List ℤ) where
   both-written = go p
     where
       go : (p : PlanOutcome) → Planned p → space-after o space ≡ compared-space o p space
-      go (planned n D k l L) h = refl
+      go (planned n spare D k l L) h = refl
       go (full k) h = absurd h
       go (refused k) h = absurd h
 

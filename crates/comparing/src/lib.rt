@@ -12,8 +12,8 @@ ghost use Rattle.comparing.specs.Inner.{Refuses};
 use planning::plan;
 use words::LINE_SIZE;
 
-// Whether the same timings are tightest on two sheets, or that their numbers of triggers differ; with either go the numbers of lines written.
-// Or planning's refusal of the first sheet or of the second, with the count needed where it is 9.
+// Whether the same timings are tightest on two sheets, or that their numbers of triggers or their spares differ; with either go the numbers of
+// lines written. Or planning's refusal of the first sheet or of the second, with the count needed where it is 9.
 pub enum Compared {
     Same(usize),
     Different(usize, usize),
@@ -76,7 +76,7 @@ fn likened(first: &[u8], second: &[u8], left: &mut [i32], right: &mut [i32]) -> 
 {
     let p = plan(first, left);
     let q = plan(second, right);
-    if p.triggers != q.triggers {
+    if p.triggers != q.triggers || p.spares != q.spares {
         return Compared::Unlike(p.count, q.count);
     }
     if p.count == q.count && same_words(left, right, LINE_SIZE * p.count) {

@@ -24,7 +24,7 @@ each-few zero f h = omega arith
 each-few (suc n) f h = omega (arith, length-append (each n f) (f n), each-few n f h, h n)
 
 -- more triggers or more panels allow no fewer steps
-geometric-mono : (n m f : ℕ) → n ≤ m → geometric n f ≤ geometric m f
+pub geometric-mono : (n m f : ℕ) → n ≤ m → geometric n f ≤ geometric m f
 unfolding geometric
 geometric-mono n m zero h = omega arith
 geometric-mono n m (suc f) h = omega (arith, geometric-mono n m f h, pow-le-pow-left h (suc f))

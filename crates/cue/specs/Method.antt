@@ -77,12 +77,9 @@ module _ (n : ℕ) (P : Cue) where
     unfoldable pub kept : Entries
     kept i j = present? (floor i) && leqE (ask i ⊗ num (pull j)) (through i j)
 
-    -- "The kept triggers of a panel are given as six bits in a byte, bit 0 for trigger 1, and the number of bits set is reported with it."
+    -- "The kept triggers of a panel are given as six bits in a byte, bit 0 for trigger 1"
     unfoldable pub kept-byte : ℕ → ℕ
     kept-byte i = byte-of n (kept i)
-
-    unfoldable pub kept-count : ℕ → ℕ
-    kept-count i = sum n (λ j. countIf (kept i j) 1)
 
     unfoldable pub selections : List Selection
     selections = walk floor-panels kept

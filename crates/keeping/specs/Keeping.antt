@@ -6,10 +6,9 @@ use lib.Count.{ones}
 use lib.IntN.{ℤ, pos}
 use lib.ListN.{length, getD, replicate}
 use Rattle.maxplus.specs.Finite.{each}
-use Rattle.cue.specs.Method.{kept-byte, kept-count}
 use Rattle.cue.specs.Sizes.{six}
 use Rattle.sheet.specs.Sheet.{Got, got, Sheet, read}
-use Rattle.sheet.specs.Cue.{cue-size, cue-of, sheet-least, sheet-steps, sheet-selections, most-steps}
+use Rattle.sheet.specs.Cue.{sheet-least, sheet-byte, sheet-count, sheet-steps, sheet-selections, most-steps}
 use Rattle.sheet.specs.Ordered.{ordered}
 use Rattle.keeping.specs.declared.KeptTable.{KeptTable}
 use Rattle.sheet.specs.Sheet as sheet
@@ -22,10 +21,7 @@ pub data KeptOutcome : Type 0 where
 abbrev pub kept-of : Got Sheet → KeptOutcome
 kept-of (sheet.refused k) = refused k
 kept-of (got t r) =
-    let n = cue-size t in
-    let P = cue-of t in
-    let D = sheet-least t in
-    kept D (each (t .panels) (λ i. (kept-byte n P D i, kept-count n P D i) ∷ [])) (sheet-steps t) (sheet-selections t)
+    kept (sheet-least t) (each (t .panels) (λ i. (sheet-byte t i, sheet-count t i) ∷ [])) (sheet-steps t) (sheet-selections t)
 
 unfoldable pub keeping : List ℕ → KeptOutcome
 keeping s = kept-of (ordered s)

@@ -7,7 +7,8 @@ use native.Mathlib.Decide.{decLe}
 use lib.IntN.{ℤ, pos}
 use Rattle.maxplus.specs.Whole.{_+z_, neg, maxz}
 use Rattle.maxplus.specs.Entry.{_⊗_, _⊕_, inv, val}
-use Rattle.maxplus.specs.Finite.{each, mapL}
+use Rattle.maxplus.specs.Finite.{each, mapL, sum}
+use Rattle.maxplus.specs.Packing.{rank, place, filled, layout}
 use Rattle.maxplus.specs.Tables.{sup, supL, mv, mm, idm, power, star, normal}
 use Rattle.maxplus.specs.Line.{at, line}
 use Rattle.maxplus.specs.Sorted.{put, sift}
@@ -25,11 +26,12 @@ use Rattle.cue.specs.Method.{selections, need, seed, ray, candidate, candidates
 use Rattle.sheet.specs.Text.{bytes}
 use Rattle.sheet.specs.Sheet.{literal, value, behind, signed, item, ended, items, any, checked, rows, sections, optional, read}
 use Rattle.sheet.specs.Sheet as sheet
-use Rattle.sheet.specs.Cue.{order-table, orderly?}
+use Rattle.sheet.specs.Cue.{used, order-table, orderly?, sheet-lines}
 use Rattle.sheet.specs.Ordered.{ordered}
 use Rattle.sheet.specs.Admitted.{admitted}
 use Rattle.sheet.specs.Meaning.{Timing}
-use Rattle.sheet.proofs.Latest.{latest-exists}
+use Rattle.sheet.specs.Meaning.{spare}
+use Rattle.sheet.proofs.Latest.{latest-on, latest-exists}
 use Rattle.writing.specs.Numerals.{digits}
 use Rattle.writing.specs.Texts.{joined, latest-text, refusal-text, full-text}
 use Rattle.reaching.specs.Reaching.{full}
@@ -53,7 +55,8 @@ pub texts-hold : program-text whole 2 (times (pos 0) (pos 2)) ∷ program-text w
     bytes "latest=0,1\n" ∷ bytes "latest=1,2\n" ∷ bytes "refused=10\n" ∷ bytes "refused=11\n" ∷ bytes "refused=8\n" ∷ bytes "refused=2\n" ∷
     bytes "refused=9\ncount=2\n" ∷ []
 unfolding program-text latest-text refusal-text full-text joined digits admitted ordered order-table orderly? read sheet.lines sheet.line rows
-    latest-exists latest fit made sections optional checked any ended items item signed value behind literal bytes least leastE shortfall selections
+    latest-exists latest-on sheet-lines spare used rank place filled layout sum latest fit made
+    sections optional checked any ended items item signed value behind literal bytes least leastE shortfall selections
     lines minimal needed? others combination? asked? met? under-dec fixings walk kept cut serves-as-well floor-panels through pull pullE overdue need
     seed ray candidate candidates no-gain? gain-or mm mv star power idm normal sup supL at line put sift each mapL val inv _⊗_ _⊕_ maxz _+z_ neg
     decLe z-dec ≼-dec present-dec all-or all-dec any-dec dec-× dec-¬ dec-→ ltE-cmp ltL-cmp strict same?

@@ -1,3 +1,5 @@
 -- Laws of listing, in the order in which one file builds on another.
 pub mod ListingLaws
 pub mod TurnLaws
+pub mod LayLaws
+pub mod SheetLaws

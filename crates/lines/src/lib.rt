@@ -13,6 +13,7 @@ use words::LINE_SIZE;
 use words::LineWords;
 
 mod count;
+pub mod lay;
 mod write;
 
 // The count of lines written, or of those that do not fit.

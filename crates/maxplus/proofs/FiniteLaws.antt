@@ -1,15 +1,38 @@
--- Equal numbers; decisions below a bound and over a list; who is in a list that is built.
-use mathlib.Core.Path.{_≡_, refl, ap, sym}
-use mathlib.Core.Logic.{_⊎_, inl, inr}
+-- Equal numbers; tests; sums; decisions below a bound and over a list; who is in a list that is built.
+use mathlib.Core.Path.{_≡_, refl, ap, ap₂, sym}
+use mathlib.Core.Logic.{_⊎_, inl, inr, _↔_}
 use mathlib.Core.List.{List, [], _∷_, _++_}
-use mathlib.Core.Bool.{Bool, true, false, decide}
-use Prim.Native.Nat.{ℕ, zero, suc, _<_}
+use mathlib.Core.Bool.{Bool, true, false, cond, not, _&&_, decide}
+use Prim.Native.Nat.{ℕ, zero, suc, _+_, _<_}
 use native.Mathlib.Omega.{arith}
 use native.Mathlib.Decide.{map-dec, ℕ-discrete}
 use lib.Dec.{T, eqb}
 use lib.ListN.{length, getD}
 use borrow.Author.Tests.{eqb-true, eqb-false}
-use Rattle.maxplus.specs.Finite.{In, each, mapL}
+use Rattle.maxplus.specs.Finite.{In, each, mapL, sum}
+
+-- ---- tests: one passes or does not, and two of them together
+pub test : (b : Bool) → T b ⊎ T (not b)
+test true = inl tt
+test false = inr tt
+
+pub both : (p q : Bool) → T (p && q) ↔ (T p × T q)
+both true q = (λ t. (tt, t), λ t. t .1)
+both false q = (λ t. absurd t, λ t. t .0)
+
+pub cond-yes : {A : Type 0} (b : Bool) (x y : A) → T b → cond b x y ≡ x
+cond-yes true x y h = refl
+cond-yes false x y h = absurd h
+
+pub cond-no : {A : Type 0} (b : Bool) (x y : A) → T (not b) → cond b x y ≡ y
+cond-no true x y h = absurd h
+cond-no false x y h = refl
+
+-- ---- sums of the same numbers
+pub sum-ext : (n : ℕ) (f g : ℕ → ℕ) → ((j : ℕ) → j < n → f j ≡ g j) → sum n f ≡ sum n g
+unfolding sum
+sum-ext zero f g h = refl
+sum-ext (suc n) f g h = ap₂ _+_ (sum-ext n f g (λ j q. h j (omega arith))) (h n (omega arith))
 
 -- ---- equal numbers
 pub equal : (a b : ℕ) → a ≡ b → eqb a b ≡ true
@@ -99,6 +122,12 @@ pub decided-no : {P : Type 0} (d : Dec P) → ¬ P → decide d ≡ false
 unfolding decide
 decided-no (yes p) q = absurd (q p)
 decided-no (no p) q = refl
+
+pub same-test? : (a b : Bool) → Dec (a ≡ b)
+same-test? true true = yes refl
+same-test? true false = no (λ e. let z : _≡_ {A = ℕ} 0 1 = cc in let f : ⊥ = omega arith in f)
+same-test? false true = no (λ e. let z : _≡_ {A = ℕ} 0 1 = cc in let f : ⊥ = omega arith in f)
+same-test? false false = yes refl
 
 -- two lists are the same where their members are
 pub same-list? : {A : Type 0} → ((a b : A) → Dec (a ≡ b)) → (l m : List A) → Dec (l ≡ m)

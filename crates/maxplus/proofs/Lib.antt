@@ -9,6 +9,8 @@ pub mod TableLaws
 pub mod SortedLaws
 pub mod GatherLaws
 pub mod LineLaws
+pub mod PackingLaws
+pub mod LayoutLaws
 pub mod CombinationLaws
 pub mod Pigeon
 pub mod StarLaws

@@ -1,7 +1,7 @@
 -- Laws of lines: equal by components, a strict order, and shifting so that the greatest component is 0.
 use mathlib.Core.Path.{_≡_, refl, ap, sym, _∙_}
 use mathlib.Core.Logic.{inl, inr}
-use Prim.Native.Nat.{ℕ, zero, suc, _<_}
+use Prim.Native.Nat.{ℕ, zero, suc, _≤_, _<_}
 use native.Mathlib.Omega.{arith}
 use lib.IntN.{ℤ}
 use Rattle.maxplus.specs.Whole.{_≤z_, _+z_, neg}
@@ -21,6 +21,13 @@ line-ext (suc n) c d h = pair (h 0 (omega arith)) (line-ext n (c .1) (d .1) (λ 
   where
     pair : c .0 ≡ d .0 → c .1 ≡ d .1 → c ≡ d
     pair p q = λ i. (p i, q i)
+
+-- past the last component nothing is there
+pub at-past : (n : ℕ) (c : Line n) (i : ℕ) → n ≤ i → at n c i ≡ absent
+unfolding at
+at-past zero c i h = refl
+at-past (suc n) c zero h = let x : ⊥ = omega arith in absurd x
+at-past (suc n) c (suc i) h = at-past n (c .1) i (omega arith)
 
 pub at-line : (n : ℕ) (f : Vec) (i : ℕ) → i < n → at n (line n f) i ≡ f i
 unfolding at line

@@ -4,6 +4,7 @@ pub mod Entry
 pub mod Finite
 pub mod Tables
 pub mod Line
+pub mod Packing
 pub mod Normal
 pub mod Sorted
 pub mod Above

@@ -14,25 +14,26 @@ use mir.Facts.{toZ-ofZ}
 use mir.Syntax.{w64}
 use mir.Val.{SFits, toZ, ofZ}
 use Rattle.maxplus.specs.Line.{Line}
-use Rattle.cue.specs.Cue.{Cue}
-use Rattle.cue.specs.Method.{least, steps, selections, lines}
-use Rattle.cue.proofs.Bounds.{results-32}
 use Rattle.cue.specs.Results.{Fitting}
 use Rattle.cue.proofs.WrittenLaws.{list-words-length}
-use Rattle.sheet.specs.Sheet.{Got, got, Sheet, limit, read}
+use Rattle.sheet.specs.Sheet.{Got, got, Sheet, read}
 use Rattle.sheet.specs.Sheet as sheet
-use Rattle.sheet.specs.Sizes.{order-limit}
 use Rattle.reading.proofs.Refusals.{refusal-known}
-use Rattle.sheet.specs.Cue.{cue-of, Orderly, orderly?}
+use Rattle.sheet.specs.Cue.{Orderly, orderly?, sheet-lines}
 use Rattle.sheet.specs.Good.{Good}
 use Rattle.sheet.proofs.Good.{read-good}
+use Rattle.sheet.proofs.ListLaws.{fitting}
+use Rattle.trigger_sets.specs.Sets.{bit}
+use Rattle.trigger_sets.proofs.ByteLaws.{bit-at}
 use Rattle.advice.specs.Advice.{advice}
 use Rattle.writing.specs.Texts.{plan-text, refusal-text, full-text}
+use Rattle.writing.proofs.TextLaws.{plan-text-same}
 use Rattle.cue.specs.Standing.{Stands}
 use Rattle.planning.specs.Planning.{PlanOutcome, planned, full, refused, plan-of, planning, space-after, plan-answer}
 use Rattle.sheet.specs.Ordered.{ordered}
 use Rattle.planning.specs.Demands.{Planned}
 use Rattle.planning.specs.declared.CuePlan.{CuePlan}
+use Rattle.planning.proofs.Demands.{plan}
 use Rattle.planning.proofs.PlanLaws.{planning-refused, planning-8, planning-listed}
 use Rattle.advice.proofs.AdviceLaws.{advised}
 use Rattle.plan.specs.Output.{text, complaint, program-text, program-complaint}
@@ -40,22 +41,18 @@ use Rattle.cue.specs.Written.{line-size}
 use Rattle.cue.specs.Sizes.{size-limit}
 
 abbrev pub Sound : ℕ → PlanOutcome → Type 0
-Sound room (planned n D k l L) = (n ≤ size-limit) × (length L ≤ room) × Fitting n L
+Sound room (planned n s D k l L) = (n ≤ size-limit) × (length L ≤ room) × Fitting n L
 Sound room (full k) = 1 ≤ k
 Sound room (refused k) = (1 ≤ k) × (k ≤ 8)
 
 listed-sound : (room : ℕ) (t : Sheet) → Good t → Orderly t → Sound room (plan-of room (got t []))
-listed-sound room t G np = go (leb (length (lines n P)) room) (leb-true (length (lines n P)) room) (leb-false (length (lines n P)) room)
+listed-sound room t G np = go (leb (length L) room) (leb-true (length L) room) (leb-false (length L) room)
   where
-    n : ℕ
-    n = t .triggers
+    L : List (Line (t .triggers))
+    L = sheet-lines t
 
-    P : Cue
-    P = cue-of t
-
-    go : (b : Bool) → (b ≡ true → length (lines n P) ≤ room) → (b ≡ false → room < length (lines n P)) →
-        Sound room (cond b (planned n (least n P) (steps n P (least n P)) (length (selections n P (least n P))) (lines n P)) (full (length (lines n P))))
-    go true f g = (G .triggers-few, f refl, λ c h i q. results-32 n limit order-limit P np (G .limited) (G .triggers-few) (omega arith) .components c h i q)
+    go : (b : Bool) → (b ≡ true → length L ≤ room) → (b ≡ false → room < length L) → Sound room (cond b (plan t) (full (length L)))
+    go true f g = (G .triggers-few, f refl, fitting t G np)
     go false f g = let q = g refl in omega arith
 
 pub planning-sound : (s : List ℕ) (space : List ℤ) → Sound (length space / line-size) (planning s space)
@@ -75,39 +72,43 @@ planning-sound s space = go (read s) refl
 pub record Lists (o : PlanOutcome) (space : List ℤ) (p : CuePlan) : Type 0 where
   pub list : List (Line (p .triggers))
   pub stands : Stands (p .triggers) (p .count) (space-after o space) list
-  pub text-is : plan-text (p .triggers) (p .deviation) (p .steps) (p .selections) list ≡ text o
+  pub text-is : plan-text (p .triggers) (bit (p .spares)) (p .deviation) (p .steps) (p .selections) list ≡ text o
 
 full-of : (room : ℕ) (o : PlanOutcome) → ¬ (plan-answer o .refusal ≡ 0) → ¬ (plan-answer o .count ≡ 0) →
     full-text (plan-answer o .count) ≡ text o
 unfolding text
-full-of room (planned n D k l L) h g = absurd (h refl)
+full-of room (planned n s D k l L) h g = absurd (h refl)
 full-of room (full k) h g = refl
 full-of room (refused k) h g = absurd (g refl)
 
 refusal-of : (room : ℕ) (o : PlanOutcome) → Sound room o → ¬ (plan-answer o .refusal ≡ 0) → plan-answer o .count ≡ 0 →
     refusal-text (plan-answer o .refusal) ≡ text o
 unfolding text
-refusal-of room (planned n D k l L) q h g = absurd (h refl)
+refusal-of room (planned n s D k l L) q h g = absurd (h refl)
 refusal-of room (full k) q h g = let x : ⊥ = omega arith in absurd x
 refusal-of room (refused k) q h g = refl
 
 few-of : (room : ℕ) (o : PlanOutcome) → Sound room o → plan-answer o .refusal ≡ 0 →
     (plan-answer o .triggers ≤ size-limit) × (plan-answer o .count ≤ room)
-few-of room (planned n D k l L) q h = (q .0, q .1)
+few-of room (planned n s D k l L) q h = (q .0, q .1)
 few-of room (full k) q h = let x : ⊥ = omega arith in absurd x
 few-of room (refused k) q h = let n = q .0 in let x : ⊥ = omega arith in absurd x
 
 lists-of : (room : ℕ) (o : PlanOutcome) (space : List ℤ) → Sound room o → plan-answer o .refusal ≡ 0 → Lists o space (plan-answer o)
 unfolding text space-after
-lists-of room (planned n D k l L) space q h =
-    record { list = L; stands = record { many = refl; words = take-at _ _ _ (list-words-length n L); fitting = q .2 }; text-is = refl }
+lists-of room (planned n s D k l L) space q h =
+    record {
+      list = L;
+      stands = record { many = refl; words = take-at _ _ _ (list-words-length n L); fitting = q .2 };
+      text-is = plan-text-same n _ s (λ j i. bit-at n s j (q .0) i) D k l L;
+    }
 lists-of room (full k) space q h = let x : ⊥ = omega arith in absurd x
 lists-of room (refused k) space q h = let n = q .0 in let x : ⊥ = omega arith in absurd x
 
 -- the sentence of the answer's number is the outcome's
 complaint-of : (o : PlanOutcome) → advice (plan-answer o .refusal) ≡ complaint o
 unfolding advice
-complaint-of (planned n D k l L) = refl
+complaint-of (planned n s D k l L) = refl
 complaint-of (full k) = refl
 complaint-of (refused k) = refl
 
@@ -140,7 +141,7 @@ module _ (s : List ℕ) (space : List ℤ) (sized : length space ≡ 14000) (p :
   -- the text of a plan, its deviation read back from a signed word
   pub plan-out : (after : List ℤ) → after ≡ space-after (planning s space) space → p .refusal ≡ 0 → SFits w64 (p .deviation) →
       (out : List ℕ) → ((L : List (Line (p .triggers))) → Stands (p .triggers) (p .count) after L →
-      out ≡ plan-text (p .triggers) (toZ w64 (ofZ w64 (p .deviation))) (p .steps) (p .selections) L) →
+      out ≡ plan-text (p .triggers) (bit (p .spares)) (toZ w64 (ofZ w64 (p .deviation))) (p .steps) (p .selections) L) →
       out ≡ program-text s
   plan-out after w h f out t =
       let l = lists h in
@@ -164,6 +165,6 @@ unfolding program-complaint planning
 explained s n = go (plan-of 2000 (ordered s)) (sound s (replicate 14000 (pos 0)) (length-replicate 14000 (pos 0)) _ refl) n
   where
     go : (o : PlanOutcome) → Sound 2000 o → ¬ (Planned o) → 0 < length (complaint o)
-    go (planned n D k l L) q h = absurd (h tt)
+    go (planned n s D k l L) q h = absurd (h tt)
     go (full k) q h = advised 9 (omega arith) (omega arith)
     go (refused k) q h = advised k (q .0) (let m = q .1 in omega arith)

@@ -8,12 +8,12 @@ use Rattle.advice.specs.Advice.{advice}
 use Rattle.planning.specs.Planning.{PlanOutcome, planned, full, refused, plan-of}
 
 unfoldable pub text : PlanOutcome → List ℕ
-text (planned n D k l L) = plan-text n D k l L
+text (planned n s D k l L) = plan-text n s D k l L
 text (full k) = full-text k
 text (refused k) = refusal-text k
 
 abbrev pub complaint : PlanOutcome → List ℕ
-complaint (planned n D k l L) = []
+complaint (planned n s D k l L) = []
 complaint (full k) = advice 9
 complaint (refused k) = advice k
 

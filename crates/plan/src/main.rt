@@ -40,6 +40,7 @@ fn answer(
         plan.steps as u64,
         plan.selections as u64,
         plan.triggers,
+        plan.spares,
         space,
         plan.count,
     );

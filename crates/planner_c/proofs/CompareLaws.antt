@@ -1,6 +1,6 @@
 -- Comparing's answer as words: its counts are small enough, and the words stored one after the other make it.
 use mathlib.Core.Path.{_≡_, refl, ap, sym, subst, _∙_}
-use mathlib.Core.Bool.{Bool, true, false, cond, not, decide}
+use mathlib.Core.Bool.{Bool, true, false, cond, not, _||_, decide}
 use mathlib.Core.List.{List, [], _∷_}
 use Prim.Native.Nat.{ℕ, _≤_}
 use lib.Dec.{eqb}
@@ -19,7 +19,8 @@ use Rattle.planner_c.proofs.Few.{count-few}
 
 -- ---- the counts
 compares-counted : (p q : CuePlan) (same : Bool) → p .count ≤ most-lines → q .count ≤ most-lines → Counted (compares p q same)
-compares-counted p q same c d = go (not (eqb (p .refusal) 0)) (not (eqb (q .refusal) 0)) (not (eqb (p .triggers) (q .triggers)))
+compares-counted p q same c d = go (not (eqb (p .refusal) 0)) (not (eqb (q .refusal) 0))
+    (not (eqb (p .triggers) (q .triggers)) || not (eqb (p .spares) (q .spares)))
   where
     go : (x y z : Bool) → Counted (cond x (first-refused (p .refusal) (p .count)) (cond y (second-refused (q .refusal) (q .count))
         (cond z (unlike (p .count) (q .count)) (answer same (p .count) (q .count)))))

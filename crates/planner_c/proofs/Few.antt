@@ -9,15 +9,15 @@ use lib.IntN.{ℤ}
 use lib.ListN.{length}
 use Rattle.maxplus.specs.Line.{Line}
 use Rattle.maxplus.proofs.EachLaws.{length-each}
-use Rattle.cue.specs.Method.{least, lines, kept-byte, kept-count}
 use Rattle.cue.specs.Sizes.{most-lines}
 use Rattle.cue.proofs.Few.{lines-few}
 use Rattle.sheet.specs.Sheet.{Got, got, Sheet, read}
 use Rattle.sheet.specs.Sheet as sheet
 use Rattle.sheet.specs.Meaning.{Timing}
-use Rattle.sheet.specs.Cue.{cue-of, Orderly, orderly?, sheet-lines}
+use Rattle.sheet.specs.Cue.{cue-size, cue-of, Orderly, orderly?, sheet-byte, sheet-count, sheet-lines}
 use Rattle.sheet.specs.Admitted.{admitted}
 use Rattle.sheet.proofs.Good.{read-good}
+use Rattle.sheet.proofs.ListLaws.{lines-many}
 use Rattle.sheet.proofs.AdmittedLaws.{admitted-as}
 use Rattle.planning.specs.Planning.{planned, full, plan-of, planning, plan-answer}
 use Rattle.keeping.specs.Keeping.{kept-of, keeping, kept-answer}
@@ -27,10 +27,14 @@ use Rattle.sheet.specs.Ordered.{ordered}
 use Rattle.cue.specs.Written.{line-size}
 use Rattle.cue.specs.Sizes.{size-limit}
 
+-- no sheet's list has more lines than there can be
+list-few : (t : Sheet) → (cue-size t ≤ size-limit) × (t .panels ≤ size-limit) → length (sheet-lines t) ≤ most-lines
+list-few t (hn, hm) = rw (lines-many t) (lines-few (cue-size t) (cue-of t) hn hm)
+
 module _ (s : List ℕ) where
   abbrev Sized : Got Sheet → Type 0
   Sized (sheet.refused k) = Unit {0}
-  Sized (got t r) = (t .triggers ≤ size-limit) × (t .panels ≤ size-limit)
+  Sized (got t r) = (cue-size t ≤ size-limit) × (t .panels ≤ size-limit)
 
   sized : Sized (ordered s)
   unfolding ordered
@@ -44,21 +48,20 @@ module _ (s : List ℕ) where
       go : (g : Got Sheet) → read s ≡ g →
           Sized (sheet._>>=_ g (λ t r. elim (orderly? t) [ yes h ↦ got t r | no h ↦ sheet.refused 8 ]))
       go (sheet.refused k) e = tt
-      go (got t r) e = let G = read-good s t r e in ask t r (G .triggers-few, G .panels-few) (orderly? t)
+      go (got t r) e = let G = read-good s t r e in ask t r (G .few, G .panels-few) (orderly? t)
 
   pub count-few : (space : List ℤ) → plan-answer (planning s space) .count ≤ most-lines
   unfolding planning
   count-few space = go (ordered s) sized
     where
-      either : (n : ℕ) (D : ℤ) (k l : ℕ) (L : List (Line n)) (b : Bool) → length L ≤ most-lines →
-          plan-answer (cond b (planned n D k l L) (full (length L))) .count ≤ most-lines
-      either n D k l L true h = h
-      either n D k l L false h = h
+      either : (n : ℕ) (s : ℕ → Bool) (D : ℤ) (k l : ℕ) (L : List (Line n)) (b : Bool) → length L ≤ most-lines →
+          plan-answer (cond b (planned n s D k l L) (full (length L))) .count ≤ most-lines
+      either n s D k l L true h = h
+      either n s D k l L false h = h
 
       go : (g : Got Sheet) → Sized g → plan-answer (plan-of (length space / line-size) g) .count ≤ most-lines
       go (sheet.refused k) z = omega arith
-      go (got t r) (hn, hm) = either _ _ _ _ (lines (t .triggers) (cue-of t)) (leb (length (lines (t .triggers) (cue-of t))) (length space / line-size))
-          (lines-few (t .triggers) (cue-of t) hn hm)
+      go (got t r) z = either _ _ _ _ _ (sheet-lines t) (leb (length (sheet-lines t)) (length space / line-size)) (list-few t z)
 
   pub panels-few : kept-answer (keeping s) .panels ≤ size-limit
   unfolding keeping
@@ -66,10 +69,7 @@ module _ (s : List ℕ) where
     where
       go : (g : Got Sheet) → Sized g → kept-answer (kept-of g) .panels ≤ size-limit
       go (sheet.refused k) z = omega arith
-      go (got t r) (hn, hm) =
-          let n = t .triggers in
-          let P = cue-of t in
-          rw (length-each {A = ℕ × ℕ} (t .panels) (λ i. (kept-byte n P (least n P) i, kept-count n P (least n P) i))) hm
+      go (got t r) (hn, hm) = rw (length-each {A = ℕ × ℕ} (t .panels) (λ i. (sheet-byte t i, sheet-count t i))) hm
 
   pub reach-few : (count : ℕ) (G : Timing) (space : List ℤ) → reach-answer (reaching s count G space) .count ≤ most-lines
   unfolding reaching
@@ -85,4 +85,4 @@ module _ (s : List ℕ) where
       go (got t r) e =
           let good = read-good s t r (admitted-as s count G t r e .read-is) in
           either _ _ (sheet-lines t) (leb (length (sheet-lines t)) (length space / line-size))
-          (lines-few (t .triggers) (cue-of t) (good .triggers-few) (good .panels-few))
+          (list-few t (good .few, good .panels-few))

@@ -55,10 +55,11 @@ module _ (lent : List ℤ) where
 
 -- ---- planning's answer
 module _ (r : CuePlan) (lent : List ℤ) where
-  pub planned-words : {a b c d : List ℤ} {D k l n : ℤ} → r .refusal ≡ 0 → D ≡ r .deviation → a ≡ set lent 0 D → k ≡ pos (r .steps) →
-      b ≡ set a 1 k → l ≡ pos (r .selections) → c ≡ set b 2 l → n ≡ pos (r .count) → d ≡ set c 3 n → d ≡ plan-words r lent
+  pub planned-words : {a b c d e : List ℤ} {D k l n s : ℤ} → r .refusal ≡ 0 → D ≡ r .deviation → a ≡ set lent 0 D → k ≡ pos (r .steps) →
+      b ≡ set a 1 k → l ≡ pos (r .selections) → c ≡ set b 2 l → n ≡ pos (r .count) → d ≡ set c 3 n →
+      s ≡ pos (r .spares) → e ≡ set d 4 s → e ≡ plan-words r lent
   unfolding plan-words
-  planned-words h eD ea ek eb el ec en ed = ed ∙ rw (ec, eb, ea, eD, ek, el, en, eq-eqb (r .refusal) 0 h) refl
+  planned-words h eD ea ek eb el ec en ed es ee = ee ∙ rw (ed, ec, eb, ea, eD, ek, el, en, es, eq-eqb (r .refusal) 0 h) refl
 
   pub full-words : {d : List ℤ} {n : ℤ} → ¬ (r .refusal ≡ 0) → r .refusal ≡ 9 → n ≡ pos (r .count) → d ≡ set lent 3 n →
       d ≡ plan-words r lent

@@ -19,10 +19,10 @@ use Rattle.reaching.specs.declared.Reached.{Reached}
 -- Words are stored from a place on; one that is past the end is dropped, and the rest stays (`sets`). The words of an answer are results,
 -- which C can return by a pointer only, and not lent space: document 01's "leaves the rest" and "changes no lent byte or word" are about that.
 
--- deviation, steps, selections and count; for 9 "the count needed" in its place; for any other refusal nothing
+-- deviation, steps, selections, count and the byte of spares; for 9 "the count needed" in its place; for any other refusal nothing
 unfoldable pub plan-words : CuePlan → List ℤ → List ℤ
 plan-words r lent =
-    cond (eqb (r .refusal) 0) (sets lent 0 (r .deviation ∷ pos (r .steps) ∷ pos (r .selections) ∷ pos (r .count) ∷ []))
+    cond (eqb (r .refusal) 0) (sets lent 0 (r .deviation ∷ pos (r .steps) ∷ pos (r .selections) ∷ pos (r .count) ∷ pos (r .spares) ∷ []))
     (cond (eqb (r .refusal) 9) (sets lent 3 (pos (r .count) ∷ [])) lent)
 
 -- byte and count for each of the first panels
@@ -42,7 +42,7 @@ test-number (answer true) = 100
 test-number (answer false) = 101
 test-number (refused k) = k
 
--- 100 for the same timings, 101 for others, 102 for different numbers of triggers; the first sheet's refusal, or 200 more than the second's
+-- 100 for the same timings, 101 for others, 102 for other numbers of triggers or other spares; the first sheet's refusal, or 200 more than the second's
 abbrev pub compare-number : Comparison → ℕ
 compare-number (comparison.answer true c d) = 100
 compare-number (comparison.answer false c d) = 101

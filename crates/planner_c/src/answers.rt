@@ -58,6 +58,7 @@ pub fn write_plan(lent: &mut [i64], r: CuePlan)
         put(lent, 1, word(r.steps));
         put(lent, 2, word(r.selections));
         put(lent, 3, count);
+        put(lent, 4, byte_word(r.spares));
     } else if r.refusal == 9 {
         put(lent, 3, count);
     }

@@ -21,7 +21,8 @@ mod compared;
 mod reached;
 mod times;
 
-// 0 or the refusal. The list goes to the front of the space, deviation, steps, selections and count to the answer; for 9 the count alone.
+// 0 or the refusal. The list goes to the front of the space; deviation, steps, selections, count and the spare triggers, bit 0 for trigger 1,
+// to the answer; for 9 the count alone.
 #[no_mangle]
 pub extern "C" fn tuzhelar_plan(sheet: &[u8], space: &mut [i32], answer: &mut [i64]) -> u32
     ensures returned { λ r. ⌜ r ≡ plan-answer (planning (now (sheet .entry)) (now (space .entry))) .refusal ⌝ }
@@ -81,9 +82,9 @@ pub extern "C" fn tuzhelar_latest(
     r.refusal as u32
 }
 
-// 100 if the same timings are tightest on both sheets, 101 if they are not, 102 if the numbers of triggers differ; or the first sheet's
-// refusal, or 200 more than the second's. The lists go to the fronts of the spaces, their numbers of lines to the answer; for 9 the count
-// needed alone.
+// 100 if the same timings are tightest on both sheets, 101 if they are not, 102 if the numbers of triggers or the spares differ; or the first
+// sheet's refusal, or 200 more than the second's. The lists go to the fronts of the spaces, their numbers of lines to the answer; for 9 the
+// count needed alone.
 #[no_mangle]
 pub extern "C" fn tuzhelar_same(
     first: &[u8],

@@ -10,9 +10,11 @@ use lib.Dec.{leb}
 use lib.IntN.{ℤ}
 use lib.ListN.{length}
 use lib.Seq.{take-at}
-use Rattle.sheet.specs.Meaning.{Timing, Keeps, SameTimings}
+use Rattle.sheet.specs.Meaning.{Timing, spare, Keeps}
 use Rattle.cue.specs.Written.{line-size, list-words}
 use Rattle.cue.proofs.WrittenLaws.{list-words-length}
+use Rattle.sheet.proofs.ListLaws.{spare-shown}
+use Rattle.sheet.proofs.TwoSheets.{SameLists}
 use Rattle.sheet.proofs.Demands as sheets
 use Rattle.sheet.specs.Sheet.{got, Sheet, read}
 use Rattle.sheet.specs.Sheet as sheet
@@ -23,11 +25,12 @@ use Rattle.sheet.proofs.Good.{read-good}
 use Rattle.planning.specs.Planning.{PlanOutcome, planned, full, refused, plan-of, planning, space-after, plan-answer}
 use Rattle.sheet.specs.Ordered.{ordered}
 use Rattle.sheet.proofs.OrderedLaws.{ordered-by}
-use Rattle.planning.specs.Demands.{Planned, deviation-of, count-of, written, Least, Demand-2, Demand-8, Demand-3, Steps-at-most}
+use Rattle.planning.specs.Demands.{Planned, deviation-of, count-of, written, Least, Demand-2, Demand-8, TwoPlans, SameWritten, Demand-3}
+use Rattle.planning.specs.Demands.{Demand-3-whole, Steps-at-most}
 
 -- ---- a planning without refusal is the plan of the sheet's tables
 abbrev pub plan : Sheet → PlanOutcome
-plan t = planned (t .triggers) (sheet-least t) (sheet-steps t) (sheet-selections t) (sheet-lines t)
+plan t = planned (t .triggers) (spare t) (sheet-least t) (sheet-steps t) (sheet-selections t) (sheet-lines t)
 
 module _ (s : List ℕ) (t : Sheet) (r : List ℕ) (e : read s ≡ got t r) (space : List ℤ) where
   planned-as : Planned (planning s space) → Orderly t × (planning s space ≡ plan t)
@@ -69,6 +72,8 @@ demand-2 s t r space e h = go (known s t r e space h)
     go k =
         let D = ap deviation-of (k .plan-is) in
         record {
+          spares = ap (λ o. plan-answer o .spares) (k .plan-is);
+          shown = spare-shown t (k .good) (k .orderly);
           counted = ap count-of (k .plan-is);
           front = written-is s t r e space k;
           at-least = λ X q. rw D (sheets.deviation-at-least t (k .good) (k .orderly) X q);
@@ -96,24 +101,39 @@ refused-8 s t r space e = go (orderly? t) (ordered-by s t r e)
     )
     go (no o) q = (λ p x. o (sheets.order-kept t .0 x), λ f. ap (plan-of (length space / line-size)) q)
 
--- ---- demand 3
+-- ---- demand 3: the words that are written are those of the two sheets' lists
+module _ (s₁ s₂ : List ℕ) (t₁ t₂ : Sheet) (space₁ space₂ : List ℤ) (two : TwoPlans s₁ s₂ t₁ t₂ space₁ space₂) where
+  known₁ : Known s₁ t₁ (two .rest₁) (two .read₁) space₁
+  known₁ = known s₁ t₁ (two .rest₁) (two .read₁) space₁ (two .planned₁)
+
+  known₂ : Known s₂ t₂ (two .rest₂) (two .read₂) space₂
+  known₂ = known s₂ t₂ (two .rest₂) (two .read₂) space₂ (two .planned₂)
+
+  written-lists : SameWritten s₁ s₂ space₁ space₂ ↔ SameLists t₁ t₂
+  written-lists =
+      let c₁ = ap count-of (known₁ .plan-is) in
+      let c₂ = ap count-of (known₂ .plan-is) in
+      let w₁ = written-is s₁ t₁ (two .rest₁) (two .read₁) space₁ known₁ in
+      let w₂ = written-is s₂ t₂ (two .rest₂) (two .read₂) space₂ known₂ in (
+        λ q. (sym c₁ ∙ q .0 ∙ c₂, sym w₁ ∙ q .1 ∙ w₂),
+        λ q. (c₁ ∙ q .0 ∙ sym c₂, w₁ ∙ q .1 ∙ sym w₂),
+      )
+
 pub demand-3 : Demand-3
-demand-3 s₁ s₂ t₁ t₂ r₁ r₂ space₁ space₂ e₁ e₂ same h₁ h₂ =
-    go (known s₁ t₁ r₁ e₁ space₁ h₁) (known s₂ t₂ r₂ e₂ space₂ h₂)
-  where
-    go : Known s₁ t₁ r₁ e₁ space₁ → Known s₂ t₂ r₂ e₂ space₂ →
-        ((count-of (planning s₁ space₁) ≡ count-of (planning s₂ space₂)) ×
-        (written (planning s₁ space₁) space₁ ≡ written (planning s₂ space₂) space₂)) ↔
-        SameTimings t₁ t₂
-    go k₁ k₂ =
-        let c₁ = ap count-of (k₁ .plan-is) in
-        let c₂ = ap count-of (k₂ .plan-is) in
-        let w₁ = written-is s₁ t₁ r₁ e₁ space₁ k₁ in
-        let w₂ = written-is s₂ t₂ r₂ e₂ space₂ k₂ in
-        let both = sheets.demand-3 t₁ t₂ (k₁ .good) (k₂ .good) (k₁ .orderly) (k₂ .orderly) same in (
-          λ q. both .0 (sym c₁ ∙ q .0 ∙ c₂, sym w₁ ∙ q .1 ∙ w₂),
-          λ f. let b = both .1 f in (c₁ ∙ b .0 ∙ sym c₂, w₁ ∙ b .1 ∙ sym w₂),
-        )
+demand-3 s₁ s₂ t₁ t₂ space₁ space₂ two same =
+    let k₁ = known₁ s₁ s₂ t₁ t₂ space₁ space₂ two in
+    let k₂ = known₂ s₁ s₂ t₁ t₂ space₁ space₂ two in
+    let lists = written-lists s₁ s₂ t₁ t₂ space₁ space₂ two in
+    let both = sheets.demand-3 t₁ t₂ (k₁ .good) (k₂ .good) (k₁ .orderly) (k₂ .orderly) (two .same-size) same in
+    (λ q. both .0 (lists .0 q), λ f. lists .1 (both .1 f))
+
+pub demand-3-whole : Demand-3-whole
+demand-3-whole s₁ s₂ t₁ t₂ space₁ space₂ two =
+    let k₁ = known₁ s₁ s₂ t₁ t₂ space₁ space₂ two in
+    let k₂ = known₂ s₁ s₂ t₁ t₂ space₁ space₂ two in
+    let lists = written-lists s₁ s₂ t₁ t₂ space₁ space₂ two in
+    let both = sheets.demand-3-whole t₁ t₂ (k₁ .good) (k₂ .good) (k₁ .orderly) (k₂ .orderly) (two .same-size) in
+    (λ q. both .0 (lists .0 q), λ f. lists .1 (both .1 f))
 
 -- ---- steps
 pub steps-at-most : Steps-at-most

@@ -8,14 +8,13 @@ use borrow.Author.Tests.{leb-true, leb-false}
 use lib.Dec.{leb}
 use lib.IntN.{ℤ}
 use lib.ListN.{length}
-use Rattle.cue.specs.Cue.{Cue}
-use Rattle.cue.specs.Method.{least, steps, selections, lines}
+use Rattle.maxplus.specs.Finite.{byte-of}
 use Rattle.sheet.specs.Sheet.{Got, got, Sheet, read}
 use Rattle.sheet.specs.Sheet as spec
-use Rattle.sheet.specs.Cue.{cue-of, Orderly}
+use Rattle.sheet.specs.Meaning.{spare}
+use Rattle.sheet.specs.Cue.{Orderly, sheet-least, sheet-steps, sheet-selections, sheet-lines}
 use Rattle.walk.specs.declared.Counts.{Counts}
 use Rattle.lines.specs.Listing.{Answers}
-use Rattle.lines.specs.declared.Listed.{Listed}
 use Rattle.lines.specs.declared.Listed.the-variants.{Lines, NoRoom}
 use Rattle.sheet.specs.Ordered.{ordered}
 use Rattle.sheet.proofs.OrderedLaws.{ordered-refused, ordered-8, ordered-got}
@@ -25,37 +24,29 @@ use Rattle.planning.specs.declared.CuePlan.{CuePlan}
 use Rattle.cue.specs.Written.{line-size}
 
 -- ---- what became of the list
-module _ (n : ℕ) (P : Cue) (before after : List ℤ) where
+module _ (t : Sheet) (before after : List ℤ) where
   abbrev count : ℕ
-  count = length (lines n P)
+  count = length (sheet-lines t)
 
   abbrev room : ℕ
   room = length before / line-size
 
   abbrev whole : PlanOutcome
-  whole = planned n (least n P) (steps n P (least n P)) (length (selections n P (least n P))) (lines n P)
+  whole = planned (t .triggers) (spare t) (sheet-least t) (sheet-steps t) (sheet-selections t) (sheet-lines t)
 
   abbrev plan-at : PlanOutcome
   plan-at = cond (leb count room) whole (full count)
 
-  -- the same for another name of n
-  moved : {m : ℕ} (r : Listed) → m ≡ n → Answers m (lines m P) before after r → Answers n (lines n P) before after r
-  moved {m} r same a = subst (λ n. Answers n (lines n P) before after r) same a
-
-  lines-at : (m k : ℕ) (D : ℤ) (C : Counts) → m ≡ n → D ≡ least n P →
-      _≡_ {A = Counts} C (record { steps = steps n P (least n P); selections = length (selections n P (least n P)) }) →
-      Answers n (lines n P) before after (Lines k) →
-      Does plan-at before after (record { refusal = 0; triggers = m; deviation = D; steps = C .steps; selections = C .selections; count = k })
+  lines-at : (r : CuePlan) → r .count ≡ count → Answers (t .triggers) (sheet-lines t) before after (Lines (r .count)) →
+      r ≡ plan-answer whole → Does plan-at before after r
   unfolding space-after
-  lines-at m k D C s d c (e, fits, w) = go (leb count room) (leb-false count room)
+  lines-at r c (e, fits, w) q = go (leb count room) (leb-false count room)
     where
-      go : (b : Bool) → (b ≡ false → room < count) →
-          Does (cond b whole (full count)) before after
-          (record { refusal = 0; triggers = m; deviation = D; steps = C .steps; selections = C .selections; count = k })
-      go true f = record { answer = cc; written = w }
+      go : (b : Bool) → (b ≡ false → room < count) → Does (cond b whole (full count)) before after r
+      go true f = record { answer = q; written = w }
       go false f = let q = f refl in let x : ⊥ = omega arith in absurd x
 
-  full-at : (k : ℕ) → Answers n (lines n P) before after (NoRoom k) → Does plan-at before after (plan-answer (full k))
+  full-at : (k : ℕ) → Answers (t .triggers) (sheet-lines t) before after (NoRoom k) → Does plan-at before after (plan-answer (full k))
   unfolding space-after
   full-at k (e, small, w) = go (leb count room) (leb-true count room)
     where
@@ -87,16 +78,15 @@ module _ (s : List ℕ) (space : List ℤ) where
   unfolding space-after
   does-refused k q e = does-same (planning-of q) (record { answer = e; written = refl })
 
-  module _ (t : Sheet) (x : List ℕ) (q : ordered s ≡ got t x) (after : List ℤ) (m : ℕ) (same : m ≡ t .triggers) (k : ℕ) where
-    pub does-lines : (D : ℤ) (C : Counts) → let n = t .triggers in let P = cue-of t in D ≡ least n P →
-        _≡_ {A = Counts} C (record { steps = steps n P (least n P); selections = length (selections n P (least n P)) }) →
-        Answers m (lines m P) space after (Lines k) →
+  module _ (t : Sheet) (x : List ℕ) (q : ordered s ≡ got t x) (after : List ℤ) (k : ℕ) where
+    -- the numbers returned, by what was found of them
+    pub does-lines : (n b : ℕ) (D : ℤ) (C : Counts) → n ≡ t .triggers → b ≡ byte-of (t .triggers) (spare t) → D ≡ sheet-least t →
+        _≡_ {A = Counts} C (record { steps = sheet-steps t; selections = sheet-selections t }) →
+        Answers (t .triggers) (sheet-lines t) space after (Lines k) →
         Does (planning s space) space after
-        (record { refusal = 0; triggers = m; deviation = D; steps = C .steps; selections = C .selections; count = k })
-    does-lines D C d c a =
-        does-same (planning-of q) (lines-at (t .triggers) (cue-of t) space after m k D C same d c (moved (t .triggers) (cue-of t) space after (Lines k) same a))
+        (record { refusal = 0; triggers = n; spares = b; deviation = D; steps = C .steps; selections = C .selections; count = k })
+    does-lines n b D C h u d c a = does-same (planning-of q) (lines-at t space after _ (a .0) a (let e = a .0 in cc))
 
-    pub does-full : {r : CuePlan} → r ≡ plan-answer (full k) → Answers m (lines m (cue-of t)) space after (NoRoom k) →
+    pub does-full : {r : CuePlan} → r ≡ plan-answer (full k) → Answers (t .triggers) (sheet-lines t) space after (NoRoom k) →
         Does (planning s space) space after r
-    does-full e a = does-same (planning-of q) (subst (Does _ space after) (sym e)
-        (full-at (t .triggers) (cue-of t) space after k (moved (t .triggers) (cue-of t) space after (NoRoom k) same a)))
+    does-full e a = does-same (planning-of q) (subst (Does _ space after) (sym e) (full-at t space after k a))

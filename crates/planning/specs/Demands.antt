@@ -2,20 +2,22 @@
 use mathlib.Core.Path.{_≡_}
 use mathlib.Core.Logic.{_↔_}
 use mathlib.Core.List.{List}
-use Prim.Native.Nat.{ℕ, _*_, _≤_}
+use Prim.Native.Nat.{ℕ, _*_, _≤_, _<_}
+use lib.Dec.{T}
 use lib.IntN.{ℤ}
 use lib.ListN.{length, take}
-use Rattle.maxplus.specs.Entry.{num, _≼_}
-use Rattle.maxplus.specs.Combination.{Weighed}
+use Rattle.maxplus.specs.Entry.{absent, num, _≼_}
+use Rattle.maxplus.specs.Finite.{In, byte-of}
+use Rattle.maxplus.specs.Line.{Line, at}
 use Rattle.cue.specs.Written.{line-size, list-words}
 use Rattle.sheet.specs.Sheet.{got, Sheet, read}
-use Rattle.sheet.specs.Meaning.{Timing, Keeps, deviation, SameTimings}
+use Rattle.sheet.specs.Meaning.{Timing, spare, Keeps, deviation, Weighed, SameSpares, SameTimings}
 use Rattle.sheet.specs.Cue.{sheet-lines, most-steps}
 use Rattle.planning.specs.Planning.{PlanOutcome, planned, full, refused, planning, space-after, plan-answer}
 
 -- planned without refusal; the deviation and the number of lines that are returned
 abbrev pub Planned : PlanOutcome → Type 0
-Planned (planned n D k l L) = Unit {0}
+Planned (planned n s D k l L) = Unit {0}
 Planned (full k) = ⊥
 Planned (refused k) = ⊥
 
@@ -30,13 +32,17 @@ abbrev pub written : PlanOutcome → List ℤ → List ℤ
 written o space = take (line-size * count-of o) (space-after o space)
 
 -- ---- demand 2: whatever the space held, a planning without refusal gives the least deviation of the times that keep the order, and
--- writes step 7's lines, from which, with whole-number weights, one for each line, exactly the times that keep the order and reach it are made
+-- writes step 7's lines, from which, with whole-number weights, one for each line, exactly the times that keep the order and reach it are made,
+-- in "the components that are not spare"; which these are, the byte returned says
 pub record Least (t : Sheet) (space : List ℤ) (o : PlanOutcome) : Type 0 where
+  pub spares : plan-answer o .spares ≡ byte-of (t .triggers) (spare t)
+  -- in the list exactly the spare triggers are absent from every line
+  pub shown : (j : ℕ) → j < t .triggers → T (spare t j) ↔ ((c : Line (t .triggers)) → In c (sheet-lines t) → at (t .triggers) c j ≡ absent)
   pub counted : count-of o ≡ length (sheet-lines t)
   pub front : written o space ≡ list-words (t .triggers) (sheet-lines t)
   pub at-least : (X : Timing) → Keeps t X → num (deviation-of o) ≼ deviation t X
   pub reached : (X : Timing) × Keeps t X × (deviation t X ≡ num (deviation-of o))
-  pub combined : (X : Timing) → (Keeps t X × (deviation t X ≡ num (deviation-of o))) ↔ Weighed (t .triggers) (sheet-lines t) X
+  pub combined : (X : Timing) → (Keeps t X × (deviation t X ≡ num (deviation-of o))) ↔ Weighed t (sheet-lines t) X
 
 abbrev pub Demand-2 : Type 0
 Demand-2 = (s : List ℕ) (t : Sheet) (r : List ℕ) (space : List ℤ) → read s ≡ got t r → Planned (planning s space) →
@@ -47,14 +53,30 @@ abbrev pub Demand-8 : Type 0
 Demand-8 = (s : List ℕ) (t : Sheet) (r : List ℕ) (space : List ℤ) → read s ≡ got t r →
     (planning s space ≡ refused 8) ↔ ¬ ((X : Timing) × Keeps t X)
 
--- ---- demand 3: for two sheets with equal numbers of triggers, each planned without refusal, whatever the spaces held and however large
--- each was: the counts and the words at the front are the same exactly when every timing is tightest on both or on neither
+-- ---- demand 3: two sheets with equal numbers of triggers, each planned without refusal, whatever the spaces held and however large each was
+pub record TwoPlans (s₁ s₂ : List ℕ) (t₁ t₂ : Sheet) (space₁ space₂ : List ℤ) : Type 0 where
+  pub rest₁ : List ℕ
+  pub rest₂ : List ℕ
+  pub read₁ : read s₁ ≡ got t₁ rest₁
+  pub read₂ : read s₂ ≡ got t₂ rest₂
+  pub same-size : t₁ .triggers ≡ t₂ .triggers
+  pub planned₁ : Planned (planning s₁ space₁)
+  pub planned₂ : Planned (planning s₂ space₂)
+
+-- the counts and the words at the front are the same
+abbrev pub SameWritten : (s₁ s₂ : List ℕ) (space₁ space₂ : List ℤ) → Type 0
+SameWritten s₁ s₂ space₁ space₂ = (count-of (planning s₁ space₁) ≡ count-of (planning s₂ space₂)) ×
+    (written (planning s₁ space₁) space₁ ≡ written (planning s₂ space₂) space₂)
+
+-- "only where the same triggers are spare": exactly when every timing is tightest on both or on neither
 abbrev pub Demand-3 : Type 0
-Demand-3 = (s₁ s₂ : List ℕ) (t₁ t₂ : Sheet) (r₁ r₂ : List ℕ) (space₁ space₂ : List ℤ) → read s₁ ≡ got t₁ r₁ →
-    read s₂ ≡ got t₂ r₂ → t₁ .triggers ≡ t₂ .triggers → Planned (planning s₁ space₁) → Planned (planning s₂ space₂) →
-    ((count-of (planning s₁ space₁) ≡ count-of (planning s₂ space₂)) ×
-    (written (planning s₁ space₁) space₁ ≡ written (planning s₂ space₂) space₂)) ↔
-    SameTimings t₁ t₂
+Demand-3 = (s₁ s₂ : List ℕ) (t₁ t₂ : Sheet) (space₁ space₂ : List ℤ) → TwoPlans s₁ s₂ t₁ t₂ space₁ space₂ →
+    SameSpares t₁ t₂ → SameWritten s₁ s₂ space₁ space₂ ↔ SameTimings t₁ t₂
+
+-- and without that condition: where the words are the same, so are the spares
+abbrev pub Demand-3-whole : Type 0
+Demand-3-whole = (s₁ s₂ : List ℕ) (t₁ t₂ : Sheet) (space₁ space₂ : List ℤ) → TwoPlans s₁ s₂ t₁ t₂ space₁ space₂ →
+    SameWritten s₁ s₂ space₁ space₂ ↔ (SameSpares t₁ t₂ × SameTimings t₁ t₂)
 
 -- ---- "With f panels that have a floor, steps is at most n + n² + ... + n to the power f": the number that is returned
 abbrev pub Steps-at-most : Type 0

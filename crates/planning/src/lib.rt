@@ -1,14 +1,23 @@
 // Planning: the least deviation, and the list at the front of the lent space.
 ghost use mathlib.Core.Path.{_≡_};
+ghost use mathlib.Core.List.{List};
+ghost use Prim.Native.Nat.{ℕ};
+ghost use Rattle.sheet.specs.Sheet.{Sheet};
+ghost use Rattle.sheet.specs.Cue.{sheet-lines};
+ghost use Rattle.preparing.specs.Prepared.{Made};
+ghost use Rattle.lines.specs.Listing.{Answers};
 ghost use Rattle.planning.specs.Planning as outcome;
 ghost use Rattle.planning.specs.Planning.{planning, space-after, plan-answer};
 use lines::Listed;
+use lines::lay::lay_out;
+use preparing::Prepared;
 
-// Document 01's refusal, 1 to 8, and nothing else; 9 and the count needed; or 0, the sheet's number of triggers, Δ, the walk's fixings, its
-// selections and the number of lines.
+// Document 01's refusal, 1 to 8, and nothing else; 9 and the count needed; or 0, the sheet's number of triggers, those of them that are spare
+// (bit 0 for trigger 1), Δ, the walk's fixings, its selections and the number of lines.
 pub struct CuePlan {
     pub refusal: u8,
     pub triggers: usize,
+    pub spares: u8,
     pub deviation: i64,
     pub steps: u32,
     pub selections: u32,
@@ -38,23 +47,46 @@ pub fn plan(bytes: &[u8], space: &mut [i32]) -> CuePlan
     if prepared.refusal != 0 {
         return no_plan(prepared.refusal);
     }
-    let marked = prepared.marked;
-    let marks = marked.marks;
-    let n = marks.triggers;
-    let f = marks.levels;
+    let marks = prepared.marked.marks;
     let masks = marks.kept;
-    let counts = tally::tally(f, &masks, &gains);
-    let deviation = words::number(marked.least);
-    match lines::list(space, marks, &star, &lag, &needs) {
+    let counts = tally::tally(marks.levels, &masks, &gains);
+    let deviation = words::number(prepared.marked.least);
+    match list_sheet(space, prepared, &star, &lag, &needs) {
         Listed::NoRoom(k) => no_room(k),
         Listed::Lines(k) => CuePlan {
             refusal: 0,
-            triggers: n,
+            triggers: prepared.cue.places.triggers,
+            spares: prepared.cue.places.spares,
             deviation: deviation,
             steps: counts.steps,
             selections: counts.selections,
             count: k,
         },
+    }
+}
+
+// The list of the cue in the space, laid out over the sheet's triggers; or its count and no change.
+fn list_sheet(
+    space: &mut [i32],
+    prepared: Prepared,
+    star: &[[u64; 6]; 6],
+    lag: &[[u64; 6]; 6],
+    needs: &[[u64; 6]; 6],
+) -> Listed
+    requires { ⌜ ((s : Sheet) × (orders : List (List ℕ)) × (gains : List (List ℕ)) ×
+        Made s orders (now lag) (now star) gains (now needs) prepared) ⌝ }
+    ensures { λ r. ⌜ ((s : Sheet) (orders gains : List (List ℕ)) →
+        Made s orders (now (lag .entry)) (now (star .entry)) gains (now (needs .entry)) prepared →
+        Answers (s .triggers) (sheet-lines s) (now (space .entry)) (now (space .exit)) r) ⌝ }
+{
+    let marks = prepared.marked.marks;
+    let places = prepared.cue.places;
+    match lines::list(space, marks, star, lag, needs) {
+        Listed::NoRoom(k) => Listed::NoRoom(k),
+        Listed::Lines(k) => {
+            lay_out(space, k, places);
+            Listed::Lines(k)
+        }
     }
 }
 
@@ -65,6 +97,7 @@ fn no_plan(refusal: u8) -> CuePlan
     CuePlan {
         refusal: refusal,
         triggers: 0,
+        spares: 0,
         deviation: 0,
         steps: 0,
         selections: 0,
@@ -79,6 +112,7 @@ fn no_room(count: usize) -> CuePlan
     CuePlan {
         refusal: 9,
         triggers: 0,
+        spares: 0,
         deviation: 0,
         steps: 0,
         selections: 0,

@@ -4,32 +4,39 @@ use mathlib.Core.Bool.{Bool, true, false, not}
 use mathlib.Core.List.{List, []}
 use Prim.Native.Nat.{ℕ, _≤_, _<_}
 use native.Mathlib.Omega.{arith}
+use lib.Dec.{T}
 use lib.ListN.{getD}
 use borrow.Author.Tests.{not-true}
-use Rattle.maxplus.specs.Entry.{_⊕_}
+use Rattle.maxplus.specs.Entry.{_⊕_, Present}
 use Rattle.maxplus.specs.Tables.{mm, star, NoGain}
+use Rattle.maxplus.proofs.PackingLaws.{placed}
+use Rattle.maxplus.proofs.SupLaws.{sup-ext}
 use Rattle.cue.specs.Cue as theory
-use Rattle.words.specs.Words.{far}
+use Rattle.cue.specs.Cue.{timing}
+use Rattle.words.specs.Words.{entry, far}
 use Rattle.sheet.specs.Sheet.{Got, got, refused, read, given, given-table}
 use Rattle.sheet.specs.Sheet as spec
 use Rattle.sheet.specs.Sizes.{order-limit}
-use Rattle.sheet.specs.Cue.{cue-size, order-table, cue-of}
-use Rattle.sheet.specs.Good.{Good}
+use Rattle.sheet.specs.Cue.{used, cue-size, trigger-at, order-table, cue-of}
 use Rattle.sheet.proofs.Good.{read-good}
+use Rattle.sheet.proofs.Spares.{used-not-spare, used-order}
 use Rattle.sheet.proofs.Seam.{order-of-after}
 use Rattle.reading.specs.Reading.{answer}
 use Rattle.reading.specs.declared.SheetWords.{SheetWords}
 use Rattle.reading.specs.declared.Reading.{Reading}
 use Rattle.reading.proofs.Refusals.{refusal-numbered}
 use Rattle.rows.specs.declared.Row.{Row}
-use Rattle.tables.specs.Held.{meant, Holds, Closely}
+use Rattle.tables.specs.Held.{meant, meantV, Holds, HoldsV, Closely}
 use Rattle.tables.proofs.SquareLaws.{closely-within, closely-more}
+use Rattle.spares.specs.Using.{tied, PlacesOf, Picked, PickedTables}
+use Rattle.spares.specs.declared.Places.{Places}
+use Rattle.spares.proofs.PickedLaws.{picked-at}
 use Rattle.order.proofs.OrderLaws.{mm-held}
 use Rattle.order.specs.Closed.{Closed}
 use Rattle.preparing.specs.declared.CueWords.{CueWords}
 use Rattle.preparing.specs.declared.Marked.{Marked}
 use Rattle.preparing.specs.declared.Prepared.{Prepared}
-use Rattle.preparing.specs.Prepared.{Worded, HoldsCue, Tabled, MarkedAs, PreparedAs}
+use Rattle.preparing.specs.Prepared.{Worded, HoldsCue, CueFrom, Tabled, MarkedAs, PreparedAs}
 use Rattle.preparing.proofs.Results.{strip-held, grid-held, dues-held, lags-close, orders-close, star-held, star-close, through-held, order-says}
 use Rattle.cue.specs.Sizes.{size-limit}
 
@@ -68,7 +75,7 @@ module _ {s : spec.Sheet} {t : SheetWords} (W : Worded s t) where
   panels-few = rw panels-of (W .good .panels-few)
 
   pub lags-of : {r : List (List ℕ)} → SameRows (t .lag) r → Holds (s .panels) (s .triggers) (s .lag) r
-  lags-of {r} h = grid-held (s .lag) r (W .good .panels-few) (W .good .triggers-few) (W .good .limited .lags)
+  lags-of {r} h = grid-held (s .lag) r (W .good .panels-few) (W .good .triggers-few) (W .good .lags)
       (subst (λ t. SameRows (t .lag) r) (W .words) h)
 
   pub afters-of : {r : List (List ℕ)} → SameRows (t .after) r → Holds (s .triggers) (s .triggers) (s .after) r
@@ -93,7 +100,7 @@ module _ {s : spec.Sheet} {t : SheetWords} (W : Worded s t) where
   lands-near h = rw (triggers-of, panels-of) (closely-within (omega arith) (omega arith) h (W .good .lands))
 
   pub lags-near : {lags : List (List ℕ)} → Holds (s .panels) (s .triggers) (s .lag) lags → Closely (t .panels) (t .triggers) far lags
-  lags-near h = rw (triggers-of, panels-of) (closely-within (omega arith) (omega arith) h (W .good .limited .lags))
+  lags-near h = rw (triggers-of, panels-of) (closely-within (omega arith) (omega arith) h (W .good .lags))
 
   pub orders-joined : {afters lands lags waits r : List (List ℕ)} → Holds (s .triggers) (s .triggers) (s .after) afters →
       Holds (s .triggers) (s .panels) (given-table (s .land)) lands → Holds (s .panels) (s .triggers) (s .lag) lags →
@@ -105,27 +112,72 @@ module _ {s : spec.Sheet} {t : SheetWords} (W : Worded s t) where
         ap₂ _⊕_ (ha .at i j hi hj) (mm-held hc hl (rw (triggers-of, panels-of) at hw) .at i j hi hj);
   }
 
-  -- ---- the words of its cue
-  pub cue-words : (orders lags : List (List ℕ)) → Holds (s .triggers) (s .triggers) (order-table s) orders →
+  -- ---- the triggers in use
+  tied-held : {orders lags : List (List ℕ)} → Holds (s .triggers) (s .triggers) (order-table s) orders → Holds (s .panels) (s .triggers) (s .lag) lags →
+      (j : ℕ) → j < s .triggers →
+      tied (s .panels) (s .triggers) (order-table s) (s .lag) j ≡ tied (s .panels) (s .triggers) (meant orders) (meant lags) j
+  unfolding tied
+  tied-held ho hl j h = rw (
+    sup-ext (s .panels) (λ i q. hl .at i j q h),
+    sup-ext (s .triggers) (λ k q. ho .at j k h q),
+    sup-ext (s .triggers) (λ k q. ho .at k j q h),
+  )
+
+  pub places-used : {p : Places} {orders lags : List (List ℕ)} → Holds (s .triggers) (s .triggers) (order-table s) orders →
       Holds (s .panels) (s .triggers) (s .lag) lags →
-      HoldsCue (cue-of s) orders lags (record { triggers = t .triggers; panels = t .panels; floor = t .floor; due = t .due })
-  cue-words orders lags ho hl = subst (λ t. HoldsCue (cue-of s) orders lags
-      (record { triggers = t .triggers; panels = t .panels; floor = t .floor; due = t .due })) (sym (W .words)) (by-good (W .good))
+      ((u : ℕ → Bool) → ((j : ℕ) → T (u j) → j < t .triggers) →
+      ((j : ℕ) → j < t .triggers → u j ≡ tied (t .panels) (t .triggers) (meant orders) (meant lags) j) → PlacesOf u (t .triggers) p) →
+      PlacesOf (used s) (s .triggers) p
+  unfolding tied
+  places-used ho hl f = (rw (triggers-of, panels-of) at f) (used s) (λ j u. used-not-spare s j .0 u .0)
+      (λ j h. used-order s lagged j h ∙ tied-held ho hl j h)
     where
-      by-good : Good s → let t = answer (got s []) .sheet in
-          HoldsCue (cue-of s) orders lags (record { triggers = t .triggers; panels = t .panels; floor = t .floor; due = t .due })
-      by-good G = record {
-        some = G .triggers-some;
-        few = G .triggers-few;
-        few-panels = G .panels-few;
-        panels-are = refl;
-        readable = G .readable;
-        limited = G .limited;
-        lags-are = hl;
-        floors-are = strip-held (s .floor) (G .panels-few) (G .limited .floors);
-        dues-are = dues-held s G;
-        orders-are = ho;
+      lagged : (i : ℕ) → i < s .panels → (j : ℕ) × (j < s .triggers) × Present (s .lag i j)
+      lagged i h = let (k, q, p) = W .good .readable .lagged i h in (trigger-at s k, placed (used s) (s .triggers) k q .below, p)
+
+  -- ---- the words of its cue: what is picked at the places in use is what the sheet has there
+  module _ {p : Places} (U : PlacesOf (used s) (s .triggers) p) where
+    below : (k : ℕ) → k < cue-size s → trigger-at s k < s .triggers
+    below k q = placed (used s) (s .triggers) k q .below
+
+    -- the tables before and after
+    module _ {orders lags order lag : List (List ℕ)} (T : PickedTables (used s) (s .triggers) (t .panels) orders order lags lag) where
+      lags-picked : Holds (s .panels) (s .triggers) (s .lag) lags → Holds (s .panels) (cue-size s) (cue-of s .lag) lag
+      unfolding meant
+      lags-picked hl = record { at = λ i k hi q. ap entry (T .lags i k (rw panels-of hi) q) ∙ hl .at i (trigger-at s k) hi (below k q) }
+
+      orders-picked : Holds (s .triggers) (s .triggers) (order-table s) orders → Holds (cue-size s) (cue-size s) (cue-of s .order) order
+      unfolding meant
+      orders-picked ho = record {
+        at = λ k l hk hl. ap entry (T .orders k l hk hl) ∙ ho .at (trigger-at s k) (trigger-at s l) (below k hk) (below l hl);
       }
+
+    dues-picked : {due : List ℕ} → Picked p (t .due) due → HoldsV (cue-size s) (timing (cue-of s .due)) due
+    unfolding meantV
+    dues-picked h = record {
+      at = λ k q. ap entry (picked-at U h k q) ∙ ap (λ t. meantV (t .due) (trigger-at s k)) (W .words) ∙
+          dues-held s (W .good) .at (trigger-at s k) (below k q);
+    }
+
+    floors-of : HoldsV (s .panels) (s .floor) (t .floor)
+    floors-of = subst (λ t. HoldsV (s .panels) (s .floor) (t .floor)) (sym (W .words))
+        (strip-held (s .floor) (W .good .panels-few) (W .good .limited .floors))
+
+    pub cue-words : {orders lags order lag : List (List ℕ)} {due : List ℕ} → Holds (s .triggers) (s .triggers) (order-table s) orders →
+        Holds (s .panels) (s .triggers) (s .lag) lags → PickedTables (used s) (s .triggers) (t .panels) orders order lags lag → Picked p (t .due) due →
+        HoldsCue (cue-of s) order lag (record { triggers = p .count; panels = t .panels; floor = t .floor; due = due; places = p })
+    cue-words ho hl T fd = record {
+      some = rw (U .count-is) (W .good .readable .trigger);
+      few = rw (U .count-is) (W .good .few);
+      few-panels = W .good .panels-few;
+      panels-are = panels-of;
+      readable = rw (U .count-is) (W .good .readable);
+      limited = rw (U .count-is) (W .good .limited);
+      lags-are = rw (U .count-is) (lags-picked T hl);
+      floors-are = floors-of;
+      dues-are = rw (U .count-is) (dues-picked fd);
+      orders-are = rw (U .count-is) (orders-picked T ho);
+    }
 
 -- ---- the order check, M* and d
 module _ {P : theory.Cue} {orders lags : List (List ℕ)} {c : CueWords} (H : HoldsCue P orders lags c) where
@@ -166,10 +218,10 @@ module _ {g : Got spec.Sheet} {orders lags stars gains needs : List (List ℕ)} 
   pub unready : {r : Prepared} (k : ℕ) → r .refusal ≡ k → ¬ (k ≡ 0) → g ≡ refused k → PreparedAs g orders lags stars gains needs r
   unready k e h q = record { refusal = λ _. q ∙ ap refused (sym e); made = λ z. absurd (h (sym e ∙ z)) }
 
-  pub readied : {c : CueWords} {r : Marked} (s : spec.Sheet) (x : List ℕ) → g ≡ got s x → c .triggers ≡ cue-size s →
-      HoldsCue (cue-of s) orders lags c → NoGain (c .triggers) (cue-of s .order) → MarkedAs (c .triggers) (cue-of s) lags stars gains needs r →
+  pub readied : {c : CueWords} {r : Marked} (s : spec.Sheet) (x : List ℕ) → g ≡ got s x → CueFrom s orders lags c →
+      NoGain (c .triggers) (cue-of s .order) → MarkedAs (c .triggers) (cue-of s) lags stars gains needs r →
       PreparedAs g orders lags stars gains needs (record { refusal = 0; cue = c; marked = r })
-  readied {c} {r} s x e q H np M =
+  readied {c} {r} s x e F np M =
       record {
         refusal = λ h. absurd (h refl);
         made = λ _. (
@@ -177,10 +229,11 @@ module _ {g : Got spec.Sheet} {orders lags stars gains needs : List (List ℕ)} 
           x,
           e,
           record {
-            sized = q;
-            held = H;
-            order = subst (λ n. NoGain n (cue-of s .order)) q np;
-            marked = subst (λ n. MarkedAs n (cue-of s) lags stars gains needs r) q M;
+            sized = F .sized;
+            placed = F .placed;
+            held = F .held;
+            order = subst (λ n. NoGain n (cue-of s .order)) (F .sized) np;
+            marked = subst (λ n. MarkedAs n (cue-of s) lags stars gains needs r) (F .sized) M;
           },
         );
       }

@@ -6,7 +6,6 @@ use mathlib.Core.Bool.{Bool, true, false, cond, _&&_}
 use Prim.Native.Nat.{ℕ, zero, suc, _≤_, _<_}
 use native.Mathlib.Omega.{arith}
 use native.Mathlib.Nat.{le-refl}
-use lib.Count.{ones}
 use lib.Dec.{ltb}
 use lib.IntN.{ℤ}
 use lib.ListN.{getD}
@@ -25,14 +24,14 @@ use Rattle.sheet.specs.Sizes.{order-limit, star-size, through-size, mark-down, 
 use Rattle.rows.specs.Grid.{strip, grid}
 use Rattle.rows.proofs.PlaceLaws.{strip-at, grid-at}
 use Rattle.cue.specs.Cue.{Cue, timing, overdue, shortfall}
-use Rattle.cue.specs.Method.{through, pullE, pull, mark, leastE, least, floor-panels, kept, kept-byte, kept-count}
+use Rattle.cue.specs.Method.{through, pullE, pull, mark, leastE, least, floor-panels, kept, kept-byte}
 use Rattle.cue.proofs.Deviation.{pull-is, mv-through, mark-keeps, mark-shortfall}
 use Rattle.cue.specs.Results.{Within}
 use Rattle.cue.proofs.Bounds.{star-within, through-within, pull-within, least-within}
 use Rattle.tables.specs.Held.{meant, meantV, Holds, HoldsV, Closely, CloselyV, Says}
 use Rattle.maxplus.specs.Finite.{byte-of}
 use Rattle.trigger_sets.specs.Sets.{bit}
-use Rattle.trigger_sets.proofs.ByteLaws.{byte-ext, byte-small, byte-ones, byte-bit}
+use Rattle.trigger_sets.proofs.ByteLaws.{byte-ext, byte-small, byte-bit}
 use Rattle.thresholds.specs.Thresholds.{reaches, kept-of, KeptBytes, floored}
 use Rattle.tables.proofs.SquareLaws.{close-within, closely-within, closely-withinV}
 use Rattle.order.proofs.OrderLaws.{mm-held}
@@ -68,7 +67,7 @@ dues-held t G = record { at = λ j h. held .at j h ∙ there j h }
 
     held : HoldsV (t .triggers) (λ j. cond (ltb j (t .triggers)) (num (t .due j)) absent)
         (strip (λ j. cond (ltb j (t .triggers)) (num (t .due j)) absent))
-    held = strip-held _ (G .triggers-few) (λ j h. subst (Within limit limit) (sym (there j h)) (G .limited .dues j h))
+    held = strip-held _ (G .triggers-few) (λ j h. subst (Within limit limit) (sym (there j h)) (G .dues j h))
 
 -- ---- tables that agree
 power-ext : (n : ℕ) (A B : Mat) → ((i j : ℕ) → i < n → j < n → A i j ≡ B i j) → (k i j : ℕ) → i < n → j < n →
@@ -87,10 +86,6 @@ module _ (n : ℕ) (P : Cue) (D : ℤ) (i : ℕ) where
   pub kept-small : n ≤ size-limit → kept-byte n P D i < 64
   unfolding kept-byte
   kept-small six = unfold byte-of in byte-small n (kept n P D i) six
-
-  pub kept-ones : ones (kept-byte n P D i) ≡ kept-count n P D i
-  unfolding kept-byte kept-count
-  kept-ones = unfold byte-of in byte-ones n (kept n P D i)
 
 module _ {P : Cue} {orders lags : List (List ℕ)} {c : CueWords} (H : HoldsCue P orders lags c) where
   abbrev n : ℕ

@@ -15,11 +15,12 @@ use Rattle.words.specs.Words.{entry, Near}
 use Rattle.sheet.specs.Sheet.{Got, got, refused, limit}
 use Rattle.sheet.specs.Sheet as spec
 use Rattle.sheet.specs.Sizes.{order-limit}
-use Rattle.sheet.specs.Cue.{cue-size, cue-of}
+use Rattle.sheet.specs.Cue.{used, cue-size, cue-of}
 use Rattle.sheet.specs.Good.{Good}
 use Rattle.reading.specs.Reading.{answer}
 use Rattle.reading.specs.declared.SheetWords.{SheetWords}
 use Rattle.tables.specs.Held.{Holds, HoldsV, Says}
+use Rattle.spares.specs.Using.{PlacesOf}
 use Rattle.walk.specs.Follows.{Follows}
 use Rattle.candidates.specs.Drawable.{Drawable}
 use Rattle.preparing.specs.declared.CueWords.{CueWords}
@@ -45,7 +46,13 @@ pub record HoldsCue (P : theory.Cue) (orders lags : List (List ℕ)) (c : CueWor
   pub dues-are : HoldsV (c .triggers) (timing (P .due)) (c .due)
   pub orders-are : Holds (c .triggers) (c .triggers) (P .order) orders
 
--- and its order can be kept; two more tables hold M* and d
+-- the words of the cue of a sheet s, and which of the sheet's triggers it has
+pub record CueFrom (s : spec.Sheet) (orders lags : List (List ℕ)) (c : CueWords) : Type 0 where
+  pub sized : c .triggers ≡ cue-size s
+  pub placed : PlacesOf (used s) (s .triggers) (c .places)
+  pub held : HoldsCue (cue-of s) orders lags c
+
+-- a cue whose order can be kept; two more tables hold M* and d
 pub record Fit (P : theory.Cue) (c : CueWords) (orders lags stars throughs : List (List ℕ)) : Type 0 where
   pub held : HoldsCue P orders lags c
   pub order : NoGain (c .triggers) (P .order)
@@ -75,6 +82,7 @@ pub record MarkedAs (n : ℕ) (P : theory.Cue) (lags stars gains needs : List (L
 -- a sheet whose order can be kept, with all that is made from it
 pub record Made (s : spec.Sheet) (orders lags stars gains needs : List (List ℕ)) (r : Prepared) : Type 0 where
   pub sized : r .cue .triggers ≡ cue-size s
+  pub placed : PlacesOf (used s) (s .triggers) (r .cue .places)
   pub held : HoldsCue (cue-of s) orders lags (r .cue)
   pub order : NoGain (cue-size s) (cue-of s .order)
   pub marked : MarkedAs (cue-size s) (cue-of s) lags stars gains needs (r .marked)

@@ -5,25 +5,30 @@ ghost use mathlib.Core.List.{List};
 ghost use Prim.Native.Nat.{ℕ};
 ghost use Rattle.sheet.specs.Sheet as spec;
 ghost use Rattle.sheet.specs.Sheet.{read};
-ghost use Rattle.sheet.specs.Cue.{cue-size, order-table, cue-of};
+ghost use Rattle.sheet.specs.Cue.{order-table};
 ghost use Rattle.sheet.specs.Ordered.{ordered};
 ghost use Rattle.reading.specs.Reading.{answer};
 ghost use Rattle.cue.specs.Cue as theory;
 ghost use Rattle.tables.specs.Held.{Holds};
-ghost use Rattle.preparing.specs.Prepared.{Worded, HoldsCue, Tabled, PreparedAs};
+ghost use Rattle.preparing.specs.Prepared.{Worded, HoldsCue, CueFrom, Tabled, PreparedAs};
 use candidates::Marks;
 use reading::Reading;
 use reading::SheetWords;
+use spares::Places;
+use spares::pick_tables;
+use spares::picked;
+use spares::places_of;
 
 mod levels;
 mod marks;
 
-// A cue's sizes, floors and due marks as words. Its tables, lag and order, are lent beside it.
+// A cue's sizes, floors and due marks as words, and which of the sheet's triggers it has. Its tables, lag and order, are lent beside it.
 pub struct CueWords {
     pub triggers: usize,
     pub panels: usize,
     pub floor: [u64; 6],
     pub due: [u64; 6],
+    pub places: Places,
 }
 
 // The first `panels` places of `at` are the panels with a floor, those of `kept` their bytes.
@@ -50,21 +55,22 @@ pub struct Prepared {
 // The one place where the words of a sheet become those of its cue: the lent tables are its order and its lags.
 pub fn cue_of(t: SheetWords, order: &mut [[u64; 6]; 6], lag: &mut [[u64; 6]; 6]) -> CueWords
     requires { ⌜ ((s : spec.Sheet) × Worded s t) ⌝ }
-    ensures sized { λ r. ⌜ ((s : spec.Sheet) → Worded s t → r .triggers ≡ cue-size s) ⌝ }
-    ensures held { λ r. ⌜ ((s : spec.Sheet) → Worded s t → HoldsCue (cue-of s) (now (order .exit)) (now (lag .exit)) r) ⌝ }
+    ensures { λ r. ⌜ ((s : spec.Sheet) → Worded s t → CueFrom s (now (order .exit)) (now (lag .exit)) r) ⌝ }
 {
     let lag_rows = t.lag;
-    let lags = tables::table(lag_rows);
-    *lag = lags;
-    let orders = order_of(t, &lags);
-    *order = orders;
+    *lag = tables::table(lag_rows);
+    *order = order_of(t, lag);
+    let places = places_of(order, lag, t.panels, t.triggers);
+    pick_tables(order, lag, t.panels, places);
     let floor = t.floor;
     let due = t.due;
+    let dues = picked(due, places);
     CueWords {
-        triggers: t.triggers,
+        triggers: places.count,
         panels: t.panels,
         floor: floor,
-        due: due,
+        due: dues,
+        places: places,
     }
 }
 
@@ -142,11 +148,19 @@ pub fn prepare(
 pub fn not_prepared(refusal: u8) -> Prepared
     ensures { λ r. ⌜ r .refusal ≡ refusal ⌝ }
 {
+    let places = Places {
+        triggers: 0,
+        count: 0,
+        at: [0u8; 6],
+        used: 0,
+        spares: 0,
+    };
     let cue = CueWords {
         triggers: 0,
         panels: 0,
         floor: [0u64; 6],
         due: [0u64; 6],
+        places: places,
     };
     let marks = Marks {
         triggers: 0,

@@ -1,5 +1,6 @@
 -- Laws of weighing lines, of the outcomes, and what is promised of the timing and the list.
 pub mod WeighedLaws
+pub mod HandLaws
 pub mod WordsLaws
 pub mod ReachLaws
 pub mod Promise

@@ -12,7 +12,7 @@ use Rattle.maxplus.specs.Line.{Line}
 use Rattle.cue.specs.Written.{line-size}
 use Rattle.sheet.specs.Sheet.{Got, got, Sheet}
 use Rattle.sheet.specs.Sheet as sheet
-use Rattle.sheet.specs.Meaning.{Timing}
+use Rattle.sheet.specs.Meaning.{Timing, spare}
 use Rattle.sheet.specs.Cue.{sheet-least, sheet-steps, sheet-selections, sheet-lines}
 use Rattle.sheet.specs.Good.{Good}
 use Rattle.sheet.specs.Admitted.{admitted}
@@ -45,7 +45,7 @@ module _ (s : List ℕ) (count : ℕ) (G : Timing) (space : List ℤ) (t : Sheet
   whole = reached (t .triggers) (latest-exists s count G t x e .0) (sheet-lines t)
 
   abbrev plan : PlanOutcome
-  plan = planned (t .triggers) (sheet-least t) (sheet-steps t) (sheet-selections t) (sheet-lines t)
+  plan = planned (t .triggers) (spare t) (sheet-least t) (sheet-steps t) (sheet-selections t) (sheet-lines t)
 
   planning-is : planning s space ≡ cond (leb (length (sheet-lines t)) room) plan (full (length (sheet-lines t)))
   unfolding planning
@@ -58,7 +58,7 @@ module _ (s : List ℕ) (count : ℕ) (G : Timing) (space : List ℤ) (t : Sheet
   reaches : planning s space ≡ plan → Reaches s t G space whole
   unfolding space-after reached-space
   reaches p =
-      let latest = latest-same t good (admits .orderly) handed (latest-exists s count G t x e .1) in
+      let latest = latest-same t handed (latest-exists s count G t x e .1) in
       record {
         latest = latest;
         only = λ X h j q. latest-one h latest j q;
@@ -103,7 +103,7 @@ reached-refused e = clash cc
 reached-full : {n k : ℕ} {X : Timing} {L : List (Line n)} → reached n X L ≡ outcome.full k → ⊥
 reached-full e = clash cc
 
-planned-full : {n a b k : ℕ} {D : ℤ} {L : List (Line n)} → planned n D a b L ≡ full k → ⊥
+planned-full : {n a b k : ℕ} {s : ℕ → Bool} {D : ℤ} {L : List (Line n)} → planned n s D a b L ≡ full k → ⊥
 planned-full e = clash cc
 
 same-sheet : {t u : Sheet} {r x : List ℕ} → got t r ≡ got u x → t ≡ u

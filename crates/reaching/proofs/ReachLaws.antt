@@ -1,5 +1,5 @@
 -- What reaching returns and leaves, by what was admitted and by what became of the list.
-use mathlib.Core.Path.{_≡_, refl, ap, sym, subst, pathJ, _∙_}
+use mathlib.Core.Path.{_≡_, refl, ap, sym, subst, pathJ}
 use mathlib.Core.Bool.{Bool, true, false, cond}
 use mathlib.Core.List.{List}
 use Prim.Native.Nat.{ℕ, _/_, _≤_, _<_}
@@ -8,19 +8,16 @@ use borrow.Author.Tests.{leb-true, leb-false}
 use lib.Dec.{leb}
 use lib.IntN.{ℤ}
 use lib.ListN.{length}
-use Rattle.cue.specs.Method.{lines}
-use Rattle.cue.specs.Latest.{latest}
 use Rattle.cue.specs.Written.{line-size}
 use Rattle.sheet.specs.Sheet.{Got, got, Sheet}
 use Rattle.sheet.specs.Sheet as sheet
 use Rattle.sheet.specs.Meaning.{Timing}
-use Rattle.sheet.specs.Cue.{cue-of, sheet-lines}
+use Rattle.sheet.specs.Cue.{sheet-lines}
 use Rattle.sheet.specs.Admitted.{admitted}
-use Rattle.sheet.proofs.Latest.{latest-exists}
+use Rattle.sheet.proofs.Latest.{latest-on, latest-exists}
 use Rattle.timing.specs.Times.{timing-of}
 use Rattle.timing.specs.declared.Timing as words
 use Rattle.lines.specs.Listing.{Answers}
-use Rattle.lines.specs.declared.Listed.{Listed}
 use Rattle.lines.specs.declared.Listed.the-variants.{Lines, NoRoom}
 use Rattle.reaching.specs.Reaching.{ReachOutcome, reached, full, refused, reach-of, reaching, reached-space, reach-answer}
 use Rattle.reaching.specs.declared.Reached.{Reached}
@@ -75,17 +72,13 @@ module _ (s : List ℕ) (count : ℕ) (G : Timing) (space : List ℤ) where
         go true f = let h = f refl in let y : ⊥ = omega arith in absurd y
         go false f = record { answer = ap (λ k. reach-answer (full k)) c; written = w }
 
-    -- the same for another name of n
-    module _ (m : ℕ) (same : m ≡ t .triggers) (k : ℕ) where
-      moved : (r : Listed) → Answers m (lines m (cue-of t)) space after r → Answers (t .triggers) (sheet-lines t) space after r
-      moved r a = subst (λ n. Answers n (lines n (cue-of t)) space after r) same a
-
-      pub does-lines : (T : words.Timing) {n : ℕ} → n ≡ m → T ≡ timing-of n (latest n (cue-of t) G) →
-          Answers m (lines m (cue-of t)) space after (Lines k) → Does (reaching s count G space) space after (record { refusal = 0; count = k; timing = T })
+    module _ (k : ℕ) where
+      pub does-lines : (T : words.Timing) → T ≡ timing-of (t .triggers) (latest-on t G) →
+          Answers (t .triggers) (sheet-lines t) space after (Lines k) →
+          Does (reaching s count G space) space after (record { refusal = 0; count = k; timing = T })
       unfolding latest-exists
-      does-lines T f q a = does-same (reaching-of e)
-          (lines-at k T (q ∙ ap (λ n. timing-of n (latest n (cue-of t) G)) (f ∙ same)) (moved (Lines k) a))
+      does-lines T q a = does-same (reaching-of e) (lines-at k T q a)
 
-      pub does-full : {r : Reached} → r ≡ reach-answer (full k) → Answers m (lines m (cue-of t)) space after (NoRoom k) →
+      pub does-full : {r : Reached} → r ≡ reach-answer (full k) → Answers (t .triggers) (sheet-lines t) space after (NoRoom k) →
           Does (reaching s count G space) space after r
-      does-full q a = does-same (reaching-of e) (subst (Does _ space after) (sym q) (full-at k (moved (NoRoom k) a)))
+      does-full q a = does-same (reaching-of e) (subst (Does _ space after) (sym q) (full-at k a))

@@ -1,93 +1,91 @@
 -- What the words of an admitted sheet and wish give on the way to the timing, for any name m of the number of triggers.
-use mathlib.Core.Path.{_≡_, sym, subst}
-use mathlib.Core.Bool.{false}
+use mathlib.Core.Path.{_≡_, ap, sym, subst, _∙_}
+use mathlib.Core.Logic.{_⊎_, inl, inr}
+use mathlib.Core.Bool.{false, not}
 use mathlib.Core.List.{List}
-use Prim.Native.Nat.{ℕ, _+_, _*_, _≤_, _<_}
-use native.Mathlib.Omega.{arith}
+use Prim.Native.Nat.{ℕ, _<_}
+use lib.Dec.{T}
 use lib.IntN.{ℤ}
-use lib.ListN.{length, drop, length-append}
 use lib.Seq.{take-at}
-use Rattle.maxplus.specs.Entry.{num}
-use Rattle.maxplus.specs.Tables.{NoGain}
-use Rattle.cue.specs.Cue.{timing}
-use Rattle.cue.specs.Vectors.{Readable}
+use Rattle.maxplus.specs.Packing.{rank, filled}
+use Rattle.maxplus.proofs.FiniteLaws.{test}
+use Rattle.maxplus.proofs.PackingLaws.{rank-more, filled-rank, filled-other}
 use Rattle.cue.specs.Method.{lines}
 use Rattle.cue.specs.Latest.{latest}
-use Rattle.cue.specs.Results.{Within, Fitting}
-use Rattle.cue.specs.Sizes.{size-limit}
 use Rattle.cue.specs.Standing.{Stands}
-use Rattle.cue.specs.Written.{line-size, list-words}
+use Rattle.cue.specs.Written.{list-words}
 use Rattle.cue.proofs.WrittenLaws.{list-words-length}
 use Rattle.words.specs.declared.LineWords.{LineWords}
 use Rattle.sheet.specs.Sheet.{got, Sheet}
 use Rattle.sheet.specs.Meaning.{Timing}
-use Rattle.sheet.specs.Cue.{cue-of}
+use Rattle.sheet.specs.Cue.{used, cue-size, cue-of}
 use Rattle.sheet.specs.Good.{Good}
-use Rattle.sheet.specs.Sizes.{line-down}
-use Rattle.sheet.specs.Times.{far-limit, some-beyond}
+use Rattle.sheet.specs.Times.{some-beyond}
 use Rattle.sheet.specs.Admitted.{admitted}
 use Rattle.sheet.proofs.AdmittedLaws.{Admits, admitted-as}
-use Rattle.sheet.proofs.Demands.{fitting}
 use Rattle.sheet.proofs.Good.{read-good}
-use Rattle.sheet.proofs.Latest.{latest-fits}
-use Rattle.tables.specs.Lines.{Carries}
+use Rattle.sheet.proofs.Seam.{at-used}
+use Rattle.sheet.proofs.ListLaws.{fitting-cue}
+use Rattle.sheet.proofs.Latest.{latest-on, latest-fits}
+use Rattle.timing.specs.Times.{component, TimingWords, timing-of}
+use Rattle.timing.specs.declared.Timing as words
+use Rattle.timing.proofs.NumberLaws.{component-of, timing-same}
 use Rattle.lines.specs.Listing.{Answers}
 use Rattle.lines.specs.declared.Listed.the-variants.{Lines}
+use Rattle.lines.proofs.SheetLaws.{listed-room}
 use Rattle.reaching.specs.Inner.{Weighable}
 
-module _ (s : List ℕ) (count : ℕ) (G : Timing) (t : Sheet) (x : List ℕ) (e : admitted s count G ≡ got t x) (m : ℕ) (same : m ≡ t .triggers) where
+module _ (s : List ℕ) (count : ℕ) (G : Timing) (t : Sheet) (x : List ℕ) (e : admitted s count G ≡ got t x) where
   abbrev admits : Admits s count G t x
   admits = admitted-as s count G t x e
 
   abbrev good : Good t
   good = read-good s t x (admits .read-is)
 
-  pub few : m ≤ size-limit
-  few = rw same (good .triggers-few)
+  -- no component is beyond the limit, spare ones included
+  pub near : some-beyond (t .triggers) G ≡ false
+  near = admits .near
 
-  pub near : some-beyond m G ≡ false
-  near = rw same (admits .near)
-
-  readable : Readable m (cue-of t)
-  readable = rw same (good .readable)
-
-  order : NoGain m (cue-of t .order)
-  order = rw same (admits .orderly)
-
-  fits : Fitting m (lines m (cue-of t))
-  fits = subst (λ n. Fitting n (lines n (cue-of t))) (sym same) (fitting t good (admits .orderly))
-
-  sizes : (j : ℕ) → j < m → Within (far-limit + line-down) far-limit (num (latest m (cue-of t) G j))
-  sizes = subst (λ n. (j : ℕ) → j < n → Within (far-limit + line-down) far-limit (num (latest n (cue-of t) G j))) (sym same)
-      (latest-fits s count G t x e)
-
-  module _ (before : List ℤ) {after : List ℤ} {k : ℕ} (a : Answers m (lines m (cue-of t)) before after (Lines k)) where
-    -- the list stands at the front, and the space holds its words
-    stands : Stands m k after (lines m (cue-of t))
+  module _ (m : ℕ) (same : m ≡ cue-size t) (before : List ℤ) {between : List ℤ} {k : ℕ}
+      (a : Answers m (lines m (cue-of t)) before between (Lines k)) where
+    -- the list stands at the front
+    stands : Stands (cue-size t) k between (lines (cue-size t) (cue-of t))
     stands =
-        let c = a .0 in
-        let L = lines m (cue-of t) in
+        let L = lines (cue-size t) (cue-of t) in
+        let (c, fits, w) = subst (λ n. Answers n (lines n (cue-of t)) before between (Lines k)) same a in
         record {
           many = sym c;
-          words = rw (a .2, c) (take-at (list-words m L) _ _ (list-words-length m L));
-          fitting = fits;
+          words = rw (w, c) (take-at (list-words (cue-size t) L) _ _ (list-words-length (cue-size t) L));
+          fitting = fitting-cue t good (admits .orderly);
         }
 
-    holds : line-size * k ≤ length after
-    holds =
-        let L = lines m (cue-of t) in
-        let l = length-append (list-words m L) (drop (line-size * length L) before) in
-        rw (a .2, a .0) (omega (arith, l, list-words-length m L))
-
     -- all that the latest timing is made from, by the wish's own count
-    pub weighable : {wish : LineWords} → Carries m far-limit (timing G) wish → Weighable (wish .count) (cue-of t) G k after (wish .at)
-    weighable {wish} w = subst (λ n. Weighable n (cue-of t) G k after (wish .at)) (sym (w .count)) (record {
-      few = few;
-      holds = holds;
+    pub weighable : {wish : LineWords} → TimingWords (cue-size t) (at-used t G) wish →
+        Weighable (wish .count) (cue-of t) (at-used t G) k between (wish .at)
+    weighable {wish} w = subst (λ n. Weighable n (cue-of t) (at-used t G) k between (wish .at)) (sym (w .count)) (record {
+      few = good .few;
+      holds = listed-room m (lines m (cue-of t)) before a;
       stands = stands;
       wished = w .words .is;
       close = w .words .close;
-      readable = readable;
-      order = order;
-      sizes = sizes;
+      readable = good .readable;
+      order = admits .orderly;
+      sizes = latest-fits s count G t x e;
     })
+
+  -- the times that the lines make, each at its own trigger, with the wish's at the spare ones
+  pub handed : {n : ℕ} {times : words.Timing} → n ≡ cue-size t → times ≡ timing-of n (latest n (cue-of t) (at-used t G)) → (R : words.Timing) →
+      R ≡ timing-of (t .triggers) (filled (used t) G (component (times .at))) → R ≡ timing-of (t .triggers) (latest-on t G)
+  unfolding latest-on
+  handed {n} {times} same q R f = f ∙ timing-same (t .triggers) _ _ (λ j h. go j h (test (used t j)))
+    where
+      made : times ≡ timing-of (cue-size t) (latest (cue-size t) (cue-of t) (at-used t G))
+      made = subst (λ n. times ≡ timing-of n (latest n (cue-of t) (at-used t G))) same q
+
+      at : (k : ℕ) → k < cue-size t → component (times .at) k ≡ latest (cue-size t) (cue-of t) (at-used t G) k
+      at k h = ap (λ T. component (T .at) k) made ∙ component-of (cue-size t) _ k (good .few) h
+
+      go : (j : ℕ) → j < t .triggers → T (used t j) ⊎ T (not (used t j)) →
+          filled (used t) G (component (times .at)) j ≡ filled (used t) G (latest (cue-size t) (cue-of t) (at-used t G)) j
+      go j h (inl u) = filled-rank (used t) _ _ j u ∙ at (rank (used t) j) (rank-more (used t) j (t .triggers) h u) ∙ sym (filled-rank (used t) _ _ j u)
+      go j h (inr u) = filled-other (used t) _ _ j u ∙ sym (filled-other (used t) _ _ j u)

@@ -1,12 +1,19 @@
 // Reaching for the latest tightest timing that is no later than a given one, with the list at the front of the lent space.
 ghost use mathlib.Core.Path.{_≡_};
-ghost use Rattle.timing.specs.Times.{component};
+ghost use mathlib.Core.Bool.{Bool};
+ghost use Prim.Native.Nat.{ℕ};
+ghost use Rattle.maxplus.specs.Packing.{filled};
+ghost use Rattle.timing.specs.Times.{component, timing-of};
+ghost use Rattle.spares.specs.Using.{PlacesOf};
 ghost use Rattle.reaching.specs.Reaching as outcome;
 ghost use Rattle.reaching.specs.Reaching.{reaching, reached-space, reach-answer};
 use crate::weighed::latest;
+use admitting::times_in_use;
 use lines::Listed;
+use lines::lay::lay_out;
+use spares::Places;
 use timing::Timing;
-use timing::times::words_of;
+use trigger_sets::has;
 
 mod weighed;
 
@@ -43,14 +50,45 @@ pub fn latest_timing(bytes: &[u8], wish: Timing, space: &mut [i32]) -> Reached
         return not_reached(prepared.refusal, 0);
     }
     let marks = prepared.marked.marks;
-    let within = words_of(wish, marks.triggers);
+    let places = prepared.cue.places;
+    let within = times_in_use(wish, places);
     match lines::list(space, marks, &star, &lag, &needs) {
         Listed::NoRoom(k) => not_reached(9, k),
-        Listed::Lines(k) => Reached {
-            refusal: 0,
-            count: k,
-            timing: latest(space, k, within),
-        },
+        Listed::Lines(k) => {
+            let times = latest(space, k, within);
+            lay_out(space, k, places);
+            Reached {
+                refusal: 0,
+                count: k,
+                timing: handed_back(wish, times, places),
+            }
+        }
+    }
+}
+
+// The times of the triggers in use, each at its own trigger, and the wish's at the spare ones: "No. 1 hands that number back."
+fn handed_back(wish: Timing, times: Timing, p: Places) -> Timing
+    requires { ⌜ ((s : ℕ → Bool) × (n : ℕ) × PlacesOf s n p) ⌝ }
+    ensures { λ r. ⌜ ((s : ℕ → Bool) (n : ℕ) → PlacesOf s n p →
+        r ≡ timing-of n (filled s (component (wish .at)) (component (times .at)))) ⌝ }
+{
+    let wished = wish.at;
+    let made = times.at;
+    let mut at = [0i64; 6];
+    let mut k: usize = 0;
+    let mut j: usize = 0;
+    while j < p.triggers {
+        if has(p.used, j) {
+            at[j] = made[k];
+            k += 1;
+        } else {
+            at[j] = wished[j];
+        }
+        j += 1;
+    }
+    Timing {
+        count: p.triggers,
+        at: at,
     }
 }
 

@@ -5,16 +5,16 @@ use Prim.Native.Nat.{ℕ}
 use native.Mathlib.Decide.{map-dec, ℕ-discrete}
 use lib.ListN.{length}
 use Rattle.maxplus.proofs.WholeLaws.{same-whole?}
-use Rattle.maxplus.proofs.FiniteLaws.{dec-×, same-list?}
+use Rattle.maxplus.proofs.FiniteLaws.{dec-×, all-dec, same-test?, same-list?}
 use Rattle.cue.specs.Written.{list-words}
 use Rattle.cue.proofs.Deviation as theory
 use Rattle.sheet.specs.Sheet.{Got, got, refused, Sheet, read}
-use Rattle.sheet.specs.Meaning.{Timing, Tightest, SameTimings}
+use Rattle.sheet.specs.Meaning.{Timing, spare, Tightest, SameSpares, SameTimings}
 use Rattle.sheet.specs.Asked.{TightestOn, Alike}
 use Rattle.sheet.specs.Cue.{cue-size, cue-of, Orderly, orderly?, sheet-lines}
 use Rattle.sheet.specs.Good.{Good}
 use Rattle.sheet.proofs.Good.{read-good}
-use Rattle.sheet.proofs.Seam.{tightest-cue}
+use Rattle.sheet.proofs.Seam.{at-used, tightest-cue}
 use Rattle.sheet.proofs.Demands.{order-kept, deviation-reached, tightest-test, demand-3}
 
 -- ---- a timing
@@ -26,7 +26,7 @@ tightest-on? : (t : Sheet) → Good t → (X : Timing) → Dec (Tightest t X)
 tightest-on? t G X = go (orderly? t)
   where
     go : Dec (Orderly t) → Dec (Tightest t X)
-    go (yes o) = map-dec (tightest-cue t X .1) (tightest-cue t X .0) (theory.tightest? (cue-size t) (cue-of t) (G .readable) o X)
+    go (yes o) = map-dec (tightest-cue t X .1) (tightest-cue t X .0) (theory.tightest? (cue-size t) (cue-of t) (G .readable) o (at-used t X))
     go (no f) = no (none-tightest t f X)
 
 pub tightest? : (s : List ℕ) (X : Timing) → Dec (TightestOn (read s) X)
@@ -41,11 +41,11 @@ tightest? s X = go (read s) refl
 some-tightest : (t : Sheet) → Good t → Orderly t → (X : Timing) × Tightest t X
 some-tightest t G o = let (X, k, d) = deviation-reached t G o in (X, tightest-test t G o X .1 (k, d))
 
-same-timings? : (t u : Sheet) → Good t → Good u → t .triggers ≡ u .triggers → Dec (SameTimings t u)
-same-timings? t u G H e = go (orderly? t) (orderly? u)
+same-timings? : (t u : Sheet) → Good t → Good u → t .triggers ≡ u .triggers → SameSpares t u → Dec (SameTimings t u)
+same-timings? t u G H e same = go (orderly? t) (orderly? u)
   where
     go : Dec (Orderly t) → Dec (Orderly u) → Dec (SameTimings t u)
-    go (yes o) (yes p) = let d = demand-3 t u G H o p e in
+    go (yes o) (yes p) = let d = demand-3 t u G H o p e same in
         map-dec (d .0) (d .1)
         (dec-× (ℕ-discrete (length (sheet-lines t)) (length (sheet-lines u)))
         (same-list? same-whole? (list-words (t .triggers) (sheet-lines t)) (list-words (u .triggers) (sheet-lines u))))
@@ -53,12 +53,19 @@ same-timings? t u G H e = go (orderly? t) (orderly? u)
     go (no f) (yes p) = no (λ g. let (X, h) = some-tightest u H p in none-tightest t f X (g X .1 h))
     go (no f) (no g) = yes (λ X. (λ h. absurd (none-tightest t f X h), λ h. absurd (none-tightest u g X h)))
 
+same-spares? : (t u : Sheet) → Dec (SameSpares t u)
+same-spares? t u = all-dec (λ j. spare t j ≡ spare u j) (λ j. same-test? (spare t j) (spare u j)) (t .triggers)
+
 pub alike? : (s₁ s₂ : List ℕ) → Dec (Alike (read s₁) (read s₂))
 alike? s₁ s₂ = go (read s₁) refl (read s₂) refl
   where
     by-size : (t u : Sheet) → Good t → Good u → Dec (t .triggers ≡ u .triggers) →
-        Dec ((t .triggers ≡ u .triggers) × SameTimings t u)
-    by-size t u G H (yes e) = map-dec (λ f. (e, f)) (λ p. p .1) (same-timings? t u G H e)
+        Dec ((t .triggers ≡ u .triggers) × SameSpares t u × SameTimings t u)
+    by-size t u G H (yes e) = by-spares (same-spares? t u)
+      where
+        by-spares : Dec (SameSpares t u) → Dec ((t .triggers ≡ u .triggers) × SameSpares t u × SameTimings t u)
+        by-spares (yes s) = map-dec (λ f. (e, s, f)) (λ p. p .2) (same-timings? t u G H e s)
+        by-spares (no f) = no (λ p. f (p .1))
     by-size t u G H (no f) = no (λ p. f (p .0))
 
     go : (g : Got Sheet) → read s₁ ≡ g → (h : Got Sheet) → read s₂ ≡ h → Dec (Alike g h)

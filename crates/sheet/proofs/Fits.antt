@@ -1,7 +1,7 @@
 -- All finite results of a sheet that is read fit signed 32 bits (specs/Fits): cue's sizes at the limits on a sheet's entries, and the sums
 -- that a tested timing makes with them.
 use mathlib.Core.Path.{_≡_, refl}
-use mathlib.Core.Bool.{false}
+use mathlib.Core.Bool.{Bool, true, false, cond}
 use mathlib.Core.List.{[], _∷_}
 use Prim.Native.Nat.{ℕ, _+_, _*_, _≤_, _<_}
 use native.Mathlib.Omega.{arith}
@@ -9,26 +9,28 @@ use native.Mathlib.Nat.{le-trans}
 use borrow.Author.Tests.{ltb-false}
 use lib.Dec.{ltb}
 use lib.IntN.{ℤ, pos}
-use Rattle.maxplus.specs.Whole.{up, dn}
-use Rattle.maxplus.specs.Entry.{num, inv}
+use Rattle.maxplus.specs.Whole.{up, dn, neg}
+use Rattle.maxplus.specs.Entry.{absent, num, _⊗_, inv}
 use Rattle.maxplus.specs.Finite.{each}
 use Rattle.maxplus.specs.Tables.{mv}
 use Rattle.maxplus.proofs.EntryLaws.{num-inj}
+use Rattle.maxplus.proofs.PackingLaws.{rank-few}
 use Rattle.maxplus.proofs.EachLaws.{each-at, length-each}
 use Rattle.cue.specs.Results.{Within, Signed32}
 use Rattle.cue.proofs.Bounds.{power-within, times-le, signed32, results-six, results-32}
 use Rattle.cue.proofs.Walk.{steps-bound}
-use Rattle.cue.proofs.Few.{selections-few, steps-few, lines-few}
+use Rattle.cue.proofs.Few.{geometric-mono, selections-few, steps-few, lines-few}
 use Rattle.sheet.specs.Sheet.{Sheet, limit}
 use Rattle.sheet.specs.Sizes.{order-limit, star-size, through-size, mark-down, least-up, need-down, line-down}
-use Rattle.sheet.specs.Meaning.{Timing, landing, overdue, shortfall, deviation}
+use Rattle.sheet.specs.Meaning.{Timing, landing, spare, overdue, shortfall, deviation}
 use Rattle.sheet.specs.Times.{far-limit, beyond, some-beyond}
-use Rattle.sheet.specs.Cue.{cue-size, cue-of}
+use Rattle.sheet.specs.Cue.{used, cue-size, cue-of}
 use Rattle.sheet.specs.Good.{Good}
 use Rattle.sheet.specs.Fits.{Fits, All-fit}
 use Rattle.sheet.proofs.LineLaws.{none-or, none-at}
-use Rattle.sheet.proofs.WithinLaws.{within-⊗, within-inv, within-sup}
+use Rattle.sheet.proofs.WithinLaws.{within-absent, within-⊗, within-inv, within-sup}
 use Rattle.sheet.proofs.Good.{read-good}
+use Rattle.sheet.proofs.ListLaws.{lines-many}
 
 -- ---- the sizes as multiples of the limit: an order entry, M*, d and r, Δ, w, a line
 pub values : (order-limit ≡ 2 * limit) × (star-size ≡ 10 * limit) × (through-size ≡ 11 * limit) × (mark-down ≡ 11 * limit) ×
@@ -48,11 +50,16 @@ near X n e j h =
 module _ (t : Sheet) (G : Good t) (X : Timing) (e : some-beyond (t .triggers) X ≡ false) where
   landing-within : (i : ℕ) → i < t .panels → Within (limit + far-limit) (limit + far-limit) (landing t X i)
   unfolding landing mv
-  landing-within i h = within-sup (t .triggers) _ (λ j q. within-⊗ (G .limited .lags i j h q) (near X (t .triggers) e j q))
+  landing-within i h = within-sup (t .triggers) _ (λ j q. within-⊗ (G .lags i j h q) (near X (t .triggers) e j q))
 
   overdue-within : Within (far-limit + limit) (far-limit + limit) (overdue t X)
   unfolding overdue inv
-  overdue-within = within-sup (t .triggers) _ (λ j q. within-⊗ (near X (t .triggers) e j q) (within-inv (G .limited .dues j q)))
+  overdue-within = within-sup (t .triggers) _ (λ j q. part j q (spare t j))
+    where
+      part : (j : ℕ) → j < t .triggers → (b : Bool) →
+          Within (far-limit + limit) (far-limit + limit) (cond b absent (num (X j) ⊗ num (neg (t .due j))))
+      part j q true = within-absent
+      part j q false = within-⊗ (near X (t .triggers) e j q) (within-inv (G .dues j q))
 
   shortfall-within : Within (limit + (limit + far-limit)) (limit + (limit + far-limit)) (shortfall t X)
   unfolding shortfall
@@ -69,15 +76,15 @@ fits t G =
     let P = cue-of t in
     record {
       powers = λ k i j hk hi hj.
-          let p : k * order-limit ≤ 6 * order-limit = times-le k 6 order-limit (le-trans hk (G .triggers-few)) in
-          signed32 (omega arith) (omega arith) (power-within n 5 limit order-limit P (G .limited) (G .triggers-few) k i j hi hj);
-      results = λ o. results-32 n limit order-limit P o (G .limited) (G .triggers-few) (omega arith);
+          let p : k * order-limit ≤ 6 * order-limit = times-le k 6 order-limit (le-trans hk (G .few)) in
+          signed32 (omega arith) (omega arith) (power-within n 5 limit order-limit P (G .limited) (G .few) k i j hi hj);
+      results = λ o. results-32 n limit order-limit P o (G .limited) (G .few) (omega arith);
       orders = G .limited .orders;
-      sizes = λ o. results-six n limit order-limit P o (G .limited) (G .triggers-few);
-      steps-most = steps-bound n P _;
-      steps = let h = steps-few n P (G .triggers-few) (G .panels-few) in omega arith;
-      selections = let h = selections-few n P (G .triggers-few) (G .panels-few) in omega arith;
-      count = let h = lines-few n P (G .triggers-few) (G .panels-few) in omega arith;
+      sizes = λ o. results-six n limit order-limit P o (G .limited) (G .few);
+      steps-most = le-trans (steps-bound n P _) (geometric-mono n (t .triggers) _ (rank-few (used t) (t .triggers)));
+      steps = let h = steps-few n P (G .few) (G .panels-few) in omega arith;
+      selections = let h = selections-few n P (G .few) (G .panels-few) in omega arith;
+      count = let h = lines-few n P (G .few) (G .panels-few) in let e = lines-many t in omega arith;
       landings = λ X e i h. signed32 (omega arith) (omega arith) (landing-within t G X e i h);
       deviation = λ X e. deviation-fits t G X e;
     }

@@ -11,20 +11,25 @@ use borrow.Author.Tests.{ltb-false}
 use Rattle.maxplus.specs.Whole.{up, dn}
 use Rattle.maxplus.specs.Entry.{E, absent, num, val, Present}
 use Rattle.maxplus.specs.Tables.{Mat}
-use Rattle.maxplus.proofs.EntryLaws.{num-inj, absent-not}
+use Rattle.maxplus.proofs.EntryLaws.{num-inj}
+use Rattle.maxplus.proofs.PackingLaws.{rank-few}
 use Rattle.cue.specs.Results.{Within}
-use Rattle.sheet.specs.Sheet.{got, refused, Rule, size, entry, limit, out-of-range, absent?, any, all, table, Sheet, sections, sizes, tables, part}
+use Rattle.sheet.specs.Sheet.{got, refused, Rule, size, entry, mark, limit, out-of-range, absent?, any, all, table, Sheet, sections}
+use Rattle.sheet.specs.Sheet.{sizes, tables, part}
 use Rattle.sheet.specs.Sheet.{count, panels-line, triggers-line, lag-lines, floor-line, due-line, after-lines, optional, land-kind, given-table}
 use Rattle.sheet.specs.Sheet.{sheet-of, finished, lines, read}
+use Rattle.sheet.specs.Cue.{used}
 use Rattle.sheet.specs.Good.{RowsOf, Good}
 use Rattle.sheet.proofs.LineLaws.{true-not-false, none-or, none-at, at-any, not-got, bind-got, passed, there}
 use Rattle.sheet.proofs.SectionLaws.{row-long, row-passes, sections-of, optional-of, size-read}
-use Rattle.sheet.proofs.Seam.{order-within}
+use Rattle.sheet.proofs.WithinLaws.{within-absent}
+use Rattle.sheet.proofs.Spares.{cue-readable}
+use Rattle.sheet.proofs.Seam.{cue-limited}
 use Rattle.cue.specs.Sizes.{size-limit}
 
 -- ---- entries
 in-range : (e : E) → out-of-range e ≡ false → Within limit limit e
-in-range absent h = record { low = record { above = λ z e. absurd (absent-not e) }; high = record { below = λ z e. absurd (absent-not e) } }
+in-range absent h = within-absent
 in-range (num z) h =
     let p = none-or (ltb limit (up z)) (ltb limit (dn z)) h in
     let u = ltb-false limit (up z) (p .0) in
@@ -53,6 +58,14 @@ module _ {r : Rule} {m n : ℕ} {t : List (List E)} (R : RowsOf r m n t) (i : �
 table-within : {m n : ℕ} {t : List (List E)} → RowsOf entry m n t → (i j : ℕ) → i < m → j < n → Within limit limit (table t i j)
 table-within R i j h q = entry-within R i h (row-passes R i h) j q
 
+-- the due marks, which are all there
+dues-within : {n : ℕ} {t : List (List E)} → RowsOf mark 1 n t → (j : ℕ) → j < n → Within limit limit (num (val (table t 0 j)))
+dues-within {t = t} R j q =
+    let p = row-passes R 0 (omega arith) in
+    let w = entry-within R 0 (omega arith) (p .0) j q in
+    let l = row-long R 0 (omega arith) in
+    rw (← there (table t 0 j) (none-at absent? absent (getD t 0 []) j (p .1) (omega arith))) w
+
 -- ---- the land lines
 land-within : (m n : ℕ) (s : List ℕ) (land : Option Mat) {x : List ℕ} → optional (land-kind m n) s ≡ got land x →
     (i j : ℕ) → i < n → j < m → Within limit limit (given-table land i j)
@@ -75,19 +88,14 @@ module _ (m n : ℕ) (few-m : m ≤ size-limit) (some-n : 1 ≤ n) (few-n : n �
         panels-few = few-m;
         triggers-some = some-n;
         triggers-few = few-n;
-        readable = record { trigger = some-n; floored = some-there floors 0 (omega arith) no-floor; lagged = λ i h. some-there lags i h no-lag };
+        few = let h = rank-few (used (sheet-of m n ts land)) n in omega arith;
+        readable = cue-readable (sheet-of m n ts land) (some-there floors 0 (omega arith) no-floor) (λ i h. some-there lags i h no-lag);
+        lags = table-within lags;
+        dues = dues-within dues;
         afters = table-within afters;
         lands = land-within m n x land f;
-        limited = record {
-          lags = table-within lags;
-          floors = λ i q. table-within floors 0 i (omega arith) q;
-          dues = λ j q.
-              let p = row-passes dues 0 (omega arith) in
-              let w = entry-within dues 0 (omega arith) (p .0) j q in
-              let l = row-long dues 0 (omega arith) in
-              rw (← there (table (part ts due-line) 0 j) (none-at absent? absent (getD (part ts due-line) 0 []) j (p .1) (omega arith))) w;
-          orders = order-within (sheet-of m n ts land) (table-within lags) (table-within afters) (land-within m n x land f);
-        };
+        limited = cue-limited (sheet-of m n ts land) (table-within lags) (λ i q. table-within floors 0 i (omega arith) q) (dues-within dues)
+            (table-within afters) (land-within m n x land f);
       }
 
 finished-got : (m n : ℕ) (ts : List (List (List E))) (l : Option Mat) (y : List ℕ) {t : Sheet} {x : List ℕ} → finished m n ts l y ≡ got t x →

@@ -1,38 +1,80 @@
 -- The latest timing of a sheet (document 02, No. 1): the formula over the sheet's lines gives one, there is no other, and how far from 0 it is.
-use mathlib.Core.Path.{_≡_, ap, sym, _∙_}
+use mathlib.Core.Path.{_≡_, ap}
+use mathlib.Core.Logic.{_⊎_, inl, inr}
+use mathlib.Core.Bool.{not}
 use mathlib.Core.List.{List}
 use Prim.Native.Nat.{ℕ, _+_, _<_}
+use lib.Dec.{T}
+use Rattle.maxplus.specs.Whole.{_≤z_}
 use Rattle.maxplus.specs.Entry.{num}
+use Rattle.maxplus.specs.Packing.{rank}
+use Rattle.maxplus.specs.Latest.{NoLater, LatestOf}
+use Rattle.maxplus.proofs.WholeLaws.{z-refl}
 use Rattle.maxplus.proofs.LatestLaws as laws
+use Rattle.maxplus.proofs.FiniteLaws.{test}
+use Rattle.maxplus.proofs.PackingLaws.{rank-more, placed, place-rank, filled-rank, filled-other}
 use Rattle.cue.specs.Latest.{latest}
 use Rattle.cue.specs.Results.{Within}
+use Rattle.cue.specs.Vectors as vectors
 use Rattle.cue.proofs.Latest.{latest-is}
 use Rattle.cue.proofs.Bounds.{latest-within}
 use Rattle.sheet.specs.Sheet.{got, Sheet, limit}
 use Rattle.sheet.specs.Sizes.{order-limit, line-down}
-use Rattle.sheet.specs.Meaning.{Timing, Latest}
-use Rattle.sheet.specs.Cue.{cue-size, cue-of, Orderly}
+use Rattle.sheet.specs.Meaning.{Timing, Tightest, Latest}
+use Rattle.sheet.specs.Cue.{used, cue-size, trigger-at, cue-of, Orderly}
 use Rattle.sheet.specs.Good.{Good}
 use Rattle.sheet.specs.Times.{far-limit}
 use Rattle.sheet.specs.Admitted.{admitted}
 use Rattle.sheet.proofs.Good.{read-good}
 use Rattle.sheet.proofs.AdmittedLaws.{Admits, admitted-as}
-use Rattle.sheet.proofs.Seam.{tightest-cue}
-use Rattle.sheet.proofs.Demands.{demand-2}
+use Rattle.sheet.proofs.Seam.{at-used, over, over-tightest, tightest-ext, tightest-cue}
 use Rattle.sheet.proofs.Fits.{near}
 
-pub latest-formula : (t : Sheet) → Good t → Orderly t → (G : Timing) → Latest t G (latest (cue-size t) (cue-of t) G)
-latest-formula t good o G =
-    laws.latest-as (λ X. (tightest-cue t X .1, tightest-cue t X .0)) (latest-is (cue-size t) (cue-of t) (good .readable) o G)
+-- the times that the formula gives for the triggers in use, and the given ones at the spare triggers: "No. 1 hands that number back"
+unfoldable pub latest-on : Sheet → Timing → Timing
+latest-on t G = over t G (latest (cue-size t) (cue-of t) (at-used t G))
+
+module _ (t : Sheet) (good : Good t) (o : Orderly t) (G : Timing) where
+  abbrev best : Timing
+  best = latest (cue-size t) (cue-of t) (at-used t G)
+
+  abbrev best-is : LatestOf (cue-size t) (vectors.Tightest (cue-size t) (cue-of t)) (at-used t G) best
+  best-is = latest-is (cue-size t) (cue-of t) (good .readable) o (at-used t G)
+
+  module _ (j : ℕ) (h : j < t .triggers) where
+    -- at a trigger in use, and at a spare one
+    in-use : T (used t j) → (Y : Timing) → (Y (trigger-at t (rank (used t) j)) ≡ Y j) × (rank (used t) j < cue-size t)
+    in-use u Y = (ap Y (place-rank (used t) (t .triggers) j h u), rank-more (used t) j (t .triggers) h u)
+
+    no-later : T (used t j) ⊎ T (not (used t j)) → over t G best j ≤z G j
+    no-later (inl u) = let (e, q) = in-use u G in
+        rw (filled-rank (used t) G best j u) (rw e at (best-is .no-later (rank (used t) j) q))
+    no-later (inr u) = rw (filled-other (used t) G best j u) (z-refl (G j))
+
+    later : (Y : Timing) → Tightest t Y → NoLater (t .triggers) Y G → T (used t j) ⊎ T (not (used t j)) → Y j ≤z over t G best j
+    later Y y k (inl u) = let (e, q) = in-use u Y in
+        rw (filled-rank (used t) G best j u) (rw e at
+        (best-is .latest (at-used t Y) (tightest-cue t Y .0 y) (λ i p. k (trigger-at t i) (placed (used t) (t .triggers) i p .below))
+        (rank (used t) j) q))
+    later Y y k (inr u) = rw (filled-other (used t) G best j u) (k j h)
+
+  pub latest-formula : Latest t G (latest-on t G)
+  unfolding latest-on
+  latest-formula = record {
+    such = over-tightest t G best (best-is .such);
+    no-later = λ j h. no-later j h (test (used t j));
+    latest = λ Y y k j h. later j h Y y k (test (used t j));
+  }
 
 pub latest-one : {t : Sheet} {G X Y : Timing} → Latest t G X → Latest t G Y → (j : ℕ) → j < t .triggers → X j ≡ Y j
 latest-one h k = laws.latest-one h k
 
 -- only the first n components count
-pub latest-same : (t : Sheet) → Good t → Orderly t → {G X Y : Timing} → ((j : ℕ) → j < t .triggers → X j ≡ Y j) →
+pub latest-same : (t : Sheet) → {G X Y : Timing} → ((j : ℕ) → j < t .triggers → X j ≡ Y j) →
     Latest t G X → Latest t G Y
-latest-same t good o {G} {X} {Y} e h = let w = demand-2 t good o X .0 (h .such) in record {
-  such = demand-2 t good o Y .1 (record { weight = w .weight; is = λ j q. ap num (sym (e j q)) ∙ w .is j q });
+latest-same t {G} {X} {Y} e h = record {
+  such = tightest-cue t Y .1 (tightest-ext (cue-size t) (cue-of t) (λ k q. e (trigger-at t k) (placed (used t) (t .triggers) k q .below))
+      (tightest-cue t X .0 (h .such)));
   no-later = λ j q. rw (← e j q) (h .no-later j q);
   latest = λ Z u k j q. rw (← e j q) (h .latest Z u k j q);
 }
@@ -46,12 +88,13 @@ module _ (s : List ℕ) (count : ℕ) (G : Timing) (t : Sheet) (r : List ℕ) (e
 
   -- "One always exists"
   unfoldable pub latest-exists : (X : Timing) × Latest t G X
-  latest-exists = (latest (cue-size t) (cue-of t) G, latest-formula t good (admits .orderly) G)
+  latest-exists = (latest-on t G, latest-formula t good (admits .orderly) G)
 
   given : (j : ℕ) → j < t .triggers → Within far-limit far-limit (num (G j))
   given = near G (t .triggers) (admits .near)
 
-  -- it is as far from 0 as a given timing may be, and a line's size lower at most
-  pub latest-fits : (j : ℕ) → j < t .triggers → Within (far-limit + line-down) far-limit (num (latest (cue-size t) (cue-of t) G j))
-  latest-fits = latest-within (cue-size t) (cue-of t) G far-limit far-limit given limit order-limit (admits .orderly) (good .limited)
-      (good .triggers-few)
+  -- it is as far from 0 as a given timing may be, and a line's size lower at most: at the triggers in use, and the given one at the others
+  pub latest-fits : (k : ℕ) → k < cue-size t →
+      Within (far-limit + line-down) far-limit (num (latest (cue-size t) (cue-of t) (at-used t G) k))
+  latest-fits = latest-within (cue-size t) (cue-of t) (at-used t G) far-limit far-limit
+      (λ k q. given (trigger-at t k) (placed (used t) (t .triggers) k q .below)) limit order-limit (admits .orderly) (good .limited) (good .few)

@@ -2,10 +2,13 @@
 pub mod LineLaws
 pub mod SectionLaws
 pub mod WithinLaws
+pub mod Spares
 pub mod Seam
 pub mod Good
+pub mod ListLaws
 pub mod OrderedLaws
 pub mod AdmittedLaws
+pub mod TwoSheets
 pub mod Demands
 pub mod Decided
 pub mod Fits

@@ -1,11 +1,14 @@
 -- Sums, differences and largest values of entries within limits.
 use mathlib.Core.Logic.{inl, inr}
 use Prim.Native.Nat.{ℕ, _+_, _≤_, _<_}
-use Rattle.maxplus.specs.Entry.{E, _⊗_, _⊕_, inv}
+use Rattle.maxplus.specs.Entry.{E, absent, _⊗_, _⊕_, inv}
 use Rattle.maxplus.specs.Tables.{sup}
-use Rattle.maxplus.proofs.EntryLaws.{⊕-or}
+use Rattle.maxplus.proofs.EntryLaws.{⊕-or, absent-not}
 use Rattle.cue.specs.Results.{Within}
 use Rattle.cue.proofs.Bounds.{above-more, below-more, above-⊗, below-⊗, above-inv, below-inv, above-sup, below-sup}
+
+pub within-absent : {k l : ℕ} → Within k l absent
+within-absent = record { low = record { above = λ z e. absurd (absent-not e) }; high = record { below = λ z e. absurd (absent-not e) } }
 
 pub within-more : {k l : ℕ} {a : E} → k ≤ l → Within k k a → Within l l a
 within-more h i = record { low = above-more h (i .low); high = below-more h (i .high) }

@@ -5,7 +5,7 @@ use mathlib.Core.Bool.{false}
 use mathlib.Core.List.{List}
 use Prim.Native.Nat.{ℕ, _≤_, _<_}
 use lib.ListN.{length}
-use Rattle.maxplus.specs.Entry.{E}
+use Rattle.maxplus.specs.Entry.{E, num}
 use Rattle.maxplus.specs.Finite.{In}
 use Rattle.cue.specs.Vectors.{Readable}
 use Rattle.cue.specs.Results.{Within, Limited}
@@ -30,7 +30,10 @@ pub record Good (t : Sheet) : Type 0 where
   pub panels-few : t .panels ≤ size-limit
   pub triggers-some : 1 ≤ t .triggers
   pub triggers-few : t .triggers ≤ size-limit
+  pub few : cue-size t ≤ size-limit
   pub readable : Readable (cue-size t) (cue-of t)
+  pub lags : (i j : ℕ) → i < t .panels → j < t .triggers → Within limit limit (t .lag i j)
+  pub dues : (j : ℕ) → j < t .triggers → Within limit limit (num (t .due j))
   pub afters : (i j : ℕ) → i < t .triggers → j < t .triggers → Within limit limit (t .after i j)
   pub lands : (i j : ℕ) → i < t .triggers → j < t .panels → Within limit limit (given-table (t .land) i j)
   pub limited : Limited (cue-size t) limit order-limit (cue-of t)

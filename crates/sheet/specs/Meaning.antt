@@ -1,16 +1,25 @@
 -- What a sheet means (document 01, "One cue in one house", and document 02). Nothing here knows of star, selections or lines.
 use mathlib.Core.Logic.{_↔_}
+use mathlib.Core.Path.{_≡_}
+use mathlib.Core.Bool.{Bool, cond, not, _&&_}
+use mathlib.Core.List.{List}
 use Prim.Native.Nat.{ℕ, _<_}
+use lib.Dec.{T}
 use lib.IntN.{ℤ}
 use Rattle.maxplus.specs.Whole.{neg}
-use Rattle.maxplus.specs.Entry.{E, num, _≼_, _⊗_, inv}
-use Rattle.maxplus.specs.Tables.{sup, Vec, mv}
+use Rattle.maxplus.specs.Entry.{E, absent, num, _≼_, _⊗_, inv, present?}
+use Rattle.maxplus.specs.Tables.{sup, supL, Vec, mv}
+use Rattle.maxplus.specs.Line.{Line, at}
 use Rattle.maxplus.specs.Latest.{LatestOf}
 use Rattle.sheet.specs.Sheet.{Sheet, given-table}
 
 -- "A timing is n whole numbers x, milliseconds, of any size": X 0 … X (n − 1), whatever stands past them
 abbrev pub Timing : Type 0
 Timing = ℕ → ℤ
+
+-- none of f 0 … f (n − 1) is present: the largest of them is absent
+abbrev pub none-present : ℕ → Vec → Bool
+none-present n f = not (present? (sup n f))
 
 module _ (S : Sheet) where
   open Sheet S using (panels, triggers, lag, floor, due, after, land)
@@ -25,9 +34,16 @@ module _ (S : Sheet) where
     pub after-rules : (i j : ℕ) → i < triggers → j < triggers → after i j ⊗ num (X j) ≼ num (X i)
     pub land-rules : (i j : ℕ) → i < triggers → j < panels → given-table land i j ⊗ landing X j ≼ num (X i)
 
-  -- "the largest x(j) − q(j)"
+  -- "A trigger is now spare if it has no lag to any panel, no present after entry in its row or column, and no present land entry in its row"
+  -- (document 02, No. 4)
+  unfoldable pub spare : ℕ → Bool
+  spare j =
+      none-present panels (λ i. lag i j) && none-present triggers (λ k. after j k) && none-present triggers (λ k. after k j) &&
+      none-present panels (λ i. given-table land j i)
+
+  -- "The largest x(j) − q(j) is taken over triggers that are not spare": an absent one adds nothing to a largest
   unfoldable pub overdue : Timing → E
-  overdue X = sup triggers (λ j. num (X j) ⊗ num (neg (due j)))
+  overdue X = sup triggers (λ j. cond (spare j) absent (num (X j) ⊗ num (neg (due j))))
 
   -- "the largest p(i) − y(i) over panels with a floor": an absent floor adds nothing to a largest
   unfoldable pub shortfall : Timing → E
@@ -46,6 +62,16 @@ module _ (S : Sheet) where
   -- other such timing" (document 02, No. 1): X, where G is given
   abbrev pub Latest : Timing → Timing → Type 0
   Latest G X = LatestOf triggers Tightest G X
+
+  -- "A max-plus combination of lines adds a weight to each line and takes the largest, component by component", with whole-number weights, one
+  -- for each line; "Every statement on combinations … is about the components that are not spare"
+  pub record Weighed (L : List (Line triggers)) (X : Timing) : Type 0 where
+    pub weight : Line triggers → ℤ
+    pub is : (j : ℕ) → j < triggers → T (not (spare j)) → num (X j) ≡ supL L (λ c. num (weight c) ⊗ at triggers c j)
+
+-- "the same triggers are spare"
+abbrev pub SameSpares : Sheet → Sheet → Type 0
+SameSpares t u = (j : ℕ) → j < t .triggers → spare t j ≡ spare u j
 
 -- "every timing is tightest on both sheets or on neither" (demand 3)
 abbrev pub SameTimings : Sheet → Sheet → Type 0

@@ -6,17 +6,21 @@ use Prim.Native.Nat.{ℕ}
 use Rattle.maxplus.specs.Entry.{num}
 use Rattle.maxplus.specs.Tables.{NoGain}
 use Rattle.cue.specs.Cue as theory
+use Rattle.cue.specs.Cue.{timing}
 use Rattle.cue.specs.Vectors as vectors
 use Rattle.cue.specs.Method.{least}
 use Rattle.words.specs.Words.{entry}
+use Rattle.words.specs.declared.LineWords.{LineWords}
+use Rattle.timing.specs.Times.{TimingWords}
 use Rattle.timing.specs.Deviation.{SheetClose}
 use Rattle.timing.specs.Test.{MeasuredWords, TestSays}
 use Rattle.sheet.specs.Sheet.{Sheet}
 use Rattle.sheet.specs.Sizes.{order-limit}
 use Rattle.sheet.specs.Meaning.{Timing, Tightest}
+use Rattle.sheet.specs.Times.{far-limit}
 use Rattle.sheet.specs.Cue.{cue-size, cue-of}
-use Rattle.sheet.proofs.Seam.{tightest-cue}
-use Rattle.tables.specs.Held.{Closely, Says}
+use Rattle.sheet.proofs.Seam.{at-used, tightest-cue}
+use Rattle.tables.specs.Held.{HoldsV, Closely, CloselyV, Says}
 use Rattle.preparing.specs.declared.CueWords.{CueWords}
 use Rattle.preparing.specs.declared.Prepared.{Prepared}
 use Rattle.preparing.specs.Prepared.{HoldsCue, Made}
@@ -45,19 +49,29 @@ module _ {P : theory.Cue} {orders lags : List (List ℕ)} {c : CueWords} (H : Ho
       }
 
 -- tightest on the cue is tightest on the sheet
-over-seam : (t : Sheet) (X : Timing) (v : Bool) → Says (vectors.Tightest (cue-size t) (cue-of t) X) v → Says (Tightest t X) v
+over-seam : (t : Sheet) (X : Timing) (v : Bool) → Says (vectors.Tightest (cue-size t) (cue-of t) (at-used t X)) v → Says (Tightest t X) v
 over-seam t X true h = tightest-cue t X .1 h
 over-seam t X false h = λ g. h (tightest-cue t X .0 g)
 
 module _ {s : Sheet} {orders lags stars gains needs : List (List ℕ)} {r : Prepared} (M : Made s orders lags stars gains needs r) where
-  pub tested-asks : SheetClose (r .cue .panels) (r .cue .triggers) lags (r .cue .floor) (r .cue .due) ×
-      Closely (r .cue .triggers) (r .cue .triggers) order-limit orders
-  tested-asks = (sheet-close (M .held), orders-close (M .held))
-
-  pub tested-says : (X : Timing) (v : Bool) →
-      TestSays (r .cue .panels) (r .cue .triggers) orders lags (r .cue .floor) (r .cue .due) (r .marked .least) X v → Says (Tightest s X) v
-  tested-says X v T = over-seam s X v (subst (λ n. Says (vectors.Tightest n (cue-of s) X) v) (M .sized)
+  tested-on : (X : Timing) (v : Bool) →
+      TestSays (r .cue .panels) (r .cue .triggers) orders lags (r .cue .floor) (r .cue .due) (r .marked .least) (at-used s X) v →
+      Says (Tightest s X) v
+  tested-on X v T = over-seam s X v (subst (λ n. Says (vectors.Tightest n (cue-of s) (at-used s X)) v) (M .sized)
       (T .tightest (cue-of s)
       (sheet-words (M .held) (r .marked .least) (M .marked .deviation ∙ ap (λ n. num (least n (cue-of s))) (sym (M .sized))))
       (M .held .readable)
       (subst (λ n. NoGain n (cue-of s .order)) (sym (M .sized)) (M .order))))
+
+  -- x has the words of X's components at the triggers in use, by its own count
+  module _ (X : Timing) {x : LineWords} (w : TimingWords (cue-size s) (at-used s X) x) where
+    size : x .count ≡ r .cue .triggers
+    size = w .count ∙ sym (M .sized)
+
+    pub tested-asks : SheetClose (r .cue .panels) (x .count) lags (r .cue .floor) (r .cue .due) × Closely (x .count) (x .count) order-limit orders ×
+        CloselyV (x .count) far-limit (x .at)
+    tested-asks = (rw size (sheet-close (M .held)), rw size (orders-close (M .held)), rw (w .count) (w .words .close))
+
+    pub tested-says : (v : Bool) → ((Y : Timing) → HoldsV (x .count) (timing Y) (x .at) →
+        TestSays (r .cue .panels) (x .count) orders lags (r .cue .floor) (r .cue .due) (r .marked .least) Y v) → Says (Tightest s X) v
+    tested-says v f = tested-on X v (rw size at (f (at-used s X) (rw (w .count) (w .words .is))))

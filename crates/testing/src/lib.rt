@@ -2,6 +2,7 @@
 ghost use mathlib.Core.Path.{_≡_};
 ghost use Rattle.timing.specs.Times.{component};
 ghost use Rattle.testing.specs.Testing.{testing, test-answer};
+use admitting::times_in_use;
 use timing::Timing;
 
 // Yes or no, or document 01's refusal, and nothing else.
@@ -37,16 +38,8 @@ pub fn test_timing(bytes: &[u8], timing: Timing) -> Tested
     let marked = prepared.marked;
     let floor = cue.floor;
     let due = cue.due;
-    if timing::test::tested(
-        &order,
-        &lag,
-        floor,
-        due,
-        marked.least,
-        timing,
-        cue.panels,
-        cue.triggers,
-    ) {
+    let x = times_in_use(timing, cue.places);
+    if timing::test::tested(&order, &lag, floor, due, marked.least, x, cue.panels) {
         return Tested::Yes;
     }
     Tested::No

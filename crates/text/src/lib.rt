@@ -7,6 +7,7 @@ ghost use lib.IntN.{pos};
 ghost use lib.ListN.{length, take, getD};
 ghost use Rattle.maxplus.specs.Finite.{each};
 ghost use Rattle.maxplus.specs.Line.{Line};
+ghost use Rattle.trigger_sets.specs.Sets.{bit};
 ghost use Rattle.writing.specs.Texts.{plan-text, kept-text, latest-text, refusal-text, full-text};
 ghost use Rattle.cue.specs.Standing.{Stands};
 ghost use Rattle.writing.specs.Writing.{Writes};
@@ -27,26 +28,27 @@ pub struct Ends {
     pub complaint: usize,
 }
 
-// The text of a plan whose lines stand in `words`. The four fields take at most 117 bytes, a line 78.
+// The text of a plan whose lines stand in `words`, with its spare triggers as bits. The four fields take at most 117 bytes, a line 78.
 pub fn plan_text(
     out: &mut [u8],
     deviation: i64,
     steps: u64,
     selections: u64,
     n: usize,
+    spares: u8,
     words: &[i32],
     count: usize,
 ) -> usize
     requires { ⌜ (100 * count + 200 ≤ length (now out)) × (n ≤ 6) × (line-size * count ≤ length (now words)) ⌝ }
     ensures within { λ r. ⌜ r ≤ length (now (out .exit)) ⌝ }
     ensures text { λ r. ⌜ ((L : List (Line n)) → Stands n count (now (words .entry)) L →
-        take r (now (out .exit)) ≡ plan-text n deviation steps selections L) ⌝ }
+        take r (now (out .exit)) ≡ plan-text n (bit spares) deviation steps selections L) ⌝ }
 {
     let mut end = number_field(out, 0, b"deviation=", deviation);
     end = natural_field(out, end, b"steps=", steps);
     end = natural_field(out, end, b"selections=", selections);
     end = natural_field(out, end, b"count=", count as u64);
-    put_lines(out, end, words, n, count)
+    put_lines(out, end, words, n, count, spares)
 }
 
 // The text of a kept table. The three fields take at most 90 bytes, a panel's line 13.

@@ -1,14 +1,18 @@
 // Items put at a place of the lent bytes: the plan's lines from their words, a kept table's panels, the times of a timing.
 ghost use mathlib.Core.List.{[], _∷_};
+ghost use mathlib.Core.Bool.{cond};
 ghost use Prim.Native.Nat.{_+_, _*_, _≤_, _<_};
 ghost use lib.IntN.{pos};
 ghost use lib.ListN.{length, getD};
 ghost use Rattle.maxplus.specs.Finite.{each};
-ghost use Rattle.writing.specs.Numerals.{numeral};
+ghost use Rattle.sheet.specs.Text.{bytes};
+ghost use Rattle.trigger_sets.specs.Sets.{bit};
+ghost use Rattle.writing.specs.Numerals.{numeral, item};
 ghost use Rattle.writing.specs.Texts.{joined, line-texts, panel-texts};
-ghost use Rattle.cue.specs.Standing.{line-at, lines-of};
+ghost use Rattle.cue.specs.Standing.{of-signed, line-at, lines-of};
 ghost use Rattle.writing.specs.Writing.{Puts, comma, items};
 ghost use Rattle.cue.specs.Written.{line-size};
+use trigger_sets::has;
 use words::LINE_SIZE;
 use writing::put_byte;
 use writing::put_bytes;
@@ -28,42 +32,68 @@ fn put_comma(out: &mut [u8], at: usize, j: usize) -> usize
     put_byte(out, at, b',')
 }
 
-// The items of the line whose seven words begin at `from`: at most 12 bytes each with the comma, and put_item asks 24 for the sixth.
-fn put_items(out: &mut [u8], at: usize, words: &[i32], from: usize, n: usize) -> usize
+// A component: `s` for a spare trigger's.
+fn put_component(out: &mut [u8], at: usize, word: i32, spare: bool) -> usize
+    requires { ⌜ at + 24 ≤ length (now out) ⌝ }
+    ensures { λ r. ⌜ Puts (now (out .entry)) (now (out .exit)) at r (cond spare (bytes "s") (item (of-signed word))) ⌝ }
+    ensures short { λ r. ⌜ r ≤ at + 11 ⌝ }
+{
+    if spare {
+        return put_byte(out, at, b's');
+    }
+    put_item(out, at, word)
+}
+
+// The items of the line whose seven words begin at `from`: at most 12 bytes each with the comma, and put_component asks 24 for the sixth.
+fn put_items(out: &mut [u8], at: usize, words: &[i32], from: usize, n: usize, spares: u8) -> usize
     requires { ⌜ (at + 90 ≤ length (now out)) × (n ≤ 6) × (from + line-size ≤ length (now words)) ⌝ }
-    ensures { λ r. ⌜ Puts (now (out .entry)) (now (out .exit)) at r (items n (line-at n (now (words .entry)) from)) ⌝ }
+    ensures { λ r. ⌜ Puts (now (out .entry)) (now (out .exit)) at r (items n (bit spares) (line-at n (now (words .entry)) from)) ⌝ }
     ensures short { λ r. ⌜ r ≤ at + 72 ⌝ }
 {
     let mut end = at;
     let mut j: usize = 0;
     while j < n {
         let behind = put_comma(out, end, j);
-        end = put_item(out, behind, words[from + 1 + j]);
+        end = put_component(out, behind, words[from + 1 + j], has(spares, j));
         j += 1;
     }
     end
 }
 
 // A line: 5 bytes of key, at most 72 of items and commas, LF.
-pub fn put_line(out: &mut [u8], at: usize, words: &[i32], from: usize, n: usize) -> usize
+pub fn put_line(
+    out: &mut [u8],
+    at: usize,
+    words: &[i32],
+    from: usize,
+    n: usize,
+    spares: u8,
+) -> usize
     requires { ⌜ (at + 100 ≤ length (now out)) × (n ≤ 6) × (from + line-size ≤ length (now words)) ⌝ }
-    ensures { λ r. ⌜ Puts (now (out .entry)) (now (out .exit)) at r (line-texts n (line-at n (now (words .entry)) from ∷ [])) ⌝ }
+    ensures { λ r. ⌜ Puts (now (out .entry)) (now (out .exit)) at r (line-texts n (bit spares) (line-at n (now (words .entry)) from ∷ [])) ⌝ }
     ensures short { λ r. ⌜ r ≤ at + 78 ⌝ }
 {
     let key = put_bytes(out, at, b"line=");
-    let end = put_items(out, key, words, from, n);
+    let end = put_items(out, key, words, from, n, spares);
     put_byte(out, end, b'\n')
 }
 
 // The first `count` lines of the words, 100 bytes for each.
-pub fn put_lines(out: &mut [u8], at: usize, words: &[i32], n: usize, count: usize) -> usize
+pub fn put_lines(
+    out: &mut [u8],
+    at: usize,
+    words: &[i32],
+    n: usize,
+    count: usize,
+    spares: u8,
+) -> usize
     requires { ⌜ (at + 100 * count ≤ length (now out)) × (n ≤ 6) × (line-size * count ≤ length (now words)) ⌝ }
-    ensures { λ r. ⌜ Puts (now (out .entry)) (now (out .exit)) at r (line-texts n (lines-of n count (now (words .entry)))) ⌝ }
+    ensures { λ r. ⌜ Puts (now (out .entry)) (now (out .exit)) at r (line-texts n (bit spares) (lines-of n count (now (words .entry)))) ⌝ }
 {
     let mut end = at;
     let mut k: usize = 0;
     while k < count {
-        end = put_line(out, end, words, LINE_SIZE * k, n);
+        end = put_line(out, end, words, LINE_SIZE * k, n, spares);
         k += 1;
     }
     end

@@ -10,8 +10,9 @@ use native.Mathlib.Omega.{arith}
 use lib.Dec.{T, eqb, eqb→eq, eqb-refl, eqb·zero-suc, eqb·suc-zero, eqb·suc-suc}
 use lib.Pow.{shr-shr}
 use lib.Bits.{bitAnd, bitOr, and-step, and-shr, and-mod, or-shr, or-mod}
+use Rattle.maxplus.proofs.FiniteLaws.{both}
 use Rattle.trigger_sets.specs.Sets.{bit, Has}
-use Rattle.trigger_sets.proofs.Tests.{all, all-at, both, either}
+use Rattle.trigger_sets.proofs.Tests.{all, all-at, either}
 
 -- ---- the bits of an intersection and of a union
 digit-and : (x y : ℕ) → x < 2 → y < 2 → eqb (bitAnd x y) 1 ≡ (eqb x 1 && eqb y 1)

@@ -1,5 +1,5 @@
 -- Laws of the byte of those triggers for which a test is true: its bits, how many they are, that it is small, and how a loop builds it.
-use mathlib.Core.Path.{_≡_, refl, ap, ap₂, sym, _∙_}
+use mathlib.Core.Path.{_≡_, refl, ap, sym, _∙_}
 use mathlib.Core.Bool.{Bool, true, false, _&&_}
 use Prim.Native.Nat.{ℕ, zero, suc, _+_, _*_, _^_, _≤_, _<_}
 use native.Mathlib.Omega.{arith}
@@ -11,13 +11,9 @@ use lib.Dec.{ltb, lit<}
 use borrow.Author.Tests.{lt-ltb, le-ltb, eq-eqb, ne-eqb}
 use Rattle.maxplus.specs.Finite.{sum, countIf}
 use Rattle.maxplus.specs.Finite.{byte-of}
+use Rattle.maxplus.proofs.FiniteLaws.{sum-ext}
 use Rattle.trigger_sets.specs.Sets.{bit}
 use Rattle.trigger_sets.proofs.BitLaws.{bit-none, bit-added}
-
-pub sum-ext : (n : ℕ) (f g : ℕ → ℕ) → ((j : ℕ) → j < n → f j ≡ g j) → sum n f ≡ sum n g
-unfolding sum
-sum-ext zero f g h = refl
-sum-ext (suc n) f g h = ap₂ _+_ (sum-ext n f g (λ j q. h j (omega arith))) (h n (omega arith))
 
 pub byte-ext : (n : ℕ) (a b : ℕ → Bool) → ((j : ℕ) → j < n → a j ≡ b j) → byte-of n a ≡ byte-of n b
 unfolding byte-of
@@ -71,6 +67,10 @@ byte-bit (suc n) b j h k = go (b n) refl (ℕ-discrete j n) (byte-bit n b j (ome
     go true e (no q) r l = bit-added n _ j (omega arith) l k ∙ rw (ne-eqb j n q, ltb-suc j n q) r
     go false e (yes q) r l = rw (add-zero, lt-ltb j (suc n) (omega arith)) (r ∙ rw (le-ltb j n (omega arith), q, e))
     go false e (no q) r l = rw (add-zero, ltb-suc j n q) r
+
+-- and where it is one of the n
+pub bit-at : (n : ℕ) (b : ℕ → Bool) (j : ℕ) → n ≤ 6 → j < n → bit (byte-of n b) j ≡ b j
+bit-at n b j h q = byte-bit n b j h (omega arith) ∙ rw (lt-ltb j n q)
 
 -- ---- a byte, bit by bit
 pub byte-none : (b : ℕ → Bool) → 0 ≡ byte-of 0 b

@@ -9,8 +9,9 @@ use lib.Dec.{T, eqb, ltb, eqb→eq, ltb→lt}
 use lib.Count.{trailingZeros}
 use lib.Bits.{bitAnd}
 use lib.ListN.{length}
+use Rattle.maxplus.proofs.FiniteLaws.{both}
 use Rattle.trigger_sets.specs.Sets.{bit, Has, bitsFrom, members}
-use Rattle.trigger_sets.proofs.Tests.{both, all-at}
+use Rattle.trigger_sets.proofs.Tests.{all-at}
 
 abbrev sameList : List ℕ → List ℕ → Bool
 sameList [] [] = true

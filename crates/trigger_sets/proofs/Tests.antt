@@ -1,14 +1,11 @@
--- Tests: two of them together, and one at every small number, computed once.
+-- Tests: one of two, and one at every small number, computed once.
 use mathlib.Core.Path.{sym, subst}
 use mathlib.Core.Logic.{_⊎_, inl, inr, ⊎-elim, _↔_}
 use mathlib.Core.Bool.{Bool, true, false, _&&_, _||_}
 use Prim.Native.Nat.{ℕ, zero, suc, _<_}
 use native.Mathlib.Nat.{not-suc-le-zero, le-of-suc-le-suc, eq-or-lt-of-le}
 use lib.Dec.{T}
-
-pub both : (p q : Bool) → T (p && q) ↔ (T p × T q)
-both true q = (λ t. (tt, t), λ t. t .1)
-both false q = (λ t. absurd t, λ t. t .0)
+use Rattle.maxplus.proofs.FiniteLaws.{both}
 
 pub either : (p q : Bool) → T (p || q) ↔ (T p ⊎ T q)
 either true q = (λ t. inl tt, λ t. tt)

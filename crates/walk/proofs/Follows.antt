@@ -28,7 +28,7 @@ use Rattle.walk.specs.Follows.{Follows}
 use Rattle.walk.specs.declared.Walk.{Walk}
 use Rattle.walk.specs.declared.Stepped.{Stepped}
 use Rattle.walk.specs.declared.Outcome.the-variants.{Selection, End}
-use Rattle.trigger_sets.proofs.ByteLaws.{sum-ext}
+use Rattle.maxplus.proofs.FiniteLaws.{sum-ext}
 use Rattle.walk.proofs.NarrowLaws.{bit-cut}
 use Rattle.walk.proofs.Whole.{start-pending}
 use Rattle.walk.proofs.RememberLaws.{nothing-asked}

@@ -1,6 +1,7 @@
--- Laws of lines: how a loop over items, lines or panels makes its text grow, part by part.
-use mathlib.Core.Path.{_≡_, refl, sym, ap, _∙_}
+-- Laws of lines: how a loop over items, lines or panels makes its text grow, part by part; which spare triggers a plan's text asks about.
+use mathlib.Core.Path.{_≡_, refl, sym, ap, ap₂, _∙_}
 use mathlib.Core.List.{List, [], _∷_, _++_, append-nil, append-assoc}
+use mathlib.Core.Bool.{Bool, true, false, cond}
 use Prim.Native.Nat.{ℕ, zero, suc, _+_, _*_, _≤_, _<_}
 use native.Mathlib.Numerals.{add-one}
 use native.Mathlib.Omega.{arith}
@@ -8,11 +9,11 @@ use lib.ListN.{length, getD, take, length-append, length-take}
 use lib.IntN.{ℤ, pos}
 use Rattle.maxplus.specs.Finite.{each}
 use Rattle.maxplus.specs.Line.{Line, at}
-use Rattle.maxplus.proofs.EachLaws.{length-each}
+use Rattle.maxplus.proofs.EachLaws.{length-each, each-same}
 use Rattle.maxplus.proofs.LineLaws.{at-line}
 use Rattle.sheet.specs.Text.{bytes}
-use Rattle.writing.specs.Numerals.{natural, item}
-use Rattle.writing.specs.Texts.{field, joined, line-texts, panel-texts}
+use Rattle.writing.specs.Numerals.{natural, numeral, item}
+use Rattle.writing.specs.Texts.{field, joined, component-text, line-texts, plan-text, panel-texts}
 use Rattle.cue.specs.Standing.{of-signed, line-at, lines-of}
 use Rattle.writing.specs.Writing.{Puts, comma, items}
 use Rattle.writing.proofs.PutLaws.{put-nothing, then, put-as}
@@ -36,8 +37,8 @@ module _ (T : ℕ → List ℕ) (size : ℕ) where
       }
 
 -- ---- items
-abbrev pub first-items : (n : ℕ) → Line n → ℕ → List ℕ
-first-items n c k = joined (each k (λ i. item (at n c i) ∷ []))
+abbrev pub first-items : (n : ℕ) → (ℕ → Bool) → Line n → ℕ → List ℕ
+first-items n spare c k = joined (each k (λ i. component-text n spare c i ∷ []))
 
 joined-last : (v w : List ℕ) (l : List (List ℕ)) → joined (v ∷ l ++ w ∷ []) ≡ joined (v ∷ l) ++ (bytes "," ++ w)
 unfolding joined
@@ -66,31 +67,59 @@ pub comma-behind : (j : ℕ) → ¬ (j ≡ 0) → bytes "," ≡ comma j
 comma-behind zero n = absurd (n refl)
 comma-behind (suc j) n = refl
 
+pub spare-component : {b : Bool} (t : List ℕ) → b ≡ true → bytes "s" ≡ cond b (bytes "s") t
+spare-component t e = sym (ap (λ b. cond b (bytes "s") t) e)
+
+pub used-component : {b : Bool} {t u : List ℕ} → b ≡ false → u ≡ t → u ≡ cond b (bytes "s") t
+used-component {t = t} e f = f ∙ sym (ap (λ b. cond b (bytes "s") t) e)
+
 -- the i-th item of a line is its word's
-pub item-of : (n : ℕ) (ws : List ℤ) (from i : ℕ) → i < n → item (of-signed (getD ws (from + 1 + i) (pos 0))) ≡ item (at n (line-at n ws from) i)
+item-of : (n : ℕ) (ws : List ℤ) (from i : ℕ) → i < n → item (of-signed (getD ws (from + 1 + i) (pos 0))) ≡ item (at n (line-at n ws from) i)
 unfolding line-at
 item-of n ws from i h = ap item (sym (at-line n (λ j. of-signed (getD ws (from + 1 + j) (pos 0))) i h))
 
+-- the i-th component is `s` or that item t, as the answer b to whether trigger i is spare has it
+pub component-of : (n : ℕ) (spare : ℕ → Bool) (ws : List ℤ) (from i : ℕ) → i < n → {b : Bool} {t : List ℕ} → b ≡ spare i →
+    t ≡ item (of-signed (getD ws (from + 1 + i) (pos 0))) → cond b (bytes "s") t ≡ component-text n spare (line-at n ws from) i
+component-of n spare ws from i h e f = ap₂ (λ b t. cond b (bytes "s") t) e (f ∙ item-of n ws from i h)
+
 -- ---- lines
-pub line-text : (n : ℕ) (c : Line n) → bytes "line=" ++ items n c ++ bytes "\n" ≡ line-texts n (c ∷ [])
-unfolding line-texts
-line-text n c = sym (append-nil (bytes "line=" ++ items n c ++ bytes "\n"))
+module _ (n : ℕ) (spare : ℕ → Bool) where
+  pub line-text : (c : Line n) → bytes "line=" ++ items n spare c ++ bytes "\n" ≡ line-texts n spare (c ∷ [])
+  unfolding line-texts
+  line-text c = sym (append-nil (bytes "line=" ++ items n spare c ++ bytes "\n"))
 
-lines-append : (n : ℕ) (L M : List (Line n)) → line-texts n (L ++ M) ≡ line-texts n L ++ line-texts n M
-unfolding line-texts
-lines-append n [] M = refl
-lines-append n (c ∷ L) M =
-    let first : List ℕ = field (bytes "line=") (items n c) in
-    ap (λ t. first ++ t) (lines-append n L M) ∙ sym (append-assoc first (line-texts n L) (line-texts n M))
+  lines-append : (L M : List (Line n)) → line-texts n spare (L ++ M) ≡ line-texts n spare L ++ line-texts n spare M
+  unfolding line-texts
+  lines-append [] M = refl
+  lines-append (c ∷ L) M =
+      let first : List ℕ = field (bytes "line=") (items n spare c) in
+      ap (λ t. first ++ t) (lines-append L M) ∙ sym (append-assoc first (line-texts n spare L) (line-texts n spare M))
 
-pub lines-none : (n : ℕ) (ws : List ℤ) → line-texts n (lines-of n 0 ws) ≡ []
-unfolding line-texts lines-of each
-lines-none n ws = refl
+  pub lines-none : (ws : List ℤ) → line-texts n spare (lines-of n 0 ws) ≡ []
+  unfolding line-texts lines-of each
+  lines-none ws = refl
 
-pub lines-more : (n : ℕ) (ws : List ℤ) (k : ℕ) →
-    line-texts n (lines-of n (suc k) ws) ≡ line-texts n (lines-of n k ws) ++ line-texts n (line-at n ws (line-size * k) ∷ [])
-unfolding lines-of each
-lines-more n ws k = lines-append n (lines-of n k ws) (line-at n ws (line-size * k) ∷ [])
+  pub lines-more : (ws : List ℤ) (k : ℕ) →
+      line-texts n spare (lines-of n (suc k) ws) ≡ line-texts n spare (lines-of n k ws) ++ line-texts n spare (line-at n ws (line-size * k) ∷ [])
+  unfolding lines-of each
+  lines-more ws k = lines-append (lines-of n k ws) (line-at n ws (line-size * k) ∷ [])
+
+-- ---- of the spare triggers only those below n are asked about
+module _ (n : ℕ) (s u : ℕ → Bool) (same : (j : ℕ) → j < n → s j ≡ u j) where
+  items-same : (c : Line n) → items n s c ≡ items n u c
+  items-same c = ap joined (each-same n _ _ (λ j h. ap (λ b. cond b (bytes "s") (item (at n c j)) ∷ []) (same j h)))
+
+  line-texts-same : (L : List (Line n)) → line-texts n s L ≡ line-texts n u L
+  unfolding line-texts
+  line-texts-same [] = refl
+  line-texts-same (c ∷ L) = ap₂ (λ t l. field (bytes "line=") t ++ l) (items-same c) (line-texts-same L)
+
+  pub plan-text-same : (D : ℤ) (k l : ℕ) (L : List (Line n)) → plan-text n s D k l L ≡ plan-text n u D k l L
+  unfolding plan-text
+  plan-text-same D k l L =
+      ap (λ t. field (bytes "deviation=") (numeral D) ++ field (bytes "steps=") (natural k) ++ field (bytes "selections=") (natural l) ++
+      field (bytes "count=") (natural (length L)) ++ t) (line-texts-same L)
 
 -- ---- panels
 pub panel-text : (b c : ℕ) → bytes "kept=" ++ natural b ++ bytes "," ++ natural c ++ bytes "\n" ≡ panel-texts ((b, c) ∷ [])

@@ -1,5 +1,6 @@
 -- The texts that the programs write (document 01, "Whole case"): of a plan, of a kept table, of a timing, of a refusal.
 use mathlib.Core.List.{List, [], _∷_, _++_}
+use mathlib.Core.Bool.{Bool, cond}
 use Prim.Native.Nat.{ℕ}
 use lib.IntN.{ℤ}
 use lib.ListN.{length}
@@ -18,15 +19,19 @@ joined [] = []
 joined (v ∷ []) = v
 joined (v ∷ w ∷ l) = v ++ bytes "," ++ joined (w ∷ l)
 
-unfoldable pub line-texts : (n : ℕ) → List (Line n) → List ℕ
-line-texts n [] = []
-line-texts n (c ∷ L) = field (bytes "line=") (joined (each n (λ j. item (at n c j) ∷ []))) ++ line-texts n L
+-- "a spare component is written `s` in every line" (document 02, No. 4)
+abbrev pub component-text : (n : ℕ) → (ℕ → Bool) → Line n → ℕ → List ℕ
+component-text n spare c j = cond (spare j) (bytes "s") (item (at n c j))
+
+unfoldable pub line-texts : (n : ℕ) → (ℕ → Bool) → List (Line n) → List ℕ
+line-texts n spare [] = []
+line-texts n spare (c ∷ L) = field (bytes "line=") (joined (each n (λ j. component-text n spare c j ∷ []))) ++ line-texts n spare L
 
 -- "The fields are Δ, the walk's fixings, its selections, the number of lines, then each line, trigger 1 first."
-unfoldable pub plan-text : (n : ℕ) → ℤ → ℕ → ℕ → List (Line n) → List ℕ
-plan-text n D k l L =
+unfoldable pub plan-text : (n : ℕ) → (ℕ → Bool) → ℤ → ℕ → ℕ → List (Line n) → List ℕ
+plan-text n spare D k l L =
     field (bytes "deviation=") (numeral D) ++ field (bytes "steps=") (natural k) ++ field (bytes "selections=") (natural l) ++
-    field (bytes "count=") (natural (length L)) ++ line-texts n L
+    field (bytes "count=") (natural (length L)) ++ line-texts n spare L
 
 -- a line for each panel: its byte and its bit count
 unfoldable pub panel-texts : List (ℕ × ℕ) → List ℕ

@@ -1,13 +1,13 @@
 -- What the functions of this crate promise: what stands in the lent bytes afterwards.
 use mathlib.Core.Path.{_≡_}
 use mathlib.Core.List.{List, [], _∷_, _++_}
+use mathlib.Core.Bool.{Bool}
 use Prim.Native.Nat.{ℕ, zero, suc, _+_, _≤_}
 use lib.ListN.{length, take}
 use Rattle.maxplus.specs.Finite.{each}
-use Rattle.maxplus.specs.Line.{Line, at}
+use Rattle.maxplus.specs.Line.{Line}
 use Rattle.sheet.specs.Text.{bytes}
-use Rattle.writing.specs.Numerals.{item}
-use Rattle.writing.specs.Texts.{joined}
+use Rattle.writing.specs.Texts.{joined, component-text}
 
 -- The text t is put at `from`, up to r: what stood before it is kept, and so is the length.
 pub record Puts (before after : List ℕ) (from r : ℕ) (t : List ℕ) : Type 0 where
@@ -27,5 +27,5 @@ comma zero = []
 comma (suc j) = bytes ","
 
 -- the items of a line, as line-texts has them
-abbrev pub items : (n : ℕ) → Line n → List ℕ
-items n c = joined (each n (λ j. item (at n c j) ∷ []))
+abbrev pub items : (n : ℕ) → (ℕ → Bool) → Line n → List ℕ
+items n spare c = joined (each n (λ j. component-text n spare c j ∷ []))

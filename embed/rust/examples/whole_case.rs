@@ -1,5 +1,6 @@
 //! The whole case from Rust: plans it, chooses times from its lines, tests them, finds the latest that
-//! are no later than wished, lets a trigger wait for a panel, and compares it with another sheet.
+//! are no later than wished, lets a trigger wait for a panel, plans it for a desk with an idle trigger, and
+//! compares it with other sheets.
 //!
 //!     rt staticlib planner_c
 //!     cargo run --offline --manifest-path embed/rust/Cargo.toml --example whole_case
@@ -28,6 +29,19 @@ after=-,-
 after=-,-
 land=-,-
 land=-1,-
+";
+
+/// The whole case on a desk whose third trigger is wired but idle: it is spare, and its due mark counts for
+/// nothing.
+const IDLE: &[u8] = b"panels=2
+triggers=3
+lag=2,0,-
+lag=4,1,-
+floor=5,2
+due=1,2,-700
+after=-,-,-
+after=-,-,-
+after=-,-,-
 ";
 
 /// Trigger 2 comes 3 after trigger 1, and trigger 1 at most 1 before trigger 2: 3 − 1 is above 0.
@@ -90,6 +104,17 @@ fn main() -> Result<(), Box<dyn Error>> {
         waiting.times(&[1]).expect("one weight for each line")
     );
 
+    let idle = plan(IDLE, &mut space)?;
+    println!(
+        "with an idle trigger deviation {}, spare byte {}, lines {}",
+        idle.deviation,
+        idle.spares,
+        idle.lines()
+            .map(|line| line.to_string())
+            .collect::<Vec<_>>()
+            .join(" and ")
+    );
+
     for (i, panel) in kept(SHEET)?.panels().iter().enumerate() {
         println!(
             "panel {} keeps byte {}, {} trigger(s)",
@@ -101,6 +126,11 @@ fn main() -> Result<(), Box<dyn Error>> {
     let mut other_space = space.clone();
     let compared = same(SHEET, EXCHANGED, &mut space, &mut other_space)?;
     println!("panels exchanged: {:?} timings", compared.likeness);
+    let compared = same(SHEET, IDLE, &mut space, &mut other_space)?;
+    println!(
+        "a desk with an idle trigger: {:?} sheets",
+        compared.likeness
+    );
 
     if let Err(refusal) = plan(NO_ORDER, &mut space) {
         println!("refused={}: {refusal}", refusal.number());

@@ -1,6 +1,6 @@
 //! The latest tightest times that are no later than given ones.
 
-use crate::plan::{Line, lines};
+use crate::plan::{Line, lines, spares};
 use crate::refusal::Refusal;
 use crate::{DONE, LINE_WORDS, MOST, ffi};
 
@@ -15,18 +15,19 @@ pub struct Latest<'a> {
 }
 
 impl<'a> Latest<'a> {
-    /// The times, one for each trigger. Where the given times are tightest themselves, these are they.
-    /// Given times near −1,000,000,000 can come out below it, where [`test`](crate::test) takes none.
+    /// The times, one for each trigger. Where the given times are tightest themselves, these are they; a spare
+    /// trigger's is always the one given. Given times near −1,000,000,000 can come out below it, where
+    /// [`test`](crate::test) takes none.
     pub fn times(&self) -> &[i64] {
         &self.times[..self.triggers()]
     }
 
     /// The lines, in their order, as [`plan`](crate::plan) has them.
     pub fn lines(&self) -> impl ExactSizeIterator<Item = Line> + DoubleEndedIterator + use<'a> {
-        lines(self.words)
+        lines(self.words, spares(self.words))
     }
 
-    /// The sheet's number of triggers.
+    /// The sheet's number of triggers, spare ones too.
     pub fn triggers(&self) -> usize {
         self.words[0] as usize
     }

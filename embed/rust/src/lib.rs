@@ -25,6 +25,14 @@
 //! let plan = tuzhelar::plan(&waiting, &mut space)?;
 //! assert_eq!(plan.lines().map(|line| line.to_string()).collect::<Vec<_>>(), ["-1,0"]);
 //!
+//! // A trigger that is wired but idle is spare: its due mark counts for nothing, and any time will do for it.
+//! let idle = b"panels=1\ntriggers=3\nlag=0,-,0\nfloor=0\ndue=0,-7,3\nafter=-,-,-\nafter=-,-,-\nafter=-,-,-\n";
+//! let plan = tuzhelar::plan(idle, &mut space)?;
+//! assert_eq!((plan.deviation, plan.spares), (-3, 0b010));
+//! assert_eq!(plan.lines().map(|line| line.to_string()).collect::<Vec<_>>(), ["-,s,0", "-3,s,0"]);
+//! assert_eq!(tuzhelar::test(idle, &[-3, 99, 0]), Ok(true));
+//! assert_eq!(tuzhelar::latest(idle, &[0, 99, 0], &mut space)?.times(), [-3, 99, 0]);
+//!
 //! // Whether the same times are tightest on another sheet, here the same with its panels exchanged.
 //! let other = b"panels=2\ntriggers=2\nlag=4,1\nlag=2,0\nfloor=2,5\ndue=1,2\nafter=-,-\nafter=-,-\n";
 //! let (mut left, mut right) = ([0; 20 * tuzhelar::LINE_WORDS], [0; 20 * tuzhelar::LINE_WORDS]);
@@ -62,14 +70,17 @@ const UNLIKE: u32 = 102;
 /// Reads the sheet, works out the least deviation and lists the lines at the front of the space. The rest of
 /// the space stays as it was.
 ///
+/// A trigger is spare if it has no lag to any panel, no present after entry in its row or column, and no
+/// present land entry in its row. At least one trigger is not.
+///
 /// # Errors
 /// [`Refusal`] 1 to 9; the space is then as it was. The space holds its length divided by [`LINE_WORDS`],
 /// rounded down, lines. The program `plan` lends 2,000 lines; the largest list seen has 72. Where they are
 /// too few, [`Refusal::Space`] says how many there are.
 pub fn plan<'a>(sheet: &[u8], space: &'a mut [i32]) -> Result<Plan<'a>, Refusal> {
-    let mut answer = [0; 4];
+    let mut answer = [0; 5];
     let number = ffi::plan(sheet, space, &mut answer);
-    let [deviation, steps, selections, count] = answer;
+    let [deviation, steps, selections, count, spares] = answer;
     let count = count as usize;
     if number != DONE {
         return Err(Refusal::of(number, count));
@@ -79,6 +90,7 @@ pub fn plan<'a>(sheet: &[u8], space: &'a mut [i32]) -> Result<Plan<'a>, Refusal>
         steps: steps as u64,
         selections: selections as u64,
         count,
+        spares: spares as u8,
         words: &space[..LINE_WORDS * count],
     })
 }
@@ -99,7 +111,7 @@ pub struct Kept {
 /// The kept triggers of one panel.
 #[derive(Clone, Copy, Debug, Default, PartialEq, Eq, Hash)]
 pub struct KeptPanel {
-    /// Six bits, bit 0 for trigger 1. A panel without a floor keeps none.
+    /// Six bits, bit 0 for trigger 1. A panel without a floor keeps none, and a spare trigger is never kept.
     pub byte: u8,
     /// The number of bits set.
     pub count: u8,
@@ -139,7 +151,8 @@ pub fn kept(sheet: &[u8]) -> Result<Kept, Refusal> {
 }
 
 /// Whether the times, one for each trigger, are tightest: they keep the order, which is every rule of the
-/// after and land lines, and no times that do have a smaller deviation.
+/// after and land lines, and no times that do have a smaller deviation. A spare trigger's time and due mark
+/// count for nothing.
 ///
 /// # Errors
 /// [`Refusal`] 1 to 7; then 10, there are not as many times as triggers; then 11, one is beyond
@@ -152,8 +165,9 @@ pub fn test(sheet: &[u8], times: &[i64]) -> Result<bool, Refusal> {
     }
 }
 
-/// Whether the same timings are tightest on two sheets. Each sheet's list is written at the front of its
-/// space, the first's in `left`, the second's in `right`; the rest of each space stays as it was.
+/// Whether the same timings are tightest on two sheets, where they have as many triggers and the same are
+/// spare. Each sheet's list is written at the front of its space, the first's in `left`, the second's in
+/// `right`; the rest of each space stays as it was.
 ///
 /// # Errors
 /// [`SheetRefusal`]: [`Refusal`] 1 to 9 of the first sheet, as [`plan`] has it with the space `left`, or else

@@ -1,6 +1,6 @@
 //! What comparing two sheets gives: which of three they are, and the lists in the lent spaces.
 
-use crate::plan::{Line, lines};
+use crate::plan::{Line, lines, spares};
 use crate::refusal::Refusal;
 use std::error::Error;
 use std::fmt;
@@ -15,7 +15,8 @@ pub enum Likeness {
     Same,
     /// Some timing is tightest on one of the sheets only.
     Different,
-    /// The sheets have different numbers of triggers.
+    /// The sheets have different numbers of triggers, or not the same ones are spare. Of timings this says
+    /// nothing.
     Unlike,
 }
 
@@ -40,14 +41,14 @@ impl<'a> Compared<'a> {
     pub fn first_lines(
         &self,
     ) -> impl ExactSizeIterator<Item = Line> + DoubleEndedIterator + use<'a> {
-        lines(self.left)
+        lines(self.left, spares(self.left))
     }
 
     /// The lines of the second sheet, in their order.
     pub fn second_lines(
         &self,
     ) -> impl ExactSizeIterator<Item = Line> + DoubleEndedIterator + use<'a> {
-        lines(self.right)
+        lines(self.right, spares(self.right))
     }
 }
 

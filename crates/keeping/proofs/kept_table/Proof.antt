@@ -58,6 +58,11 @@ number-requires c κs =
     let k : tie.Else1 = search in
     let (s, x, q, Q) = found k in Q .marked .word
 
+laid-sets-requires : tie.Need-laid-sets-requires
+laid-sets-requires c κs =
+    let k : tie.Else1 = search in
+    let (s, x, q, Q) = found k in (_, _, Q .placed)
+
 ones-of-requires : tie.Need-ones-of-requires
 ones-of-requires c κs = search needs
 
@@ -65,12 +70,24 @@ returns-2 : tie.Need-returns-2
 returns-2 c =
     let v : tie.After-number = search in
     let t : tie.After-count = search in
+    let b : tie.After-laid-sets = search in
     let k : tie.Else1 = search in
     let (s, x, q, Q) = found k in
     let z : toZ w64 (ofZ w64 (v .number .result)) ≡ v .number .result = toZ-ofZ (record { sfits = v .number .ok }) in
-    walked-answer s x (Q .marked) _ (z ∙ num-inj (sym (v .number .ensures) ∙ Q .marked .deviation)) _ (c .ones-of .ensures) _ (t .count .ensures) ∙
+    walked-answer s x (Q .placed .few) (Q .marked) _ (z ∙ num-inj (sym (v .number .ensures) ∙ Q .marked .deviation))
+    _ (b .laid-sets .ensures _ _ (Q .placed)) _ (c .ones-of .ensures) _ (t .count .ensures) ∙
     ap kept-answer (keeping-of _ q)
 
 pub kept-table-spec : {M : Type 1} → statement M
 kept-table-spec =
-    tie.close (tie.spec read-sheet-requires prepare-requires no-table-requires returns count-requires number-requires ones-of-requires returns-2)
+    tie.close
+    (tie.spec
+    read-sheet-requires
+    prepare-requires
+    no-table-requires
+    returns
+    count-requires
+    laid-sets-requires
+    number-requires
+    ones-of-requires
+    returns-2)

@@ -39,7 +39,7 @@ loop-again : tie.Need-loop-again Inv-loop μ-loop
 loop-again c = (omega arith, filled-more _ 0 _ _ _ (omega arith) (c .before .before .loop .inv .1) (c .ones .ensures))
 
 returns : tie.Need-returns Inv-loop μ-loop
-returns c = six-filled (c .before .before .args .t1) _ (let e : c .before .loop .i ≡ 6 = omega arith in rw e at (c .before .loop .inv .1))
+returns c = six-filled _ _ (let e : c .before .loop .i ≡ 6 = omega arith in rw e at (c .before .loop .inv .1))
 
 pub ones-of-spec : {M : Type 1} → statement M
 ones-of-spec =

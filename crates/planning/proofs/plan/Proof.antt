@@ -8,7 +8,7 @@ use mir.Val.{toZ, ofZ}
 use mir.Facts.{toZ-ofZ}
 use Rattle.maxplus.proofs.EntryLaws.{num-inj}
 use Rattle.sheet.specs.Sheet as spec
-use Rattle.sheet.specs.Cue.{cue-of}
+use Rattle.sheet.proofs.Spares.{unused-byte}
 use Rattle.preparing.specs.Prepared.{Made}
 use Rattle.walk.proofs.Follows.{counts-follow}
 use Rattle.lines.specs.Listing.{Answers}
@@ -62,10 +62,10 @@ number-requires c κs =
     let k : tie.Else1 = search in
     let (s, x, e, Q) = found k in Q .marked .word
 
-list-requires : tie.Need-list-requires
-list-requires c κs =
+list-sheet-requires : tie.Need-list-sheet-requires
+list-sheet-requires c κs =
     let k : tie.Else1 = search in
-    let (s, x, e, Q) = found k in (cue-of s, Q .marked .prepared)
+    let (s, x, e, Q) = found k in (s, _, _, Q)
 
 enum-known-k : tie.Need-enum-known-k
 enum-known-k c = search needs
@@ -81,13 +81,12 @@ same-length c = search needs
 
 returns-2 : tie.Need-returns-2
 returns-2 c =
-    let l : tie.After-list = search in
+    let l : tie.After-list-sheet = search in
+    let m : tie.After-k = search in
     let t : tie.After-tally = search in
     let k : tie.Else1 = search in
     let (s, x, q, Q) = found k in
-    let (n, e) = c .before .before .k .given in
-    let d = does-full _ _ s x q _ _ (Q .marked .triggers-are) _ (c .no-room .ensures)
-    (subst (Answers _ _ _ _) e (l .list .ensures (cue-of s) (Q .marked .prepared))) in
+    let d = does-full _ _ s x q _ _ (c .no-room .ensures) (subst (Answers _ _ _ _) (m .k .given .1) (l .list-sheet .ensures s _ _ Q)) in
     (d .answer, d .written)
 
 same-length-2 : tie.Need-same-length-2
@@ -95,15 +94,16 @@ same-length-2 c = search needs
 
 returns-3 : tie.Need-returns-3
 returns-3 c =
-    let l : tie.After-list = search in
+    let l : tie.After-list-sheet = search in
     let v : tie.After-number = search in
     let t : tie.After-tally = search in
     let k : tie.Else1 = search in
     let (s, x, q, Q) = found k in
-    let (n, e) = c .before .k2 .given in
+    let m : tie.After-k2 = search in
     let z : toZ w64 (ofZ w64 (v .number .result)) ≡ v .number .result = toZ-ofZ (record { sfits = v .number .ok }) in
-    let d = does-lines _ _ s x q _ _ (Q .marked .triggers-are) _ _ _ (z ∙ num-inj (sym (v .number .ensures) ∙ Q .marked .deviation))
-    (t .tally .ensures ∙ counts-follow (Q .marked .follows)) (subst (Answers _ _ _ _) e (l .list .ensures (cue-of s) (Q .marked .prepared))) in
+    let d = does-lines _ _ s x q _ _ _ _ _ _ (Q .placed .triggers-are) (Q .placed .spares-are ∙ unused-byte s)
+    (z ∙ num-inj (sym (v .number .ensures) ∙ Q .marked .deviation)) (t .tally .ensures ∙ counts-follow (Q .marked .follows))
+    (subst (Answers _ _ _ _) (m .k2 .given .1) (l .list-sheet .ensures s _ _ Q)) in
     (d .answer, d .written)
 
 pub plan-spec : {M : Type 1} → statement M
@@ -116,7 +116,7 @@ plan-spec =
     returns
     tally-requires
     number-requires
-    list-requires
+    list-sheet-requires
     enum-known-k
     no-room-requires
     enum-known-k-2

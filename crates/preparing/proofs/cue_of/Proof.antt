@@ -1,8 +1,34 @@
--- `preparing::cue_of` meets its contract. Assumes nothing.
+-- `preparing::cue_of` meets its contract: what is picked from a sheet's words at the triggers in use are its cue's. Assumes nothing.
 use borrow.Author.Needs.{needs}
-use Rattle.preparing.proofs.Preparing.{triggers-of, lags-of, cue-words}
+use Rattle.sheet.specs.Sheet as spec
+use Rattle.sheet.specs.Cue.{used, order-table}
+use Rattle.tables.specs.Held.{Holds}
+use Rattle.spares.specs.Using.{PlacesOf}
+use Rattle.spares.proofs.PlaceLaws.{pickable}
+use Rattle.preparing.specs.Prepared.{Worded}
+use Rattle.preparing.proofs.Preparing.{panels-few, triggers-few, lags-of, places-used, cue-words}
 use Rattle.preparing.proofs.cue_of.Statement.{statement}
 use Rattle.preparing.proofs.cue_of.Tie as tie
+
+abbrev at-orders : tie.After-places-of → tie.After-order-of
+at-orders c = c .before .before .before
+
+abbrev at-lags : tie.After-places-of → tie.After-table
+at-lags c = at-orders c .before .before
+
+abbrev start : tie.After-places-of → tie.Start
+start c = at-lags c .before .before
+
+module _ (c : tie.After-places-of) (s : spec.Sheet) (W : Worded s (start c .args .t)) where
+  lags : Holds (s .panels) (s .triggers) (s .lag) (at-lags c .table .result)
+  lags = lags-of W (at-lags c .table .ensures)
+
+  orders : Holds (s .triggers) (s .triggers) (order-table s) (at-orders c .order-of .result)
+  orders = at-orders c .order-of .ensures s W lags
+
+  -- the triggers in use are found
+  found : PlacesOf (used s) (s .triggers) (c .places-of .result)
+  found = places-used W orders lags (c .places-of .ensures)
 
 table-requires : tie.Need-table-requires
 table-requires c κs = search needs
@@ -13,11 +39,31 @@ order-of-requires c κs =
     let l : tie.After-table = search in
     let (s, W) = b .pre in (s, W, lags-of W (l .table .ensures))
 
+places-of-requires : tie.Need-places-of-requires
+places-of-requires c κs =
+    let b : tie.Start = search in
+    let (s, W) = b .pre in (panels-few W, triggers-few W)
+
+pick-tables-requires : tie.Need-pick-tables-requires
+pick-tables-requires c κs =
+    let p : tie.After-places-of = search in
+    let (s, W) = start p .pre in (panels-few W, (_, _, found p s W))
+
+picked-requires : tie.Need-picked-requires
+picked-requires c κs =
+    let p : tie.After-places-of = search in
+    let (s, W) = start p .pre in pickable (found p s W)
+
 returns : tie.Need-returns
-returns c =
-    let l : tie.After-table = search in
-    let o : tie.After-order-of = search in
-    (λ s W. triggers-of W, λ s W. let hl = lags-of W (l .table .ensures) in cue-words W _ _ (o .order-of .ensures s W hl) hl)
+returns c s W =
+    let p : tie.After-places-of = search in
+    let k : tie.After-pick-tables = search in
+    let U = found p s W in
+    record {
+      sized = U .count-is;
+      placed = U;
+      held = cue-words W U (orders p s W) (lags p s W) (k .pick-tables .ensures _ _ U) (c .picked .ensures);
+    }
 
 pub cue-of-spec : {M : Type 1} → statement M
-cue-of-spec = tie.close (tie.spec table-requires order-of-requires returns)
+cue-of-spec = tie.close (tie.spec table-requires order-of-requires places-of-requires pick-tables-requires picked-requires returns)

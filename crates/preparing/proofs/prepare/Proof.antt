@@ -40,7 +40,7 @@ closed-tables-requires c κs =
     let i : tie.Else1 = search in
     let k : tie.After-cue-of = search in
     let (s, e) = b .pre in
-    let (t, x, q, W) = reading-good _ _ e (i .if1 .left) in (cue-of t, k .cue-of .ensures .1 t W)
+    let (t, x, q, W) = reading-good _ _ e (i .if1 .left) in (cue-of t, k .cue-of .ensures t W .held)
 
 not-prepared-requires-2 : tie.Need-not-prepared-requires-2
 not-prepared-requires-2 c κs = search needs
@@ -52,8 +52,8 @@ returns-2 c s e =
     let k : tie.After-cue-of = search in
     let g : tie.Else1 = search in
     let (t, x, r, W) = reading-good _ _ e (g .if1 .left) in
-    let no = says-no (q .closed-tables .result) (i .if2 .taken) (q .closed-tables .ensures (cue-of t) (k .cue-of .ensures .1 t W) .order) in
-    unready 8 (c .not-prepared2 .ensures) (λ z. omega arith) (ordered-8 _ t x r (by-size t (k .cue-of .ensures .0 t W) no))
+    let no = says-no (q .closed-tables .result) (i .if2 .taken) (q .closed-tables .ensures (cue-of t) (k .cue-of .ensures t W .held) .order) in
+    unready 8 (c .not-prepared2 .ensures) (λ z. omega arith) (ordered-8 _ t x r (by-size t (k .cue-of .ensures t W .sized) no))
 
 marks-of-requires : tie.Need-marks-of-requires
 marks-of-requires c κs =
@@ -64,7 +64,7 @@ marks-of-requires c κs =
     let b : tie.Start = search in
     let (s, e) = b .pre in
     let (t, x, r, W) = reading-good _ _ e (g .if1 .left) in
-    let T = q .closed-tables .ensures (cue-of t) (k .cue-of .ensures .1 t W) in
+    let T = q .closed-tables .ensures (cue-of t) (k .cue-of .ensures t W .held) in
     (cue-of t, _, _, T .fit (says-yes (q .closed-tables .result) (i .if2 .left) (T .order)))
 
 returns-3 : tie.Need-returns-3
@@ -74,11 +74,10 @@ returns-3 c s e =
     let k : tie.After-cue-of = search in
     let g : tie.Else1 = search in
     let (t, x, r, W) = reading-good _ _ e (g .if1 .left) in
-    let size = k .cue-of .ensures .0 t W in
-    let H = k .cue-of .ensures .1 t W in
-    let T = q .closed-tables .ensures (cue-of t) H in
+    let F = k .cue-of .ensures t W in
+    let T = q .closed-tables .ensures (cue-of t) (F .held) in
     let np = says-yes (q .closed-tables .result) (i .if2 .left) (T .order) in
-    readied t x (ordered-got _ t x r (kept-by-size t size np)) size H np (c .marks-of .ensures (cue-of t) _ _ (T .fit np))
+    readied t x (ordered-got _ t x r (kept-by-size t (F .sized) np)) F np (c .marks-of .ensures (cue-of t) _ _ (T .fit np))
 
 pub prepare-spec : {M : Type 1} → statement M
 prepare-spec = tie.close

@@ -32,14 +32,22 @@ put-requires-3 c κs = search needs
 put-requires-4 : tie.Need-put-requires-4
 put-requires-4 c κs = search needs
 
+byte-word-requires : tie.Need-byte-word-requires
+byte-word-requires c κs = search needs
+
 put-requires-5 : tie.Need-put-requires-5
 put-requires-5 c κs = search needs
+
+put-requires-6 : tie.Need-put-requires-6
+put-requires-6 c κs = search needs
 
 same-length : tie.Need-same-length
 same-length c = search needs
 
 returns : tie.Need-returns
 returns c =
+    let fifth : tie.After-put5 = search in
+    let spares : tie.After-byte-word = search in
     let fourth : tie.After-put4 = search in
     let third : tie.After-put3 = search in
     let selections : tie.After-word2 = search in
@@ -52,17 +60,18 @@ returns c =
     planned-words _ _ (then1 .if1 .taken) (deviation-back s) (first .put .ensures) (back (steps .word .ok) (steps .word .ensures))
     (second .put2 .ensures) (back (selections .word2 .ok) (selections .word2 .ensures)) (third .put3 .ensures)
     (back (lines .count-word .ok) (lines .count-word .ensures)) (fourth .put4 .ensures)
+    (back (spares .byte-word .ok) (spares .byte-word .ensures)) (fifth .put5 .ensures)
 
 same-length-2 : tie.Need-same-length-2
 same-length-2 c = search needs
 
 returns-2 : tie.Need-returns-2
 returns-2 c =
-    let fourth : tie.After-put5 = search in
+    let fourth : tie.After-put6 = search in
     let then2 : tie.Then2 = search in
     let else1 : tie.Else1 = search in
     let lines : tie.After-count-word = search in
-    full-words _ _ (else1 .if1 .left) (then2 .if2 .taken) (back (lines .count-word .ok) (lines .count-word .ensures)) (fourth .put5 .ensures)
+    full-words _ _ (else1 .if1 .left) (then2 .if2 .taken) (back (lines .count-word .ok) (lines .count-word .ensures)) (fourth .put6 .ensures)
 
 returns-3 : tie.Need-returns-3
 returns-3 c = no-words _ _ (c .before .before .if1 .left) (c .if2 .left)
@@ -78,7 +87,9 @@ write-plan-spec =
     word-requires-2
     put-requires-3
     put-requires-4
+    byte-word-requires
     put-requires-5
+    put-requires-6
     same-length
     returns
     same-length-2

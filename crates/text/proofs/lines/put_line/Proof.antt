@@ -31,7 +31,7 @@ returns c =
     let key = at-put-bytes .put-bytes .ensures in
     let i = k .put-items .ensures in
     let end = at-put-byte .put-byte .ensures in
-    (put-as (line-text _ _) (then (then key (i .0)) end), omega (arith, key .end, i .1, end .end))
+    (put-as (line-text _ _ _) (then (then key (i .0)) end), omega (arith, key .end, i .1, end .end))
 
 pub put-line-spec : {M : Type 1} → statement M
 put-line-spec =

@@ -2,6 +2,7 @@
 use mathlib.Core.Path.{_≡_}
 use Prim.Native.Nat.{_-_, _≤_}
 use native.Mathlib.Omega.{arith}
+use Rattle.trigger_sets.specs.Sets.{bit}
 use Rattle.writing.specs.Texts.{line-texts}
 use Rattle.cue.specs.Standing.{lines-of}
 use Rattle.writing.proofs.TextLaws.{Grown, grown-none, grown-more, lines-none, lines-more}
@@ -9,13 +10,14 @@ use Rattle.text.proofs.lines.put_lines.Statement.{statement}
 use Rattle.text.proofs.lines.put_lines.Tie as tie
 
 abbrev Inv-loop : tie.InvT-loop
-Inv-loop out₀ at words n count end₀ k₀ out end k = (k ≤ count) × Grown (λ k. line-texts n (lines-of n k words)) 100 out₀ out at end k
+Inv-loop out₀ at words n count spares end₀ k₀ out end k =
+    (k ≤ count) × Grown (λ k. line-texts n (bit spares) (lines-of n k words)) 100 out₀ out at end k
 
 abbrev μ-loop : tie.MeasureT-loop
-μ-loop out₀ at words n count end₀ k₀ out end k = count - k
+μ-loop out₀ at words n count spares end₀ k₀ out end k = count - k
 
 loop-holds : tie.Need-loop-holds Inv-loop μ-loop
-loop-holds c = (omega arith, grown-none _ 100 _ _ (lines-none _ _) (omega arith))
+loop-holds c = (omega arith, grown-none _ 100 _ _ (lines-none _ _ _) (omega arith))
 
 mul-put-line : tie.Need-mul-put-line Inv-loop μ-loop
 mul-put-line c = omega arith
@@ -34,7 +36,7 @@ loop-again c =
     let at-put-line : tie.After-put-line Inv-loop μ-loop = search in
     let at-loop : tie.At-loop Inv-loop μ-loop = search in
     let p = at-put-line .put-line .ensures in
-    (omega arith, grown-more _ 100 (lines-more _ _ _) (at-loop .loop .inv .1) (p .0) (omega (arith, p .1)))
+    (omega arith, grown-more _ 100 (lines-more _ _ _ _) (at-loop .loop .inv .1) (p .0) (omega (arith, p .1)))
 
 same-length : tie.Need-same-length Inv-loop μ-loop
 same-length c = c .before .loop .inv .1 .puts .same-length

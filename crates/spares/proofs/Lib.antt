@@ -1,0 +1,6 @@
+-- Laws of the triggers in use as words.
+pub mod TiedLaws
+pub mod AgreeLaws
+pub mod PlaceLaws
+pub mod PickedLaws
+pub mod LaidLaws

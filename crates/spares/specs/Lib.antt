@@ -1,0 +1,2 @@
+-- The triggers in use as a program holds them.
+pub mod Using
