@@ -148,6 +148,22 @@ pub fn run(checks: &mut Checks) {
     same_cases(checks);
 }
 
+/// The planning program's text of some sheets, and reading's refusal of others, 0 for none.
+pub fn texts_and_codes(
+    checks: &mut Checks,
+    plans: Vec<(String, &'static str)>,
+    readings: Vec<(String, u32)>,
+) {
+    for (sheet, text) in plans {
+        let planned = reference::plan_text(sheet.as_bytes());
+        checks.check(&format!("plan {planned:?} of {sheet:?}"), planned == text);
+    }
+    for (sheet, code) in readings {
+        let read = reference::read(sheet.as_bytes()).err().unwrap_or(0);
+        checks.check(&format!("{read} in reading {sheet:?}"), read == code);
+    }
+}
+
 /// Name, sheet and the planning program's text.
 fn plan_cases() -> Vec<(&'static str, String, &'static str)> {
     let one_line = "deviation=-5\nsteps=1\nselections=1\ncount=1\nline=0\n";

@@ -1,6 +1,6 @@
 //! Cases of document 02's No. 2, triggers that wait for a landing, as checks of the reference.
 
-use crate::cases::{Checks, NO_RULES, WHOLE, chain, one_by_one, sheet_of};
+use crate::cases::{Checks, NO_RULES, WHOLE, chain, one_by_one, sheet_of, texts_and_codes};
 use crate::latest::{Reached, latest};
 use crate::reference::{self, LINE_WORDS, Likeness};
 
@@ -37,14 +37,7 @@ pub fn sheets() -> Vec<Vec<u8>> {
 
 /// Every check of `compare --self` that is a case.
 pub fn run(checks: &mut Checks) {
-    for (sheet, text) in plan_cases() {
-        let planned = reference::plan_text(sheet.as_bytes());
-        checks.check(&format!("plan {planned:?} of {sheet:?}"), planned == text);
-    }
-    for (sheet, code) in reading_cases() {
-        let read = reference::read(sheet.as_bytes()).err().unwrap_or(0);
-        checks.check(&format!("{read} in reading {sheet:?}"), read == code);
-    }
+    texts_and_codes(checks, plan_cases(), reading_cases());
     checks.check("1,080 bytes", longest_good().len() == 1080);
     checks.check(
         "kept, example 6",

@@ -1,7 +1,7 @@
 //! Cases of document 02's No. 4, spare triggers, as checks of the reference; what the triggers of a sheet
 //! can be like; and a plan that is worked out over the others alone, to which the reference is held.
 
-use crate::cases::{Checks, WHOLE};
+use crate::cases::{Checks, WHOLE, texts_and_codes};
 use crate::latest::{Reached, latest};
 use crate::reference::{self, Entry, LINE_WORDS, Likeness, Line, Plan, SIZE, Sheet, Survey, Table};
 
@@ -88,14 +88,7 @@ pub fn sheets() -> Vec<Vec<u8>> {
 
 /// Every check of `compare --self` that is a case.
 pub fn run(checks: &mut Checks) {
-    for (sheet, text) in plan_cases() {
-        let planned = reference::plan_text(sheet.as_bytes());
-        checks.check(&format!("plan {planned:?} of {sheet:?}"), planned == text);
-    }
-    for (sheet, code) in reading_cases() {
-        let read = reference::read(sheet.as_bytes()).err().unwrap_or(0);
-        checks.check(&format!("{read} in reading {sheet:?}"), read == code);
-    }
+    texts_and_codes(checks, plan_cases(), reading_cases());
     whole_cases(checks);
     word_cases(checks);
     test_cases(checks);
