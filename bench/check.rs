@@ -1,8 +1,8 @@
-//! The two sides on random sheets: small, with many equal entries, absent ones, after and land rules,
-//! idle triggers, some with a fault, some with too little space.
+//! The two sides on random sheets: small, with many equal entries, absent ones, after and land rules, last
+//! moments, idle triggers, some with a fault, some with too little space.
 
 use crate::classes::{KEPT, LATEST, PLAN, SHEETS};
-use crate::plain::{LINE_WORDS, MOST};
+use crate::plain::{CAPPED_WORDS, LINE_WORDS, MOST};
 use crate::random::Random;
 use crate::sides::{Answer, SPACE, Side, Work, agreed};
 use std::io::Result;
@@ -16,8 +16,9 @@ pub struct Tally {
     plans: Codes,
     tables: Codes,
     latest: Codes,
-    /// Plans of sheets with a spare trigger.
+    /// Plans of sheets with a spare trigger, and with a last line.
     with_spares: usize,
+    with_caps: usize,
     differ: usize,
 }
 
@@ -33,12 +34,14 @@ impl Tally {
         for _ in 0..count {
             let sheet = sheet(&mut random);
             let lines = *random.pick(&[0, 1, 2, 4, 8, 200, 200, 200]);
-            self.compare(&sheet, LINE_WORDS * lines + random.below(LINE_WORDS));
+            let line_words = *random.pick(&[LINE_WORDS, CAPPED_WORDS]);
+            self.compare(&sheet, line_words * lines + random.below(line_words));
         }
         println!("plans by code 0 to 9: {:?}", self.plans);
         println!("kept tables by code 0 to 9: {:?}", self.tables);
         println!("latest times by code 0 to 9: {:?}", self.latest);
         println!("plans with spare triggers: {}", self.with_spares);
+        println!("plans with a last line: {}", self.with_caps);
         println!("different: {}", self.differ);
         Ok(self.differ == 0)
     }
@@ -49,8 +52,10 @@ impl Tally {
         let table = self.compare_in("kept table", KEPT, sheet, words);
         count(&mut self.plans, &plan);
         count(&mut self.tables, &table);
-        let spares = |answer: Answer| answer.code == 0 && answer.words[4] != 0;
-        self.with_spares += usize::from(plan.is_some_and(spares));
+        if let Some(Answer { code: 0, words }) = plan {
+            self.with_spares += usize::from(words[4] != 0);
+            self.with_caps += usize::from(words[5] == CAPPED_WORDS as i64);
+        }
         if table.is_some_and(|answer| answer.code == 0) {
             let latest = self.compare_in("latest times", LATEST, sheet, words);
             count(&mut self.latest, &latest);
@@ -176,6 +181,12 @@ fn sheet(random: &mut Random) -> Vec<u8> {
         for &idle in no_rules {
             text += &land.line(random, "land", &[idle; MOST][..m]);
         }
+    }
+    if random.below(3) == 0 {
+        let mut last = Kind::some(random);
+        // An absent moment is refused.
+        last.absent = *random.pick(&[0, 0, 0, 0, 10]);
+        text += &last.line(random, "last", &none[..m]);
     }
     let mut bytes = text.into_bytes();
     if random.below(8) == 0 {

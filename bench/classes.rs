@@ -1,7 +1,7 @@
 //! What is timed.
 
 use crate::sides::{Side, Work};
-use crate::{hire, land, spare};
+use crate::{hire, land, last, spare};
 
 /// Where the stored sheets are, from the top of the repository.
 pub const SHEETS: &str = "tests/programs/sheets";
@@ -9,27 +9,30 @@ pub const SHEETS: &str = "tests/programs/sheets";
 /// The sheet of the programs' class, document 01's whole case.
 pub const WHOLE: &str = "whole";
 
-/// The class of request 6's sheets, and how many they are; the first of them with land lines, and with
-/// spare triggers.
+/// The class of request 6's sheets, and how many they are; the first of them with land lines, with spare
+/// triggers, and with a last line.
 const HIRE: &str = "hire";
 const HIRED: usize = 1000;
 const LAND: &str = "land";
 const LANDED: usize = 300;
 const SPARE: &str = "spare";
 const SPARED: usize = 300;
+const LAST: &str = "last";
+const TIMED: usize = 300;
 
 /// The planning of a class's sheets, their kept tables, and the latest times asked of them.
 pub const PLAN: fn(&Side) -> Work = |side| side.plan;
 pub const KEPT: fn(&Side) -> Work = |side| side.kept;
 pub const LATEST: fn(&Side) -> Work = |side| side.latest;
 
-/// Key, name, sheets and work of each class that both sides do; sheets but HIRE, LAND and SPARE are a
+/// Key, name, sheets and work of each class that both sides do; sheets but HIRE, LAND, SPARE and LAST are a
 /// stored one.
-const CLASSES: [Kind; 12] = [
+const CLASSES: [Kind; 13] = [
     (WHOLE, "whole case", WHOLE, PLAN),
     (HIRE, "1,000 sheets of request 6", HIRE, PLAN),
     (LAND, "300 sheets with land lines", LAND, PLAN),
     (SPARE, "300 sheets with two spare triggers", SPARE, PLAN),
+    (LAST, "300 sheets with a last line", LAST, PLAN),
     (UNPRUNED, "46,656 selections", UNPRUNED, PLAN),
     (AFTER, "46,656 selections, after rules", AFTER, PLAN),
     (LISTED, "22,500 selections, 22 lines", LISTED, PLAN),
@@ -93,6 +96,7 @@ fn sheets(key: &str) -> Result<Vec<Vec<u8>>, String> {
         HIRE => Ok(hire::chained(HIRED)),
         LAND => Ok(land::chained(LANDED)),
         SPARE => Ok(spare::chained(SPARED)),
+        LAST => Ok(last::chained(TIMED)),
         _ => stored(&path(key)).map(|sheet| vec![sheet]),
     }
 }

@@ -41,7 +41,7 @@ fn land_lines(sheet: &str, random: &mut Random) -> String {
 }
 
 /// The rows of a table, from the lines with its key.
-fn rows(sheet: &str, key: &str) -> Table {
+pub fn rows(sheet: &str, key: &str) -> Table {
     let lines = sheet.lines().filter_map(|line| line.strip_prefix(key));
     let entries = |items: &str| items.split(',').map(|item| item.parse().ok()).collect();
     lines.map(entries).collect()
@@ -57,7 +57,7 @@ fn earliest(after: &Table) -> Vec<i64> {
 }
 
 /// The largest of a row's entries, each with its time added.
-fn largest_sum(row: &[Option<i64>], times: &[i64]) -> Option<i64> {
+pub fn largest_sum(row: &[Option<i64>], times: &[i64]) -> Option<i64> {
     let sums = row.iter().zip(times);
     sums.filter_map(|(entry, time)| entry.map(|entry| entry + time))
         .max()

@@ -11,6 +11,7 @@ mod classes;
 mod counts;
 mod hire;
 mod land;
+mod last;
 mod plain;
 mod programs;
 mod random;
@@ -25,7 +26,7 @@ use sides::{SIDES, SPACE};
 use std::process::ExitCode;
 
 const USAGE: &str = "usage: bench [CLASS..] | --count [CLASS..] | --check [SHEETS [SEED]] | --plans library|plain CLASS all|none
-classes: whole hire land spare unpruned_distinct unpruned_after lines_times_selections lines72 kept kept_after latest latest72 programs";
+classes: whole hire land spare last unpruned_distinct unpruned_after lines_times_selections lines72 kept kept_after latest latest72 programs";
 /// What `--check` does by default.
 const CHECKED: &str = "20000";
 const SEED: &str = "1";

@@ -1,11 +1,11 @@
 //! The two sides, each behind the same functions: the library through its C functions, and the plain
 //! planner.
 
-use crate::plain::{self, LINE_WORDS, MOST, NoPlan};
+use crate::plain::{self, CAPPED_WORDS, MOST, NoPlan};
 
-/// 0 or the refusal; then planning's deviation, steps, selections, count and byte of spare triggers; or
-/// the kept table's deviation, steps, selections and panels, and each panel's byte and number of bits; or
-/// the count and the latest times; 0 where there is nothing.
+/// 0 or the refusal; then planning's deviation, steps, selections, count, byte of spare triggers and words of
+/// a line; or the kept table's deviation, steps, selections and panels, and each panel's byte and number of
+/// bits; or the count, the latest times and the words of a line; 0 where there is nothing.
 #[derive(Debug, PartialEq, Eq)]
 pub struct Answer {
     pub code: u32,
@@ -42,8 +42,8 @@ pub const SIDES: [Side; 2] = [
     },
 ];
 
-/// Words lent to each plan: the space of the planning program, 2,000 lines.
-pub const SPACE: usize = 2000 * LINE_WORDS;
+/// Words lent to each plan: the space of the planning program, 2,000 lines with caps.
+pub const SPACE: usize = 2000 * CAPPED_WORDS;
 
 /// The times that are given where the latest are asked for, as many of them as there are triggers. An
 /// answer's words are 0 before, so that a spare trigger's 1 has been handed back.
@@ -138,9 +138,10 @@ fn by_plain(sheet: &[u8], space: &mut [i32]) -> Answer {
             words[..3].copy_from_slice(&numbers);
             words[3] = plan.count as i64;
             words[4] = plan.spares.into();
+            words[5] = plan.line_words as i64;
             Answer { code: 0, words }
         }
-        Err(refused) => refusal(refused, 3),
+        Err(refused) => refusal(refused, [3, 5]),
     }
 }
 
@@ -160,7 +161,7 @@ fn kept_by_plain(sheet: &[u8], _: &mut [i32]) -> Answer {
             }
             Answer { code: 0, words }
         }
-        Err(refused) => refusal(refused.into(), 0),
+        Err(refused) => refusal(refused.into(), [0, 0]),
     }
 }
 
@@ -170,19 +171,22 @@ fn latest_by_plain(sheet: &[u8], space: &mut [i32]) -> Answer {
         Ok(latest) => {
             words[0] = latest.count as i64;
             words[1..=MOST].copy_from_slice(&latest.times);
+            words[1 + MOST] = latest.line_words as i64;
             Answer { code: 0, words }
         }
-        Err(refused) => refusal(refused, 0),
+        Err(refused) => refusal(refused, [0, 1 + MOST]),
     }
 }
 
-/// The answer of a refusal, with 9's count at its place.
-fn refusal(refused: NoPlan, place: usize) -> Answer {
+/// The answer of a refusal, with 9's count and words of a line at their places.
+fn refusal(refused: NoPlan, places: [usize; 2]) -> Answer {
     let mut words = [0; WORDS];
     let code = match refused {
         NoPlan::Refused(refusal) => refusal as u32,
-        NoPlan::NoRoom(count) => {
-            words[place] = count as i64;
+        NoPlan::NoRoom { count, line_words } => {
+            let [counted, wide] = places;
+            words[counted] = count as i64;
+            words[wide] = line_words as i64;
             9
         }
     };

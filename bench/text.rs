@@ -11,7 +11,7 @@ pub fn answer(answer: &Result<Plan, NoPlan>, space: &[i32]) -> String {
     match answer {
         Ok(plan) => plan_text(plan, space),
         Err(NoPlan::Refused(refusal)) => format!("refused={}\n", *refusal as u8),
-        Err(NoPlan::NoRoom(count)) => format!("refused=9\ncount={count}\n"),
+        Err(NoPlan::NoRoom { count, .. }) => format!("refused=9\ncount={count}\n"),
     }
 }
 
@@ -20,8 +20,11 @@ fn plan_text(plan: &Plan, space: &[i32]) -> String {
         "deviation={}\nsteps={}\nselections={}\ncount={}\n",
         plan.deviation, plan.steps, plan.selections, plan.count
     );
-    for words in space.chunks_exact(LINE_WORDS).take(plan.count) {
+    for words in space.chunks_exact(plan.line_words).take(plan.count) {
         push_line(&mut text, &words[1..=words[0] as usize], plan.spares);
+        if let Some(cap) = words.get(LINE_WORDS) {
+            writeln!(text, "cap={cap}").expect("a string takes every text");
+        }
     }
     text
 }

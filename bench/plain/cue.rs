@@ -18,6 +18,8 @@ pub struct Cue {
     pub marks: Line,
     /// Δ
     pub deviation: Entry,
+    /// How late each trigger lands, fired at 0, where there are last moments.
+    pub overruns: Option<Line>,
     levels: [Level; MOST],
     floors: usize,
 }
@@ -57,6 +59,7 @@ impl Cue {
             star,
             marks,
             deviation,
+            overruns: sheet.last.map(|last| overruns(&sheet.lag, &last)),
             levels: [NO_LEVEL; MOST],
             floors: 0,
         };
@@ -142,4 +145,13 @@ fn deviation(through: &Table, marks: &Line, floor: &Line) -> Entry {
     short.fold(ABSENT, |most, (&floor, lands)| {
         most.max(minus(floor, lands))
     })
+}
+
+/// For each trigger the largest a(i,j) − last(i), absent where it reaches no panel.
+fn overruns(lag: &Table, last: &Line) -> Line {
+    let mut overruns = NO_LINE;
+    for (row, &last) in lag.iter().zip(last) {
+        join(&mut overruns, &row.map(|lag| minus(lag, last)));
+    }
+    overruns
 }

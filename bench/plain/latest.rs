@@ -1,14 +1,17 @@
 //! Document 02, No. 1, from the list: each line with the largest weight that lifts no component above
-//! the given times, and the largest of these. A spare trigger has no component and keeps its given time.
+//! the given times and the times that the last moments allow, and the largest of these. A spare trigger has
+//! no component and keeps its given time.
 
 use super::cue::Cue;
-use super::entry::{ABSENT, MOST};
-use super::lines::{LINE_WORDS, list};
+use super::entry::{ABSENT, Line, MOST};
+use super::lines::{LINE_WORDS, line_words, list};
 use super::{NoPlan, sheet};
 
-/// The count of lines in the lent space, and the latest times, 0 past the number of triggers.
+/// The count of lines in the lent space and how many words each takes, and the latest times, 0 past the
+/// number of triggers.
 pub struct Latest {
     pub count: usize,
+    pub line_words: usize,
     pub times: [i64; MOST],
 }
 
@@ -17,21 +20,37 @@ pub struct Latest {
 pub fn latest(bytes: &[u8], given: &[i64; MOST], space: &mut [i32]) -> Result<Latest, NoPlan> {
     let sheet = sheet::read(bytes)?;
     let cue = Cue::new(&sheet)?;
-    let count = list(&cue, space).map_err(NoPlan::NoRoom)?;
-    let lines = &space[..LINE_WORDS * count];
+    let count = list(&cue, space)?;
+    let line_words = line_words(&cue);
     let mut times = [0; MOST];
     times[..sheet.triggers].copy_from_slice(&given[..sheet.triggers]);
     cue.in_use().for_each(|j| times[j] = i64::MIN);
-    for words in lines.chunks_exact(LINE_WORDS) {
-        raise(&mut times, &words[1..], given);
+    let within = match &cue.overruns {
+        Some(overruns) => lowered(given, overruns),
+        None => *given,
+    };
+    for words in space.chunks_exact(line_words).take(count) {
+        raise(&mut times, &words[1..LINE_WORDS], &within);
     }
-    Ok(Latest { count, times })
+    Ok(Latest {
+        count,
+        line_words,
+        times,
+    })
+}
+
+/// The times, none of them later than lands in time.
+fn lowered(given: &[i64; MOST], overruns: &Line) -> [i64; MOST] {
+    std::array::from_fn(|j| match overruns[j] {
+        ABSENT => given[j],
+        overrun => given[j].min(-i64::from(overrun)),
+    })
 }
 
 /// Raises the times to a line, as high as it may go.
-fn raise(times: &mut [i64; MOST], line: &[i32], given: &[i64; MOST]) {
+fn raise(times: &mut [i64; MOST], line: &[i32], within: &[i64; MOST]) {
     let present = || line.iter().enumerate().filter(|&(_, &c)| c != ABSENT);
-    let weight = present().map(|(j, &c)| given[j] - i64::from(c)).min();
+    let weight = present().map(|(j, &c)| within[j] - i64::from(c)).min();
     let weight = weight.expect("a line's greatest component is 0");
     for (j, &c) in present() {
         times[j] = times[j].max(weight + i64::from(c));

@@ -1,33 +1,45 @@
 //! Steps 6 and 7: from the bounds to the list in the lent space. A buffer gathers the lines in
 //! order; where it is filled, the bounds are gone through again for the lines above its last one.
 
+use super::NoPlan;
 use super::bounds::each_bound;
 use super::cue::Cue;
-use super::entry::{Line, NO_LINE, applied, largest, minus};
+use super::entry::{Line, NO_LINE, applied, largest, minus, sums};
 use super::extreme::extreme;
 use super::few::Few;
 
-/// A line's words in the lent space: the count of triggers and six components.
+/// A line's words in the lent space: the count of triggers and six components, and on a sheet with a last
+/// line the cap.
 pub const LINE_WORDS: usize = 7;
+pub const CAPPED_WORDS: usize = 8;
 /// More lines than nearly every sheet has.
 const ROOM: usize = 128;
 type Buffer = Few<ROOM>;
 
+/// How many words a line of the sheet takes.
+pub fn line_words(cue: &Cue) -> usize {
+    match cue.overruns {
+        Some(_) => CAPPED_WORDS,
+        None => LINE_WORDS,
+    }
+}
+
 /// Writes the list at the front of the space and gives its count, or the count that does not fit.
-pub fn list(cue: &Cue, space: &mut [i32]) -> Result<usize, usize> {
+pub fn list(cue: &Cue, space: &mut [i32]) -> Result<usize, NoPlan> {
+    let line_words = line_words(cue);
     let mut lines = gathered(cue, &NO_LINE);
     let count = if lines.len < ROOM {
         lines.len
     } else {
         counted(cue, lines)
     };
-    if space.len() / LINE_WORDS < count {
-        return Err(count);
+    if space.len() / line_words < count {
+        return Err(NoPlan::NoRoom { count, line_words });
     }
-    let mut written = write(cue.triggers, &lines, space);
+    let mut written = write(cue, &lines, space);
     while lines.len == ROOM {
         lines = gathered(cue, &lines[ROOM - 1]);
-        written += write(cue.triggers, &lines, &mut space[written * LINE_WORDS..]);
+        written += write(cue, &lines, &mut space[written * line_words..]);
     }
     Ok(written)
 }
@@ -43,10 +55,13 @@ fn counted(cue: &Cue, mut lines: Buffer) -> usize {
 }
 
 /// Writes lines at the front of the space and gives their count.
-fn write(triggers: usize, lines: &[Line], space: &mut [i32]) -> usize {
-    for (line, words) in lines.iter().zip(space.chunks_exact_mut(LINE_WORDS)) {
-        words[0] = triggers as i32;
-        words[1..].copy_from_slice(line);
+fn write(cue: &Cue, lines: &[Line], space: &mut [i32]) -> usize {
+    for (line, words) in lines.iter().zip(space.chunks_exact_mut(line_words(cue))) {
+        words[0] = cue.triggers as i32;
+        words[1..LINE_WORDS].copy_from_slice(line);
+        if let Some(overruns) = &cue.overruns {
+            words[LINE_WORDS] = -largest(&sums(overruns, line));
+        }
     }
     lines.len()
 }

@@ -16,7 +16,7 @@ mod walk;
 pub use entry::MOST;
 pub use kept::kept_table;
 pub use latest::latest;
-pub use lines::LINE_WORDS;
+pub use lines::{CAPPED_WORDS, LINE_WORDS};
 pub use sheet::Refusal;
 
 /// What planning returns beside the lines in the lent space.
@@ -27,12 +27,16 @@ pub struct Plan {
     pub count: usize,
     /// The spare triggers, bit 0 for trigger 1.
     pub spares: u8,
+    pub line_words: usize,
 }
 
 pub enum NoPlan {
     Refused(Refusal),
-    /// Refusal 9, with the count of lines that do not fit.
-    NoRoom(usize),
+    /// Refusal 9, with the count of lines that do not fit, and how many words each takes.
+    NoRoom {
+        count: usize,
+        line_words: usize,
+    },
 }
 
 /// The plan of a sheet, its lines at the front of the lent space.
@@ -40,13 +44,14 @@ pub fn plan(bytes: &[u8], space: &mut [i32]) -> Result<Plan, NoPlan> {
     let sheet = sheet::read(bytes)?;
     let cue = cue::Cue::new(&sheet)?;
     let counts = tally::count(cue.levels());
-    let count = lines::list(&cue, space).map_err(NoPlan::NoRoom)?;
+    let count = lines::list(&cue, space)?;
     Ok(Plan {
         deviation: cue.deviation,
         steps: counts.steps,
         selections: counts.selections,
         count,
         spares: cue.spares,
+        line_words: lines::line_words(&cue),
     })
 }
 

@@ -14,7 +14,7 @@ pub enum Refusal {
     Form = 2,
     Size = 3,
     Range = 4,
-    NoDue = 5,
+    NoMark = 5,
     NoLag = 6,
     NoFloor = 7,
     NoOrder = 8,
@@ -29,6 +29,8 @@ pub struct Sheet {
     pub after: Table,
     /// The land lines, where there are some: a row for each trigger, a place for each panel.
     pub land: Option<Table>,
+    /// The last moment of each panel, where there is a last line.
+    pub last: Option<Line>,
 }
 
 impl Sheet {
@@ -64,12 +66,14 @@ pub fn read(bytes: &[u8]) -> Result<Sheet, Refusal> {
         due: NO_LINE,
         after: [NO_LINE; MOST],
         land: None,
+        last: None,
     };
     reader.rows(b"lag=", &mut sheet.lag[..panels], triggers)?;
     sheet.floor = reader.entries(b"floor=", panels)?;
-    sheet.due = reader.due(triggers)?;
+    sheet.due = reader.present(b"due=", triggers)?;
     reader.rows(b"after=", &mut sheet.after[..triggers], triggers)?;
     sheet.land = reader.land(triggers, panels)?;
+    sheet.last = reader.last(panels)?;
     if !reader.rest.is_empty() {
         return Err(Refusal::Form);
     }
@@ -103,12 +107,13 @@ impl Reader<'_> {
         Ok(())
     }
 
-    fn due(&mut self, count: usize) -> Result<Line, Refusal> {
-        let due = self.entries(b"due=", count)?;
-        if due[..count].contains(&ABSENT) {
-            return Err(Refusal::NoDue);
+    /// A line of due marks or last moments, none of them absent.
+    fn present(&mut self, key: &[u8], count: usize) -> Result<Line, Refusal> {
+        let marks = self.entries(key, count)?;
+        if marks[..count].contains(&ABSENT) {
+            return Err(Refusal::NoMark);
         }
-        Ok(due)
+        Ok(marks)
     }
 
     /// The first key decides whether there are land lines; then there is one for each trigger.
@@ -120,6 +125,14 @@ impl Reader<'_> {
         let mut land = [NO_LINE; MOST];
         self.rows(KEY, &mut land[..triggers], panels)?;
         Ok(Some(land))
+    }
+
+    fn last(&mut self, panels: usize) -> Result<Option<Line>, Refusal> {
+        const KEY: &[u8] = b"last=";
+        if !self.rest.starts_with(KEY) {
+            return Ok(None);
+        }
+        self.present(KEY, panels).map(Some)
     }
 
     /// A line's range is looked at when its form is known to be good.

@@ -1,6 +1,6 @@
 /*
  * The whole case from C: plans it, chooses times from its lines, tests them, finds the latest that are no later than wished, plans it for a
- * desk with an idle trigger, and compares it with other sheets. From the root of the repository:
+ * desk with an idle trigger and with last moments, and compares it with other sheets. From the root of the repository:
  *
  *     rt staticlib planner_c
  *     cc -std=c99 -Wall -Wextra -Iembed/c embed/c/example.c target/staticlib/libplanner_c.a -o target/example
@@ -14,7 +14,7 @@
 
 #include "tuzhelar.h"
 
-#define LINES 2000
+#define WORDS (2000 * TUZHELAR_CAPPED_WORDS) /* enough for 2,000 lines of any sheet */
 
 static const char SHEET[] = "panels=2\n"
                             "triggers=2\n"
@@ -66,16 +66,30 @@ static const char IDLE[] = "panels=2\n"
                            "after=-,-,-\n"
                            "after=-,-,-\n";
 
-static int32_t space[LINES * TUZHELAR_LINE_WORDS], other_space[LINES * TUZHELAR_LINE_WORDS];
+/* The whole case where neither panel may land after 6. */
+static const char DOWNBEAT[] = "panels=2\n"
+                               "triggers=2\n"
+                               "lag=2,0\n"
+                               "lag=4,1\n"
+                               "floor=5,2\n"
+                               "due=1,2\n"
+                               "after=-,-\n"
+                               "after=-,-\n"
+                               "last=6,6\n";
 
-/* Adds a weight to each line and takes the largest, component by component. Every choice of weights gives tightest times. */
-static void combine(size_t count, size_t triggers, const int64_t *weights, int64_t *times)
+static int32_t space[WORDS], other_space[WORDS];
+
+/*
+ * Adds a weight to each line and takes the largest, component by component. Every choice of weights gives tightest times; on a sheet with a
+ * last line they are in time where no weight is greater than its line's cap.
+ */
+static void combine(const struct tuzhelar_planned *planned, size_t triggers, const int64_t *weights, int64_t *times)
 {
     size_t i, j;
     for (j = 0; j < triggers; j++) {
         int found = 0;
-        for (i = 0; i < count; i++) {
-            int32_t component = tuzhelar_component(space, i, j);
+        for (i = 0; i < planned->count; i++) {
+            int32_t component = tuzhelar_component(space, planned->line_words, i, j);
             if (component != TUZHELAR_ABSENT && (!found || times[j] < weights[i] + component)) {
                 times[j] = weights[i] + component;
                 found = 1;
@@ -93,14 +107,14 @@ static void print_numbers(const char *name, const int64_t *numbers, size_t count
     }
 }
 
-/* The lines as the program `plan` writes them. In the words a spare trigger's component is absent; the byte of spares tells them apart. */
+/* The lines as the program `plan` writes them. In the words a spare trigger's component is absent; the byte of spares tells which these are. */
 static void print_lines(const struct tuzhelar_planned *planned)
 {
     size_t triggers = (size_t)space[0], i, j;
     for (i = 0; i < planned->count; i++) {
         printf("line=");
         for (j = 0; j < triggers; j++) {
-            int32_t component = tuzhelar_component(space, i, j);
+            int32_t component = tuzhelar_component(space, planned->line_words, i, j);
             if (component == TUZHELAR_ABSENT) {
                 printf("%s%s", j == 0 ? "" : ",", tuzhelar_is_spare(planned->spares, j) ? "s" : "-");
             } else {
@@ -108,6 +122,9 @@ static void print_lines(const struct tuzhelar_planned *planned)
             }
         }
         printf("\n");
+        if (planned->line_words == TUZHELAR_CAPPED_WORDS) {
+            printf("cap=%" PRId32 "\n", tuzhelar_cap(space, i));
+        }
     }
 }
 
@@ -118,31 +135,52 @@ static void print_tested(const char *sheet, const int64_t *times, size_t trigger
     printf(": %s\n", tuzhelar_meaning(answer));
 }
 
-static void choose(size_t count, size_t triggers, const int64_t *weights)
+static void choose(const char *sheet, const struct tuzhelar_planned *planned, const int64_t *weights)
 {
+    const size_t triggers = (size_t)space[0];
     int64_t times[TUZHELAR_MOST] = {0, 0, 0, 0, 0, 0};
-    combine(count, triggers, weights, times);
-    print_numbers("weights", weights, count);
+    combine(planned, triggers, weights, times);
+    print_numbers("weights", weights, planned->count);
     printf(", ");
-    print_tested(SHEET, times, triggers);
+    print_tested(sheet, times, triggers);
+}
+
+/* Times that were wished need not be tightest and in time. These are the latest that are, of those that are no later than wished. */
+static void print_latest(const char *sheet, const int64_t *wished, size_t triggers)
+{
+    struct tuzhelar_reached reached = tuzhelar_latest_timing(sheet, strlen(sheet), wished, triggers, space, WORDS);
+    print_tested(sheet, wished, triggers);
+    printf("instead ");
+    print_tested(sheet, reached.times, triggers);
 }
 
 /* A desk with an idle trigger: the same plan, with an `s` for it in each line, and any time for it will do. */
 static void print_idle(void)
 {
     const int64_t times[3] = {0, 1, 12345};
-    struct tuzhelar_planned planned = tuzhelar_plan_sheet(IDLE, strlen(IDLE), space, LINES * TUZHELAR_LINE_WORDS);
+    struct tuzhelar_planned planned = tuzhelar_plan_sheet(IDLE, strlen(IDLE), space, WORDS);
     printf("with an idle trigger deviation=%" PRId64 ", spare byte %d\n", planned.deviation, planned.spares);
     print_lines(&planned);
     print_tested(IDLE, times, 3);
 }
 
+/* Last moments: the same plan, with a cap for each line; times are in time where no weight is greater than its cap. */
+static void print_downbeat(void)
+{
+    const int64_t caps[2] = {3, 2}, above[2] = {3, 3}, wished[2] = {5, 9};
+    struct tuzhelar_planned planned = tuzhelar_plan_sheet(DOWNBEAT, strlen(DOWNBEAT), space, WORDS);
+    printf("with last moments deviation=%" PRId64 "\n", planned.deviation);
+    print_lines(&planned);
+    choose(DOWNBEAT, &planned, caps);
+    choose(DOWNBEAT, &planned, above);
+    print_latest(DOWNBEAT, wished, 2);
+}
+
 /* Whether the same timings are tightest on another sheet. */
 static void print_compared(const char *name, const char *other)
 {
-    const size_t words = LINES * TUZHELAR_LINE_WORDS;
     struct tuzhelar_compared compared =
-        tuzhelar_same_timings(SHEET, strlen(SHEET), other, strlen(other), space, words, other_space, words);
+        tuzhelar_same_timings(SHEET, strlen(SHEET), other, strlen(other), space, WORDS, other_space, WORDS);
     printf("%s: %s\n", name, tuzhelar_same_meaning(compared.number));
 }
 
@@ -150,28 +188,21 @@ int main(void)
 {
     const int64_t as_listed[2] = {0, 0}, second_later[2] = {1, 0}, first_later[2] = {0, 3}, wished[2] = {0, 2};
     struct tuzhelar_keeping keeping;
-    struct tuzhelar_reached reached;
-    struct tuzhelar_planned planned = tuzhelar_plan_sheet(SHEET, strlen(SHEET), space, LINES * TUZHELAR_LINE_WORDS);
-    size_t triggers, i;
+    struct tuzhelar_planned planned = tuzhelar_plan_sheet(SHEET, strlen(SHEET), space, WORDS);
+    size_t i;
     if (planned.refusal != TUZHELAR_DONE) {
         printf("refused=%" PRIu32 "\n%s\n", planned.refusal, tuzhelar_meaning(planned.refusal));
         return 1;
     }
-    triggers = (size_t)space[0];
     printf("deviation=%" PRId64 "\nsteps=%" PRId64 "\nselections=%" PRId64 "\ncount=%zu\n", planned.deviation, planned.steps,
            planned.selections, planned.count);
     print_lines(&planned);
 
     /* The list of this sheet is known, so that the weights can be written down: one for each of its two lines. */
-    choose(planned.count, triggers, as_listed);
-    choose(planned.count, triggers, second_later);
-    choose(planned.count, triggers, first_later);
-
-    /* Times that were wished need not be tightest. These are the latest that are, of those that are no later than wished. */
-    print_tested(SHEET, wished, triggers);
-    reached = tuzhelar_latest_timing(SHEET, strlen(SHEET), wished, triggers, space, LINES * TUZHELAR_LINE_WORDS);
-    printf("instead ");
-    print_tested(SHEET, reached.times, triggers);
+    choose(SHEET, &planned, as_listed);
+    choose(SHEET, &planned, second_later);
+    choose(SHEET, &planned, first_later);
+    print_latest(SHEET, wished, 2);
 
     keeping = tuzhelar_kept_table(SHEET, strlen(SHEET));
     for (i = 0; i < keeping.panels; i++) {
@@ -179,15 +210,17 @@ int main(void)
     }
 
     print_idle();
+    print_downbeat();
 
     print_compared("panels exchanged", EXCHANGED);
     print_compared("trigger 2 due at 3", LATER);
     print_compared("a desk with an idle trigger", IDLE);
+    print_compared("with last moments", DOWNBEAT);
 
     /* Refusals. A refusal leaves the space as it was. */
     planned = tuzhelar_plan_sheet(SHEET, strlen(SHEET), space, TUZHELAR_LINE_WORDS);
     printf("refused=%" PRIu32 ", count=%zu: %s\n", planned.refusal, planned.count, tuzhelar_meaning(planned.refusal));
-    planned = tuzhelar_plan_sheet(NO_ORDER, strlen(NO_ORDER), space, LINES * TUZHELAR_LINE_WORDS);
+    planned = tuzhelar_plan_sheet(NO_ORDER, strlen(NO_ORDER), space, WORDS);
     printf("refused=%" PRIu32 ": %s\n", planned.refusal, tuzhelar_meaning(planned.refusal));
     return 0;
 }

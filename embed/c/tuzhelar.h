@@ -7,7 +7,7 @@
  *
  * The library defines the five names below and calls memcpy and memset alone. It keeps nothing between calls, so that
  * threads may call it at once, each with words of its own. Planning, the latest times and comparing were measured to take up
- * to 68 KB of stack, the others 6 KB.
+ * to 68 KB of stack, the others 8 KB.
  *
  * There are two ways in. `tuzhelar_plan_sheet`, `tuzhelar_kept_table`, `tuzhelar_test_timing`, `tuzhelar_latest_timing` and
  * `tuzhelar_same_timings`, further below, are a thin layer in C that takes null pointers and overlaps too. They call
@@ -29,10 +29,11 @@ extern "C" {
 #define TUZHELAR_SHEET_BYTES 2048 /* a longer sheet is refused, 1 */
 #define TUZHELAR_MOST 6           /* panels and triggers: each 1 to 6 */
 #define TUZHELAR_LINE_WORDS 7     /* words of a line: its count of triggers and six components, the unused ones absent */
+#define TUZHELAR_CAPPED_WORDS 8   /* words of a line on a sheet with a last line: the same, then its cap */
 #define TUZHELAR_ABSENT INT32_MIN /* an absent component, and that of a spare trigger */
-#define TUZHELAR_PLAN_WORDS 5     /* words of planning's answer */
+#define TUZHELAR_PLAN_WORDS 6     /* words of planning's answer */
 #define TUZHELAR_KEPT_WORDS 16    /* words of the kept table's answer */
-#define TUZHELAR_LATEST_WORDS 7   /* words of the latest times' answer */
+#define TUZHELAR_LATEST_WORDS 8   /* words of the latest times' answer */
 #define TUZHELAR_SAME_WORDS 2     /* words of comparing's answer */
 #define TUZHELAR_LAST_TIME 1000000000 /* a time beyond this, or below minus this, is refused, 11 */
 
@@ -76,19 +77,26 @@ extern "C" {
  * its row; at least one trigger never is. A spare trigger's due mark is read and refused as any other and counts for nothing
  * else, and its time may be any that is not refused, 11. A line's first word counts the spare triggers too; their components
  * are absent in every line, and no other trigger's are.
+ *
+ * A sheet with a last line gives each panel a last moment. Times are in time if no panel lands later than that, and a line's
+ * cap is the largest weight with which it is in time itself. Times are tightest and in time exactly when they combine all the
+ * lines with weights no greater than their caps, spare triggers left aside. Deviation, steps, selections, lines, the kept
+ * table and comparing are the same as without the last line; testing and the latest times are about times in time. On a sheet
+ * without a last line all times are.
  */
 
 /*
  * Planning. Returns 0 or the refusal, 1 to 9.
  *
- *   0        the list stands at the front of `space`, seven words for each line, and the rest of the space is as it was;
- *            answer[0] to answer[4] are deviation, steps, selections, count and the spare triggers, a byte with bit 0 for
- *            trigger 1.
- *   9        the list has more lines than the space holds, which is space_length / 7 rounded down: answer[3] is the count
- *            needed, and no other word is written.
+ *   0        the list stands at the front of `space`, and the rest of the space is as it was; answer[0] to answer[5] are
+ *            deviation, steps, selections, count, the spare triggers, a byte with bit 0 for trigger 1, and how many words each
+ *            line takes: seven, or eight on a sheet with a last line, the eighth being its cap.
+ *   9        the list has more lines than the space holds, which is space_length / 7 rounded down, or space_length / 8 on a
+ *            sheet with a last line: answer[3] is the count needed, answer[5] how many words each line takes, and no other word
+ *            is written.
  *   1 to 8   no word is written.
  *
- * A word of the answer that is at or past `answer_length` is dropped, and words past the fifth stay as they were.
+ * A word of the answer that is at or past `answer_length` is dropped, and words past the sixth stay as they were.
  * sheet_length 0 is 2, above 2,048 it is 1. With space_length 0 to 6 a sheet that has a plan is 9: no list is empty.
  */
 uint32_t tuzhelar_plan(const uint8_t *sheet, size_t sheet_length, int32_t *space, size_t space_length, int64_t *answer,
@@ -107,8 +115,8 @@ uint32_t tuzhelar_plan(const uint8_t *sheet, size_t sheet_length, int32_t *space
 uint32_t tuzhelar_kept(const uint8_t *sheet, size_t sheet_length, int64_t *answer, size_t answer_length);
 
 /*
- * Testing a timing. Returns 100 if the times are tightest, 101 if they are not, or the refusal: 1 to 7; then 10, `times_length`
- * is not the sheet's number of triggers; then 11, a time is beyond +-1,000,000,000; then 8.
+ * Testing a timing. Returns 100 if the times are tightest and in time, 101 if they are not, or the refusal: 1 to 7; then 10,
+ * `times_length` is not the sheet's number of triggers; then 11, a time is beyond +-1,000,000,000; then 8.
  *
  * It writes nothing. As many times are tested as are lent: none is made up, and of more than six, which are always 10 where
  * the sheet is not refused before, none is looked at. A spare trigger has a time too; for 10 and 11 it is as any other, and
@@ -117,24 +125,28 @@ uint32_t tuzhelar_kept(const uint8_t *sheet, size_t sheet_length, int64_t *answe
 uint32_t tuzhelar_test(const uint8_t *sheet, size_t sheet_length, const int64_t *times, size_t times_length);
 
 /*
- * The latest tightest times that are no later than given ones: none of them exceeds the given time in its place, and each is at
- * least as late as in any other tightest times of which that is so. Returns 0 or the refusal: 1 to 7; then 10, `times_length` is
- * not the sheet's number of triggers; then 11, a given time is beyond +-1,000,000,000; then 8; then 9.
+ * The latest times that are tightest, in time and no later than given ones: none of them exceeds the given time in its place, and
+ * each is at least as late as in any other such times. There always are some. Returns 0 or the refusal: 1 to 7; then 10,
+ * `times_length` is not the sheet's number of triggers; then 11, a given time is beyond +-1,000,000,000; then 8; then 9.
  *
  *   0               the list stands at the front of `space`, as tuzhelar_plan writes it, and the rest of the space is as it was;
- *                   answer[0] is its number of lines, answer[1] to answer[6] are the times, 0 past the sheet's number of triggers.
- *   9               the list has more lines than the space holds: answer[0] is the count needed, and no other word is written.
+ *                   answer[0] is its number of lines, answer[1] to answer[6] are the times, 0 past the sheet's number of
+ *                   triggers, and answer[7] is how many words each line takes, seven or eight.
+ *   9               the list has more lines than the space holds: answer[0] is the count needed, answer[7] how many words each
+ *                   line takes, and no other word is written.
  *   1 to 8, 10, 11  no word is written.
  *
- * A word of the answer that is at or past `answer_length` is dropped, and words past the seventh stay as they were. As many
- * times are taken as are lent, as tuzhelar_test has it. Given times that are tightest come back as they are, and the time given
- * for a spare trigger always does; times given near -1,000,000,000 can come back below it, where tuzhelar_test takes none (11).
+ * A word of the answer that is at or past `answer_length` is dropped, and words past the eighth stay as they were. As many
+ * times are taken as are lent, as tuzhelar_test has it. Given times that are tightest and in time come back as they are, and the
+ * time given for a spare trigger always does; times given near -1,000,000,000 can come back below it, where tuzhelar_test takes
+ * none (11).
  */
 uint32_t tuzhelar_latest(const uint8_t *sheet, size_t sheet_length, const int64_t *times, size_t times_length, int32_t *space,
                          size_t space_length, int64_t *answer, size_t answer_length);
 
 /*
- * Comparing two sheets: whether the same timings are tightest on both. Returns
+ * Comparing two sheets: whether the same timings are tightest on both. Last moments and caps have no part in this, and one
+ * sheet may have a last line where the other has none. Returns
  *
  *   100          every timing is tightest on both sheets or on neither;
  *   101          some timing is tightest on one of them only;
@@ -171,6 +183,7 @@ struct tuzhelar_planned {
     int64_t selections;
     size_t count;       /* lines written; for 9 lines needed; 0 on any other refusal */
     uint8_t spares;     /* the spare triggers, bit 0 for trigger 1; 0 on a refusal */
+    size_t line_words;  /* words that each line takes: TUZHELAR_LINE_WORDS or, with its cap, TUZHELAR_CAPPED_WORDS; 0 as count */
 };
 
 struct tuzhelar_keeping {
@@ -187,12 +200,15 @@ struct tuzhelar_reached {
     uint32_t refusal;             /* 0, or 1 to 11 */
     size_t count;                 /* lines written; for 9 lines needed; 0 on any other refusal */
     int64_t times[TUZHELAR_MOST]; /* the latest times, 0 past the sheet's number of triggers and on a refusal */
+    size_t line_words;            /* words that each line takes, as planning has it; 0 as count */
 };
 
 struct tuzhelar_compared {
     uint32_t number; /* TUZHELAR_SAME, TUZHELAR_DIFFERENT or TUZHELAR_UNLIKE, or a refusal, 1 to 9 or 201 to 209 */
     size_t first;    /* lines written to `left`; for 9 lines needed there; 0 on any other refusal */
     size_t second;   /* lines written to `right`; for 209 lines needed there; 0 on any other refusal */
+    size_t first_words;  /* words that each line takes there, as planning has it; 0 as first */
+    size_t second_words; /* the same for the second sheet; 0 as second */
 };
 
 /* The length under which a copy of the sheet is handed on. One that is too long is so by its length alone. */
@@ -209,6 +225,18 @@ static inline size_t tuzhelar_copied(uint8_t copy[TUZHELAR_SHEET_BYTES + 1], con
     return sheet_length;
 }
 
+/* Words that each line of a sheet takes: no other line of a good sheet has the bytes `last=`. For any other sheet it says nothing. */
+static inline size_t tuzhelar_line_words(const uint8_t *sheet, size_t sheet_length)
+{
+    size_t i;
+    for (i = 0; i + 5 <= sheet_length; i++) {
+        if (memcmp(sheet + i, "last=", 5) == 0) {
+            return TUZHELAR_CAPPED_WORDS;
+        }
+    }
+    return TUZHELAR_LINE_WORDS;
+}
+
 /* Planning: the list at the front of `space`, as tuzhelar_plan writes it. */
 static inline struct tuzhelar_planned tuzhelar_plan_sheet(const void *sheet, size_t sheet_length, int32_t *space,
                                                           size_t space_length)
@@ -216,7 +244,7 @@ static inline struct tuzhelar_planned tuzhelar_plan_sheet(const void *sheet, siz
     uint8_t copy[TUZHELAR_SHEET_BYTES + 1];
     size_t length = tuzhelar_copied(copy, sheet, sheet_length);
     int32_t none = 0;
-    int64_t answer[TUZHELAR_PLAN_WORDS] = {0, 0, 0, 0, 0};
+    int64_t answer[TUZHELAR_PLAN_WORDS] = {0, 0, 0, 0, 0, 0};
     struct tuzhelar_planned planned;
     if (space == NULL) {
         space = &none;
@@ -228,6 +256,7 @@ static inline struct tuzhelar_planned tuzhelar_plan_sheet(const void *sheet, siz
     planned.selections = answer[2];
     planned.count = (size_t)answer[3];
     planned.spares = (uint8_t)answer[4];
+    planned.line_words = (size_t)answer[5];
     return planned;
 }
 
@@ -264,14 +293,14 @@ static inline uint32_t tuzhelar_test_timing(const void *sheet, size_t sheet_leng
     return tuzhelar_test(copy, length, times, times_length);
 }
 
-/* The latest tightest times no later than given ones, and the list at the front of `space`, as tuzhelar_latest writes it. */
+/* The latest tightest times in time and no later than given ones, and the list at the front of `space`, as tuzhelar_latest has it. */
 static inline struct tuzhelar_reached tuzhelar_latest_timing(const void *sheet, size_t sheet_length, const int64_t *times,
                                                              size_t times_length, int32_t *space, size_t space_length)
 {
     uint8_t copy[TUZHELAR_SHEET_BYTES + 1];
     size_t length = tuzhelar_copied(copy, sheet, sheet_length);
     int32_t none = 0;
-    int64_t given[TUZHELAR_MOST] = {0, 0, 0, 0, 0, 0}, answer[TUZHELAR_LATEST_WORDS] = {0, 0, 0, 0, 0, 0, 0};
+    int64_t given[TUZHELAR_MOST] = {0, 0, 0, 0, 0, 0}, answer[TUZHELAR_LATEST_WORDS] = {0, 0, 0, 0, 0, 0, 0, 0};
     struct tuzhelar_reached reached;
     if (times == NULL) {
         times = given;
@@ -288,6 +317,7 @@ static inline struct tuzhelar_reached tuzhelar_latest_timing(const void *sheet, 
     reached.refusal = tuzhelar_latest(copy, length, times, times_length, space, space_length, answer, TUZHELAR_LATEST_WORDS);
     reached.count = (size_t)answer[0];
     memcpy(reached.times, answer + 1, sizeof reached.times);
+    reached.line_words = (size_t)answer[7];
     return reached;
 }
 
@@ -313,6 +343,8 @@ static inline struct tuzhelar_compared tuzhelar_same_timings(const void *first, 
                                     TUZHELAR_SAME_WORDS);
     compared.first = (size_t)answer[0];
     compared.second = (size_t)answer[1];
+    compared.first_words = compared.first == 0 ? 0 : tuzhelar_line_words(copy, length);
+    compared.second_words = compared.second == 0 ? 0 : tuzhelar_line_words(other, other_length);
     return compared;
 }
 
@@ -322,10 +354,19 @@ static inline int tuzhelar_is_spare(uint8_t spares, size_t j)
     return j < TUZHELAR_MOST && (spares >> j & 1) != 0;
 }
 
-/* Component j of line i, both from 0, of a list at the front of `space`: a number, or TUZHELAR_ABSENT, for a spare trigger always. */
-static inline int32_t tuzhelar_component(const int32_t *space, size_t i, size_t j)
+/*
+ * Component j of line i, both from 0, of a list at the front of `space` whose lines take so many words: a number, or TUZHELAR_ABSENT,
+ * for a spare trigger always.
+ */
+static inline int32_t tuzhelar_component(const int32_t *space, size_t line_words, size_t i, size_t j)
 {
-    return space[TUZHELAR_LINE_WORDS * i + 1 + j];
+    return space[line_words * i + 1 + j];
+}
+
+/* The cap of line i, from 0, of a list at the front of `space` whose lines take eight words. */
+static inline int32_t tuzhelar_cap(const int32_t *space, size_t i)
+{
+    return space[TUZHELAR_CAPPED_WORDS * i + TUZHELAR_LINE_WORDS];
 }
 
 /* What a number that any function but comparing returned means, and what to look at. */
@@ -335,17 +376,17 @@ static inline const char *tuzhelar_meaning(uint32_t number)
     case TUZHELAR_DONE:
         return "Done.";
     case TUZHELAR_TOO_LONG:
-        return "The sheet has more than 2,048 bytes. No good sheet has more than 1,080: look for text behind its last line.";
+        return "The sheet has more than 2,048 bytes. No good sheet has more than 1,133: look for text behind its end.";
     case TUZHELAR_FORM:
-        return "A line is missing or ill-formed, or bytes follow the last line. Look at the order of the lines, their keys, "
+        return "A line is missing or ill-formed, or bytes follow the sheet's end. Look at the order of the lines, their keys, "
                "their numbers of items, numerals such as 05, -0 or +5, blanks, and the line end of each; there is a land line for "
-               "each trigger or none.";
+               "each trigger or none, and behind these one last line or none.";
     case TUZHELAR_SIZE:
         return "The number of panels or of triggers is not 1 to 6.";
     case TUZHELAR_RANGE:
-        return "An entry of a lag, floor, due, after or land line is below -100,000 or above 100,000.";
+        return "An entry of a lag, floor, due, after, land or last line is below -100,000 or above 100,000.";
     case TUZHELAR_NO_DUE:
-        return "A due mark is absent. Each trigger needs one.";
+        return "A due mark or a last moment is absent. Each trigger needs a due mark, and in a last line each panel a moment.";
     case TUZHELAR_NO_LAG:
         return "A panel has no lag: no trigger reaches it. Look for a lag line of minus signs alone.";
     case TUZHELAR_NO_FLOOR:
@@ -354,15 +395,17 @@ static inline const char *tuzhelar_meaning(uint32_t number)
         return "No times keep the order. Look for a circle of after and land rules whose numbers, with the lags to panels waited "
                "for, add up to more than 0.";
     case TUZHELAR_SPACE:
-        return "The list has more lines than the lent space holds. Lend seven words for each line of the count returned.";
+        return "The list has more lines than the lent space holds. Lend seven words for each line of the count returned, eight for "
+               "a sheet with a last line.";
     case TUZHELAR_COMPONENTS:
         return "There are not as many times as the sheet has triggers.";
     case TUZHELAR_TIME:
         return "A time is below -1,000,000,000 or above 1,000,000,000.";
     case TUZHELAR_YES:
-        return "The times are tightest.";
+        return "The times are tightest and in time.";
     case TUZHELAR_NO:
-        return "The times are not tightest: they break an after or land rule, or other times have a smaller deviation.";
+        return "The times are not tightest or not in time: they break an after or land rule, other times have a smaller deviation, "
+               "or a panel lands after its last moment.";
     default:
         return "No function returns this number.";
     }

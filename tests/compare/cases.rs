@@ -12,7 +12,7 @@ const WHOLE_TEXT: &str = "deviation=2\nsteps=2\nselections=1\ncount=2\nline=-1,0
 const TWO_SELECTIONS: &str =
     "panels=1\ntriggers=2\nlag=0,0\nfloor=0\ndue=0,0\nafter=-,-\nafter=1,-\n";
 /// "lags 0,- and -,0; floors 0,-; due 0,0; after entries all absent"
-const NO_SECOND_FLOOR: &str =
+pub const NO_SECOND_FLOOR: &str =
     "panels=2\ntriggers=2\nlag=0,-\nlag=-,0\nfloor=0,-\ndue=0,0\nafter=-,-\nafter=-,-\n";
 /// One panel and three triggers: a growing set of independent lines has four on the way to three.
 const FOUR_TO_THREE: &str = "panels=1\ntriggers=3\nlag=0,0,-1\nfloor=1\ndue=0,0,1\nafter=-,-1,-\nafter=-,-,-\nafter=0,0,0\n";
@@ -44,6 +44,12 @@ floor=0,0,0,0,0,0
 due=0,0,0,0,0,0
 ";
 pub const NO_RULES: &str = "after=-,-,-,-,-,-\n";
+
+/// 9 for a list of two lines of a sheet without a last line.
+const TWO_DO_NOT_FIT: NoPlan = NoPlan::SpaceTooSmall {
+    count: 2,
+    line_words: LINE_WORDS,
+};
 
 /// "sheets of one panel and one trigger, lag 5, floor 0, due 0"
 pub fn one_by_one(after: &str) -> String {
@@ -85,7 +91,7 @@ pub fn chain(key: &str, entry: &str) -> String {
 
 /// One panel that only trigger 1 reaches, with every later trigger 100,000 after the one before:
 /// M* and r as far as after rules take them.
-fn long_chain() -> String {
+pub fn long_chain() -> String {
     let after = chain("after", "100000");
     let due = ["-100000"; 6].join(",");
     format!("panels=1\ntriggers=6\nlag=-100000,-,-,-,-,-\nfloor=100000\ndue={due}\n{after}")
@@ -146,6 +152,14 @@ pub fn run(checks: &mut Checks) {
     test_cases(checks);
     latest_cases(checks);
     same_cases(checks);
+}
+
+/// Sheets with something behind them, and the refusal of reading.
+pub fn behind_sheets(sheets: &[(&str, &[(&str, u32)])]) -> impl Iterator<Item = (String, u32)> {
+    sheets.iter().flat_map(|(sheet, cases)| {
+        let cases = cases.iter();
+        cases.map(move |(behind, code)| (format!("{sheet}{behind}"), *code))
+    })
 }
 
 /// The planning program's text of some sheets, and reading's refusal of others, 0 for none.
@@ -338,6 +352,7 @@ fn space_cases(checks: &mut Checks) {
         selections: 1,
         count: 2,
         spares: 0,
+        line_words: LINE_WORDS,
     };
     let absent = i32::MIN;
     let line = |a: i32, b: i32| [2, a, b, absent, absent, absent, absent];
@@ -347,7 +362,7 @@ fn space_cases(checks: &mut Checks) {
         let answer = reference::plan(WHOLE.as_bytes(), &mut space);
         let name = format!("whole case with {words} words");
         if words < 2 * LINE_WORDS {
-            checks.check(&name, answer == Err(NoPlan::SpaceTooSmall(2)));
+            checks.check(&name, answer == Err(TWO_DO_NOT_FIT));
             checks.check(&name, space.iter().all(|word| *word == 77));
             let text = reference::plan_answer_text(&answer, &space);
             checks.check(&name, text == "refused=9\ncount=2\n");
@@ -405,10 +420,14 @@ fn latest_cases(checks: &mut Checks) {
     };
     let is = |times: &[i64]| {
         let times = times.to_vec();
-        Ok(Reached { count: 2, times })
+        Ok(Reached {
+            count: 2,
+            line_words: LINE_WORDS,
+            times,
+        })
     };
     let refused = |number| Err(NoPlan::Refused(number));
-    let full = || Err(NoPlan::SpaceTooSmall(2));
+    let full = || Err(TWO_DO_NOT_FIT);
     let circle = &one_by_one("1");
     let limit = reference::LONGEST_TIME;
     check("0,2", WHOLE, &[0, 2], 30, is(&[0, 1]));
@@ -447,7 +466,7 @@ fn same_cases(checks: &mut Checks) {
     let later = WHOLE.replace("due=1,2", "due=1,3");
     let (one, circle) = (one_by_one("-"), one_by_one("1"));
     let enough = [30, 30];
-    let full = NoPlan::SpaceTooSmall(2);
+    let full = TWO_DO_NOT_FIT;
     let (first, second) = (NotCompared::First, NotCompared::Second);
     let refused = NoPlan::Refused;
     check("same", [WHOLE, WHOLE], enough, Ok((Likeness::Same, [2, 2])));

@@ -1,8 +1,10 @@
 //! One sheet, the reference's answers and those of the implementation tried.
 
+use crate::last;
 use crate::latest::{self, Reached};
 use crate::reference::{
-    self, Compared, Likeness, Line, NoPlan, NotCompared, Plan, Refusal, Survey,
+    self, CAPPED_WORDS, Compared, LINE_WORDS, Likeness, Line, NoPlan, NotCompared, Plan, Refusal,
+    Sheet, Survey,
 };
 use crate::search::{self, Found};
 use crate::sheets::{self, Draft, Random};
@@ -19,7 +21,14 @@ const LISTED_SELECTIONS: u64 = 200;
 const LAND: &[u8] = b"land=";
 
 /// Space that is enough for any list of a small sheet.
-const SEARCH_SPACE: usize = 64 * reference::LINE_WORDS;
+const SEARCH_LINES: usize = 64;
+const SEARCH_SPACE: usize = SEARCH_LINES * CAPPED_WORDS;
+
+/// How many times are tested on a sheet that is refused.
+const TIMES_OF_NONE: usize = 2;
+
+/// Within what random weights and times lie.
+const SPREADS: [i64; 6] = [1, 3, 10, 100, 100_000, 1_000_000];
 
 /// What was seen on one sheet, for the counts at the end.
 #[derive(Default)]
@@ -33,6 +42,8 @@ pub struct Seen {
     /// Whether a good sheet has land lines, and an entry in them.
     pub land_lines: bool,
     pub land_rules: bool,
+    /// Whether it has a last line.
+    pub last_line: bool,
     /// How many triggers of a good sheet are spare.
     pub spares: usize,
     /// Plannings refused with 9.
@@ -45,9 +56,9 @@ pub struct Seen {
 
 // ------------------------------------------- The reference's answers as words
 
-/// What the answer must hold: a refusal changes no word, but for 9 the count.
+/// What the answer must hold: a refusal changes no word, but for 9 the count and how many words a line takes.
 pub fn plan_answer(answer: &Result<Plan, NoPlan>) -> PlanAnswer {
-    let mut words = [UNTOUCHED; 7];
+    let mut words = [UNTOUCHED; 8];
     let code = match answer {
         Ok(plan) => {
             words[0] = plan.deviation;
@@ -55,11 +66,13 @@ pub fn plan_answer(answer: &Result<Plan, NoPlan>) -> PlanAnswer {
             words[2] = plan.selections as i64;
             words[3] = plan.count as i64;
             words[4] = plan.spares.into();
+            words[5] = plan.line_words as i64;
             0
         }
         Err(NoPlan::Refused(number)) => *number,
-        Err(NoPlan::SpaceTooSmall(count)) => {
+        Err(NoPlan::SpaceTooSmall { count, line_words }) => {
             words[3] = *count as i64;
+            words[5] = *line_words as i64;
             9
         }
     };
@@ -94,18 +107,20 @@ pub fn test_answer(answer: Result<bool, Refusal>) -> u32 {
 }
 
 pub fn latest_answer(answer: &Result<Reached, NoPlan>) -> LatestAnswer {
-    let mut words = [UNTOUCHED; 9];
+    let mut words = [UNTOUCHED; 10];
     match answer {
         Ok(reached) => {
             words[..7].fill(0);
             words[0] = reached.count as i64;
             words[1..=reached.times.len()].copy_from_slice(&reached.times);
+            words[7] = reached.line_words as i64;
             LatestAnswer { code: 0, words }
         }
         Err(refused) => {
-            // The word of 9's count alone.
+            // The two words of 9 alone.
             let planned = plan_answer(&Err(*refused));
             words[0] = planned.words[3];
+            words[7] = planned.words[5];
             LatestAnswer {
                 code: planned.code,
                 words,
@@ -163,12 +178,14 @@ pub fn compare_sheet(
             seen.size = Some((read.panels, read.triggers));
             seen.land_lines = sheet.windows(LAND.len()).any(|bytes| bytes == LAND);
             seen.land_rules = read.has_land_rules();
+            seen.last_line = read.last.is_some();
             seen.spares = read.spares().count_ones() as usize;
             if survey.selections() <= LISTED_SELECTIONS {
                 lines = survey.lines();
                 spares::check_over_the_others(survey, &lines)?;
                 compare_plans(tried, sheet, survey, &lines, random, &mut seen)?;
                 compare_latest(tried, sheet, Some((survey, &lines)), random, &mut seen)?;
+                last::check(tried, sheet, read, &lines, random)?;
                 seen.listed = true;
             }
         }
@@ -179,7 +196,10 @@ pub fn compare_sheet(
     Ok(seen)
 }
 
-fn same<T: PartialEq + std::fmt::Debug>(what: &str, wanted: &T, got: &T) -> Result<(), String> {
+pub fn same<T>(what: &str, wanted: &T, got: &T) -> Result<(), String>
+where
+    T: PartialEq + std::fmt::Debug + ?Sized,
+{
     if wanted == got {
         return Ok(());
     }
@@ -207,14 +227,17 @@ fn compare_refused_plan(
     same("space after a refused plan", &before, &space)
 }
 
-/// The words of a space that holds a list, and of any space.
-fn enough_and_any(needed: usize, random: &mut Random) -> [usize; 2] {
+/// The words of a space that holds a list, and of any space: one in which a word or a line is missing, or
+/// the caps, among others.
+fn enough_and_any(count: usize, line_words: usize, random: &mut Random) -> [usize; 2] {
+    let needed = count * line_words;
     let enough = needed + *random.pick(&[0, 0, 1, 6, 7, 30]);
-    let any = match random.below(5) {
+    let any = match random.below(6) {
         0 => 0,
         1 => needed - 1,
-        2 => needed - reference::LINE_WORDS,
+        2 => needed - line_words,
         3 => random.below(needed),
+        4 => count * LINE_WORDS,
         _ => needed + random.below(100),
     };
     [enough, any]
@@ -229,7 +252,8 @@ fn compare_plans(
     random: &mut Random,
     seen: &mut Seen,
 ) -> Result<(), String> {
-    for words in enough_and_any(lines.len() * reference::LINE_WORDS, random) {
+    let line_words = survey.tables.sheet.line_words();
+    for words in enough_and_any(lines.len(), line_words, random) {
         let mut wanted_space = lent_space(random, words);
         let mut space = wanted_space.clone();
         let wanted = plan_answer(&reference::finish_plan(survey, lines, &mut wanted_space));
@@ -272,8 +296,8 @@ pub fn compare_two(
 fn lent_for(sheet: &[u8], random: &mut Random) -> Option<Vec<i32>> {
     let needed = match reference::survey(sheet) {
         Ok(survey) if survey.selections() > LISTED_SELECTIONS => return None,
-        Ok(survey) => survey.lines().len() * reference::LINE_WORDS,
-        Err(_) => reference::LINE_WORDS,
+        Ok(survey) => survey.lines().len() * survey.tables.sheet.line_words(),
+        Err(_) => LINE_WORDS,
     };
     let words = match random.below(16) {
         0 => needed - 1,
@@ -292,8 +316,8 @@ fn compare_test(
     random: &mut Random,
     seen: &mut Seen,
 ) -> Result<(), String> {
-    let triggers = reference::read(sheet).map(|sheet| sheet.triggers);
-    let times = timing_to_test(triggers.unwrap_or(2), lines, random);
+    let read = reference::read(sheet).ok();
+    let times = timing_to_test(read.as_ref(), lines, random);
     let wanted = test_answer(reference::test(sheet, &times));
     let got = (tried.test)(sheet, &times);
     same(&format!("test of times {times:?}"), &wanted, &got)?;
@@ -307,9 +331,9 @@ fn compare_test(
     Ok(())
 }
 
-/// A timing near the tightest ones, sometimes moved to the limits, with a word beyond the limit, or
-/// with another number of times.
-fn timing_to_test(n: usize, lines: &[Line], random: &mut Random) -> Vec<i64> {
+/// A timing near the tightest ones, on a sheet with a last line near those in time, sometimes moved to the
+/// limits, with a word beyond the limit, or with another number of times.
+fn timing_to_test(sheet: Option<&Sheet>, lines: &[Line], random: &mut Random) -> Vec<i64> {
     let strange = [
         i64::MIN,
         i64::MAX,
@@ -317,7 +341,9 @@ fn timing_to_test(n: usize, lines: &[Line], random: &mut Random) -> Vec<i64> {
         1_000_000_001,
         1 << 32,
     ];
-    let mut times = near_tightest(n, lines, random);
+    let n = sheet.map_or(TIMES_OF_NONE, |sheet| sheet.triggers);
+    let weights = weights_to_test(sheet, lines, random);
+    let mut times = combined(n, lines, &weights, random);
     if random.chance(40) {
         times[random.below(n)] += random.between(-2, 2);
     }
@@ -335,16 +361,22 @@ fn timing_to_test(n: usize, lines: &[Line], random: &mut Random) -> Vec<i64> {
     times
 }
 
-/// A combination of the lines with random weights; any times where no line has a component, as at a spare
+/// Weights for the lines, about their caps where they have some.
+fn weights_to_test(sheet: Option<&Sheet>, lines: &[Line], random: &mut Random) -> Vec<i64> {
+    let spread = *random.pick(&SPREADS);
+    let mut weight = |line: &Line| match sheet.and_then(|sheet| reference::cap(sheet, line)) {
+        Some(cap) => last::weight_about(cap, spread, random),
+        None => random.between(-spread, spread),
+    };
+    lines.iter().map(&mut weight).collect()
+}
+
+/// The combination of the lines with some weights; any times where no line has a component, as at a spare
 /// place.
-fn near_tightest(n: usize, lines: &[Line], random: &mut Random) -> Vec<i64> {
-    let spread = *random.pick(&[1, 3, 10, 100, 100_000, 1_000_000]);
-    let weights: Vec<i64> = lines
-        .iter()
-        .map(|_| random.between(-spread, spread))
-        .collect();
+pub fn combined(n: usize, lines: &[Line], weights: &[i64], random: &mut Random) -> Vec<i64> {
+    let spread = *random.pick(&SPREADS);
     let component = |at: usize| {
-        let weighted = lines.iter().zip(&weights);
+        let weighted = lines.iter().zip(weights);
         weighted
             .filter_map(|(line, weight)| line[at].map(|c| c + weight))
             .max()
@@ -388,11 +420,11 @@ fn compare_latest(
     random: &mut Random,
     seen: &mut Seen,
 ) -> Result<(), String> {
-    let triggers = reference::read(sheet).map_or(2, |sheet| sheet.triggers);
+    let read = reference::read(sheet).ok();
+    let line_words = read.as_ref().map_or(LINE_WORDS, Sheet::line_words);
     let lines = listed.map_or(&[][..], |(_, lines)| lines);
-    let needed = lines.len().max(1) * reference::LINE_WORDS;
-    for words in enough_and_any(needed, random) {
-        let given = timing_to_reach(triggers, lines, random);
+    for words in enough_and_any(lines.len().max(1), line_words, random) {
+        let given = timing_to_reach(read.as_ref(), lines, random);
         let mut wanted_space = lent_space(random, words);
         let mut space = wanted_space.clone();
         let wanted = match (reference::admitted(sheet, &given), listed) {
@@ -417,7 +449,7 @@ fn count_latest(answer: &Result<Reached, NoPlan>, given: &[i64], seen: &mut Seen
             seen.latest[0] += 1;
             seen.latest[1] += u64::from(reached.times == given);
         }
-        Err(NoPlan::SpaceTooSmall(_)) => seen.latest[2] += 1,
+        Err(NoPlan::SpaceTooSmall { .. }) => seen.latest[2] += 1,
         Err(NoPlan::Refused(10)) => seen.latest[3] += 1,
         Err(NoPlan::Refused(11)) => seen.latest[4] += 1,
         Err(NoPlan::Refused(_)) => {}
@@ -426,9 +458,9 @@ fn count_latest(answer: &Result<Reached, NoPlan>, given: &[i64], seen: &mut Seen
 
 /// A timing as for a test, often with some times far from the tightest ones: later or earlier,
 /// anywhere, or at the limits.
-fn timing_to_reach(n: usize, lines: &[Line], random: &mut Random) -> Vec<i64> {
+fn timing_to_reach(sheet: Option<&Sheet>, lines: &[Line], random: &mut Random) -> Vec<i64> {
     const LIMIT: i64 = reference::LONGEST_TIME;
-    let mut times = timing_to_test(n, lines, random);
+    let mut times = timing_to_test(sheet, lines, random);
     let manner = random.below(6);
     for time in &mut times {
         if random.chance(50) {
@@ -521,6 +553,7 @@ fn search_latest(
         .collect();
     let wanted = Reached {
         count: found.lines.len(),
+        line_words: line_words(draft),
         times: search::latest(draft, found, &given)?,
     };
     let got = (tried.latest)(&draft.write(), &given, &mut [0; SEARCH_SPACE]);
@@ -536,19 +569,29 @@ fn planned(tried: &Operations, draft: &Draft) -> Result<Result<Found, u32>, Stri
         return Ok(Err(answer.code));
     }
     let count = usize::try_from(answer.words[3]).unwrap_or(usize::MAX);
-    if count > SEARCH_SPACE / reference::LINE_WORDS {
+    if count > SEARCH_LINES {
         return Err(format!("count {count} is more than the space holds"));
     }
     let spares = draft.spares().into_iter().enumerate();
     let byte: i64 = spares.map(|(j, spare)| i64::from(spare) << j).sum();
     same("spare triggers", &byte, &answer.words[4])?;
-    let lines = space.chunks_exact(reference::LINE_WORDS).take(count);
+    let line_words = line_words(draft);
+    same("words of a line", &(line_words as i64), &answer.words[5])?;
+    let lines = || space.chunks_exact(line_words).take(count);
+    let cap = |words: &[i32]| i64::from(words[LINE_WORDS]);
     Ok(Ok(Found {
         deviation: answer.words[0],
-        lines: lines
+        lines: lines()
             .map(|words| components(draft, words))
             .collect::<Result<_, _>>()?,
+        caps: draft.last.as_ref().map(|_| lines().map(cap).collect()),
     }))
+}
+
+/// How many words a line of the sheet takes in the lent space.
+fn line_words(draft: &Draft) -> usize {
+    let capped = draft.last.is_some();
+    if capped { CAPPED_WORDS } else { LINE_WORDS }
 }
 
 /// The components of a line in the space; it must carry the sheet's count of triggers, and absent

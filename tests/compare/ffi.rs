@@ -48,7 +48,7 @@ unsafe extern "C" {
 }
 
 pub fn plan(sheet: &[u8], space: &mut [i32]) -> PlanAnswer {
-    let mut words = [UNTOUCHED; 7];
+    let mut words = [UNTOUCHED; 8];
     // SAFETY: each pointer goes with the length of the slice it comes from, and no slice overlaps
     // another.
     let code = unsafe {
@@ -78,7 +78,7 @@ pub fn test(sheet: &[u8], times: &[i64]) -> u32 {
 }
 
 pub fn latest(sheet: &[u8], given: &[i64], space: &mut [i32]) -> LatestAnswer {
-    let mut words = [UNTOUCHED; 9];
+    let mut words = [UNTOUCHED; 10];
     // SAFETY: as in `plan`.
     let code = unsafe {
         tuzhelar_latest(

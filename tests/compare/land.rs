@@ -1,6 +1,7 @@
 //! Cases of document 02's No. 2, triggers that wait for a landing, as checks of the reference.
 
-use crate::cases::{Checks, NO_RULES, WHOLE, chain, one_by_one, sheet_of, texts_and_codes};
+use crate::cases::texts_and_codes;
+use crate::cases::{Checks, NO_RULES, WHOLE, behind_sheets, chain, one_by_one, sheet_of};
 use crate::latest::{Reached, latest};
 use crate::reference::{self, LINE_WORDS, Likeness};
 
@@ -12,7 +13,7 @@ const WAITING_TEXT: &str = "deviation=2\nsteps=1\nselections=1\ncount=1\nline=-5
 const TWO_PANELS: &str = "panels=2\ntriggers=1\nlag=5\nlag=7\nfloor=0,-\ndue=0\nafter=-\n";
 
 /// Example 6 of document 000, its marks written out: every floor 0, each due mark minus the largest lag.
-const EXAMPLE_6: &str = "\
+pub const EXAMPLE_6: &str = "\
 panels=3
 triggers=3
 lag=3,-1,-
@@ -104,8 +105,8 @@ fn longest_chain() -> String {
     format!("panels=6\ntriggers=6\n{lag}floor=-,-,-,-,-,100000\ndue={due}\n{after}{land}")
 }
 
-/// The longest good sheet that there is.
-fn longest_good() -> String {
+/// The longest good sheet without a last line.
+pub fn longest_good() -> String {
     let row = ["-100000"; 6].join(",");
     let lines = |key: &str, count: usize| format!("{key}={row}\n").repeat(count);
     let kinds = [
@@ -129,14 +130,9 @@ fn reading_cases() -> Vec<(String, u32)> {
         (&one("-", "-"), &BEHIND_NO_LAG),
         (&one("5", "-"), &BEHIND_NO_FLOOR),
     ];
-    let sheets = behind.into_iter().flat_map(|(sheet, cases)| {
-        let cases = cases.iter();
-        cases.map(move |(land, code)| (format!("{sheet}{land}"), *code))
-    });
     let before_after = WHOLE.replacen("after=", "land=-,-\nland=-,-\nafter=", 1);
-    sheets
-        .chain([(before_after, 2), (longest_good(), 0)])
-        .collect()
+    let more = [(before_after, 2), (longest_good(), 0)];
+    behind_sheets(&behind).chain(more).collect()
 }
 
 const BEHIND_ONE: [(&str, u32); 18] = [
@@ -213,6 +209,7 @@ fn test_cases(checks: &mut Checks) {
 fn latest_cases(checks: &mut Checks) {
     let wanted = Reached {
         count: 1,
+        line_words: LINE_WORDS,
         times: vec![0, 5],
     };
     for given in [[0, 5], [0, 9], [3, 5]] {

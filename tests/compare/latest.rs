@@ -13,13 +13,18 @@
 //! latest is later, for each is tightest and exceeds no given time. So it is the largest of them,
 //! component by component. A spare time stands in no rule, so that it stays as given: "No. 1 hands that
 //! number back".
+//!
+//! By No. 5 it also meets every last moment: y(i) ≤ last(i) is to say that x(k) ≤ last(i) − a(i,k) for
+//! every k. These bounds hold as those of the given times do, and the lower of the two is lowered further.
 
 use crate::reference::{self, Line, NoPlan, Sheet, Survey, Table, Tables};
 
-/// "On success the lent space holds the list as after planning"; the count is how much was written.
+/// "On success the lent space holds the list as after planning"; the count is how much was written, with
+/// how many words a line takes.
 #[derive(Clone, Debug, PartialEq, Eq)]
 pub struct Reached {
     pub count: usize,
+    pub line_words: usize,
     pub times: Vec<i64>,
 }
 
@@ -40,6 +45,7 @@ pub fn finish(
     let plan = reference::finish_plan(survey, lines, space)?;
     Ok(Reached {
         count: plan.count,
+        line_words: plan.line_words,
         times: times(&survey.tables, given),
     })
 }
@@ -51,8 +57,16 @@ fn times(tables: &Tables, given: &[i64]) -> Vec<i64> {
         .collect();
     let mut rules = order_rules(sheet);
     let mut latest = vec![i64::MIN; given.len()];
-    choose(tables, &floors, &mut rules, given.to_vec(), &mut latest);
+    let x = given.iter().enumerate();
+    let x = x.map(|(k, time)| allowed(sheet, k).fold(*time, i64::min));
+    choose(tables, &floors, &mut rules, x.collect(), &mut latest);
     latest
+}
+
+/// The last times of a trigger for the panels that it reaches: none without a last line.
+fn allowed(sheet: &Sheet, k: usize) -> impl Iterator<Item = i64> {
+    let moments = sheet.last.iter().flatten().zip(&sheet.lag);
+    moments.filter_map(move |(last, lags)| Some((*last)? - lags[k]?))
 }
 
 /// (j, k, c): x(j) ≤ x(k) + c.

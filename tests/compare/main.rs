@@ -12,19 +12,22 @@ mod compare;
 mod ffi;
 mod itself;
 mod land;
+mod last;
 mod latest;
+mod met;
 mod reference;
 mod search;
 mod sheets;
 mod spares;
 mod under_test;
 mod wrong;
+mod wrong_last;
 mod wrong_spares;
 
 use cases::Checks;
 use compare::{Searched, Seen, Trial};
 use itself::REFERENCE;
-use reference::Tables;
+use met::Met;
 use sheets::Random;
 use std::io::Read;
 use std::process::ExitCode;
@@ -43,11 +46,11 @@ const TIMED_SPACE: usize = 1 << 21;
 /// Differences that are printed in full.
 const SHOWN: u64 = 3;
 /// Pairs of small sheets that `--self` searches.
-const SELF_PAIRS: u64 = 200;
-/// Sheets among which `--self` wants every refusal of reading, 8 and every size.
+const SELF_PAIRS: u64 = 400;
+/// Sheets among which `--self` wants to meet all kinds.
 const SELF_SHEETS: u64 = 4_000;
 /// Trials in which `--self` compares the reference with itself, and each wrong program with it.
-const SELF_COMPARED: u64 = 400;
+const SELF_COMPARED: u64 = 1_200;
 
 fn main() -> ExitCode {
     let arguments: Vec<String> = std::env::args().skip(1).collect();
@@ -132,6 +135,7 @@ fn run_self() -> ExitCode {
     cases::run(&mut checks);
     land::run(&mut checks);
     spares::run(&mut checks);
+    last::run(&mut checks);
     check_search(&mut checks);
     check_sheets(&mut checks);
     check_wrong(&mut checks);
@@ -167,12 +171,9 @@ fn search_pair(tried: &Operations, number: u64) -> Result<Searched, String> {
     compare::compare_pair(tried, &draft, &other, &mut random)
 }
 
-/// The sheets reach every refusal of reading, 8, and every size, with land rules too, and every kind of
-/// spare trigger; the comparison finds the reference equal to itself.
+/// The sheets reach all that `--self` wants to meet; the comparison finds the reference equal to itself.
 fn check_sheets(checks: &mut Checks) {
-    let mut codes = [0; 9];
-    let (mut sizes, mut land_sizes) = ([[0; 6]; 6], [[0; 6]; 6]);
-    let mut kinds = [0; spares::KINDS.len()];
+    let mut met = Met::default();
     for number in 0..SELF_SHEETS {
         let mut random = Random::new(SEED, number);
         match compare::trial(number, &mut random) {
@@ -181,16 +182,7 @@ fn check_sheets(checks: &mut Checks) {
                     let same = compare::compare_sheet(&REFERENCE, &sheet, &mut random);
                     checks.check(&format!("sheet {number} with itself"), same.is_ok());
                 }
-                let tables = reference::read(&sheet).and_then(reference::tables);
-                codes[tables.as_ref().err().copied().unwrap_or(0) as usize] += 1;
-                if let Ok(Tables { sheet, .. }) = tables {
-                    let (m, n) = (sheet.panels - 1, sheet.triggers - 1);
-                    sizes[m][n] += 1;
-                    land_sizes[m][n] += u32::from(sheet.has_land_rules());
-                    for (count, (_, is_met)) in kinds.iter_mut().zip(&spares::KINDS) {
-                        *count += u32::from(is_met(&sheet));
-                    }
-                }
+                met.sheet(&sheet);
             }
             Trial::Two([one, other], known) if number < SELF_COMPARED => {
                 let same = compare::compare_two(&REFERENCE, [&one, &other], known, &mut random);
@@ -199,22 +191,15 @@ fn check_sheets(checks: &mut Checks) {
             _ => {}
         }
     }
-    for (code, count) in codes.iter().enumerate() {
-        checks.check(&format!("sheets with code {code} are met"), *count > 0);
-    }
-    let all_sizes = |sizes: [[u32; 6]; 6]| sizes.iter().flatten().all(|count| *count > 0);
-    checks.check("good sheets of every size are met", all_sizes(sizes));
-    let name = "good sheets of every size with land rules are met";
-    checks.check(name, all_sizes(land_sizes));
-    for (count, (kind, _)) in kinds.iter().zip(&spares::KINDS) {
-        checks.check(&format!("sheets with {kind} are met"), *count > 0);
-    }
+    met.check(checks);
 }
 
 /// Every wrong program is noticed, and one that is wrong in its meaning is also found by search.
 fn check_wrong(checks: &mut Checks) {
-    let meaning = || wrong::MEANING.iter().chain(&wrong_spares::MEANING);
+    let lines_and_spares = || wrong::MEANING.iter().chain(&wrong_spares::MEANING);
+    let meaning = || lines_and_spares().chain(&wrong_last::MEANING);
     let others = wrong::READING.iter().chain(&wrong_spares::OTHERS);
+    let others = others.chain(&wrong_last::OTHERS);
     for (name, wrong) in meaning().chain(others) {
         let noticed = (0..SELF_COMPARED).any(|number| noticed(wrong, number));
         checks.check(&format!("noticed: {name}"), noticed);
@@ -249,6 +234,8 @@ struct Tally {
     listed: u64,
     /// Good sheets with land lines, and with an entry in them.
     land: [u64; 2],
+    /// Good sheets with a last line.
+    last: u64,
     /// Good sheets by the number of their spare triggers.
     spares: [u64; 6],
     too_small: u64,
@@ -264,7 +251,13 @@ struct Tally {
 fn run(seconds: f64, seed: u64) -> ExitCode {
     let end = Instant::now() + Duration::from_secs_f64(seconds.clamp(0.0, 1e6));
     let mut tally = Tally::default();
-    let named = [cases::sheets(), land::sheets(), spares::sheets()].concat();
+    let named = [
+        cases::sheets(),
+        land::sheets(),
+        spares::sheets(),
+        last::sheets(),
+    ];
+    let named = named.concat();
     for (number, sheet) in named.into_iter().enumerate() {
         tally.sheet(&sheet, &mut Random::new(seed, number as u64));
     }
@@ -329,6 +322,7 @@ impl Tally {
         self.listed += u64::from(seen.listed);
         self.land[0] += u64::from(seen.land_lines);
         self.land[1] += u64::from(seen.land_rules);
+        self.last += u64::from(seen.last_line);
         self.too_small += seen.too_small;
         let sums = self.tests.iter_mut().chain(&mut self.latest);
         for (sum, count) in sums.zip(seen.tests.into_iter().chain(seen.latest)) {
@@ -353,8 +347,8 @@ impl Tally {
         let [lines, rules] = self.land;
         println!(
             "good {}, of these with the list compared {}, with land lines {lines}, \
-             with land rules {rules}",
-            self.codes[0], self.listed
+             with land rules {rules}, with a last line {}",
+            self.codes[0], self.listed, self.last
         );
         println!(
             "good by the number of spare triggers, none first: {:?}",

@@ -1,5 +1,6 @@
 //! Document 01, word for word, in plain Rust: from a sheet's bytes to the answers; with document 02's
-//! No. 2, "Triggers that wait for a landing", and No. 4, "Spare triggers".
+//! No. 2, "Triggers that wait for a landing", No. 4, "Spare triggers", and No. 5, "Landings before the
+//! downbeat".
 //! Clarity before speed; it shares no code with the planner it is compared with.
 
 use std::collections::BTreeSet;
@@ -16,6 +17,8 @@ pub const LONGEST_TIME: i64 = 1_000_000_000;
 pub const PROGRAM_LINES: usize = 2_000;
 /// "In the lent space these are seven signed 32-bit words"
 pub const LINE_WORDS: usize = 7;
+/// No. 5: "In the lent space a line of such a sheet takes eight words, its cap the eighth."
+pub const CAPPED_WORDS: usize = 8;
 
 /// A number or absent. `None` is absent: `Option`'s own order puts it below every number.
 pub type Entry = Option<i64>;
@@ -30,6 +33,7 @@ pub type Refusal = u32;
 // ---------------------------------------------------------------- The sheet
 
 /// What a good sheet says.
+#[derive(Clone)]
 pub struct Sheet {
     pub panels: usize,
     pub triggers: usize,
@@ -38,9 +42,20 @@ pub struct Sheet {
     pub due: Vec<Entry>,
     pub after: Table,
     pub land: Table,
+    /// The last moments, each of them present, where the sheet has a last line.
+    pub last: Option<Vec<Entry>>,
 }
 
 impl Sheet {
+    /// How many words a line takes in the lent space.
+    pub fn line_words(&self) -> usize {
+        if self.last.is_some() {
+            CAPPED_WORDS
+        } else {
+            LINE_WORDS
+        }
+    }
+
     pub fn has_land_rules(&self) -> bool {
         !self.land.iter().all(|row| all_absent(row))
     }
@@ -76,9 +91,10 @@ pub fn read(bytes: &[u8]) -> Result<Sheet, Refusal> {
     let triggers = read_size(&mut rest, b"triggers=")?;
     let lag = read_rows(&mut rest, b"lag=", panels, triggers)?;
     let floor = read_entries(&mut rest, b"floor=", panels)?;
-    let due = read_due(&mut rest, triggers)?;
+    let due = read_present(&mut rest, b"due=", triggers)?;
     let after = read_rows(&mut rest, b"after=", triggers, triggers)?;
     let land = read_land(&mut rest, triggers, panels)?;
+    let last = read_last(&mut rest, panels)?;
     // "After the lines: bytes left over are 2; then 6: a panel with no lag; then 7: no floor at all."
     if !rest.is_empty() {
         return Err(2);
@@ -97,6 +113,7 @@ pub fn read(bytes: &[u8]) -> Result<Sheet, Refusal> {
         due,
         after,
         land,
+        last,
     })
 }
 
@@ -129,6 +146,14 @@ fn read_land(rest: &mut &[u8], triggers: usize, panels: usize) -> Result<Table, 
     }
 }
 
+/// No. 5: "A sheet may end with a line `last=` of m present numbers, after any land lines; an absent one
+/// is 5."
+fn read_last(rest: &mut &[u8], panels: usize) -> Result<Option<Vec<Entry>>, Refusal> {
+    let key = b"last=";
+    let given = rest.starts_with(key);
+    given.then(|| read_present(rest, key, panels)).transpose()
+}
+
 /// "4: an entry out of range", once the whole line is free of 2.
 fn read_entries(rest: &mut &[u8], key: &[u8], items: usize) -> Result<Vec<Entry>, Refusal> {
     let entries = read_line(rest, key, items)?;
@@ -138,9 +163,9 @@ fn read_entries(rest: &mut &[u8], key: &[u8], items: usize) -> Result<Vec<Entry>
     Ok(entries)
 }
 
-/// "5: an absent due mark", once the whole line is free of 2 and 4.
-fn read_due(rest: &mut &[u8], items: usize) -> Result<Vec<Entry>, Refusal> {
-    let entries = read_entries(rest, b"due=", items)?;
+/// "5: an absent due mark", or last moment, once the whole line is free of 2 and 4.
+fn read_present(rest: &mut &[u8], key: &[u8], items: usize) -> Result<Vec<Entry>, Refusal> {
+    let entries = read_entries(rest, key, items)?;
     if entries.iter().any(Option::is_none) {
         return Err(5);
     }
@@ -469,6 +494,37 @@ pub fn list(candidates: &[Line]) -> Vec<Line> {
         .collect()
 }
 
+// ---------------------------------------------------------------- No. 5: the caps
+
+/// A line with a weight added to each component.
+fn weighted(line: &Line, weight: i64) -> Line {
+    line.map(|component| plus(component, Some(weight)))
+}
+
+/// "the largest weight for which no landing of that line is later than allowed", found by trying weights;
+/// none without a last line. "Every line reaches some panel, so a cap always exists."
+pub fn cap(sheet: &Sheet, line: &Line) -> Option<i64> {
+    sheet.last.as_ref()?;
+    let allowed = |weight| in_time(sheet, &weighted(line, weight)[..sheet.triggers]);
+    Some(largest_allowed(allowed).expect("every line reaches some panel"))
+}
+
+/// The largest number that is allowed, where every number below an allowed one is; none if there is no
+/// largest.
+pub fn largest_allowed(allowed: impl Fn(i64) -> bool) -> Option<i64> {
+    // Beyond every sum of a sheet's entries and tested times.
+    const FAR: i64 = 1 << 40;
+    let (mut yes, mut no) = (-FAR, FAR);
+    if !allowed(yes) || allowed(no) {
+        return None;
+    }
+    while yes + 1 < no {
+        let between = (yes + no) / 2;
+        *(if allowed(between) { &mut yes } else { &mut no }) = between;
+    }
+    Some(yes)
+}
+
 // ---------------------------------------------------------------- The operations
 
 /// "Kept table and walk": what it gives, and what planning goes on from.
@@ -509,7 +565,7 @@ impl Survey {
 }
 
 /// "A success returns Δ, steps, selections and count"; with No. 4 it also tells the spare triggers, which
-/// in the lent space look like any absent component.
+/// in the lent space look like any absent component, and with No. 5 how many words a line takes.
 #[derive(Clone, Copy, Debug, PartialEq, Eq)]
 pub struct Plan {
     pub deviation: i64,
@@ -518,14 +574,18 @@ pub struct Plan {
     pub count: usize,
     /// Bit 0 for trigger 1.
     pub spares: u8,
+    pub line_words: usize,
 }
 
 /// "A refusal returns its number and no other result but 9's count."
 #[derive(Clone, Copy, Debug, PartialEq, Eq)]
 pub enum NoPlan {
     Refused(Refusal),
-    /// 9, with "the count needed".
-    SpaceTooSmall(usize),
+    /// 9, with "the count needed", and how many words each of these lines takes.
+    SpaceTooSmall {
+        count: usize,
+        line_words: usize,
+    },
 }
 
 /// "Planning".
@@ -537,39 +597,43 @@ pub fn plan(sheet: &[u8], space: &mut [i32]) -> Result<Plan, NoPlan> {
 /// The end of planning, once the list is known: "writes exactly the list at the front of the space
 /// and leaves the rest"; 9 changes no lent word; "words too few for a line hold none".
 pub fn finish_plan(survey: &Survey, lines: &[Line], space: &mut [i32]) -> Result<Plan, NoPlan> {
-    if lines.len() > space.len() / LINE_WORDS {
-        return Err(NoPlan::SpaceTooSmall(lines.len()));
+    let sheet = &survey.tables.sheet;
+    let (count, line_words) = (lines.len(), sheet.line_words());
+    if count > space.len() / line_words {
+        return Err(NoPlan::SpaceTooSmall { count, line_words });
     }
-    for (line, words) in lines.iter().zip(space.chunks_exact_mut(LINE_WORDS)) {
-        words.copy_from_slice(&line_words(survey.tables.sheet.triggers, line));
+    for (line, words) in lines.iter().zip(space.chunks_exact_mut(line_words)) {
+        words.copy_from_slice(&words_of(sheet, line));
     }
     Ok(Plan {
         deviation: survey.deviation(),
         steps: survey.walk.steps,
         selections: survey.selections(),
-        count: lines.len(),
-        spares: survey.tables.sheet.spares(),
+        count,
+        spares: sheet.spares(),
+        line_words,
     })
 }
 
 /// "a line carries its count of triggers and its six components", "absent being the least such
-/// number"
-fn line_words(triggers: usize, line: &Line) -> [i32; LINE_WORDS] {
-    let word = |entry: Entry| match entry {
-        Some(v) => i32::try_from(v).expect("all finite results fit signed 32 bits"),
-        None => i32::MIN,
-    };
-    let mut words = [triggers as i32; LINE_WORDS];
-    for (at, entry) in line.iter().enumerate() {
-        words[at + 1] = word(*entry);
-    }
-    words
+/// number"; "its cap the eighth".
+fn words_of(sheet: &Sheet, line: &Line) -> Vec<i32> {
+    let word = |v: i64| i32::try_from(v).expect("all finite results fit signed 32 bits");
+    let components = line.iter().map(|entry| entry.map_or(i32::MIN, word));
+    let cap = cap(sheet, line).map(word);
+    let count = sheet.triggers as i32;
+    std::iter::once(count)
+        .chain(components)
+        .chain(cap)
+        .collect()
 }
 
 /// How two lists stand to one another; "Two lists are the same when their counts are equal and, at each
 /// place, both lines carry the same count of triggers and the same six components". By demand 3 they
 /// are "exactly when every timing is tightest on both or on neither", which needs equal numbers of
-/// triggers, and "Two sheets may be compared for equal lists only where the same triggers are spare".
+/// triggers, and "Two sheets may be compared for equal lists only where the same triggers are spare". No. 5:
+/// "demand 3 compares lists with their caps left out and timings with the last moments left out, also
+/// between a sheet with a last line and one without".
 #[derive(Clone, Copy, Debug, PartialEq, Eq)]
 pub enum Likeness {
     Same,
@@ -603,12 +667,18 @@ pub fn same(
     // A list is never empty, and each of its lines begins with the sheet's number of triggers.
     let likeness = if one[0] != other[0] || p.spares != q.spares {
         Likeness::Unlike
-    } else if one[..LINE_WORDS * p.count] == other[..LINE_WORDS * q.count] {
+    } else if without_caps(&one, &p).eq(without_caps(&other, &q)) {
         Likeness::Same
     } else {
         Likeness::Different
     };
     Ok((likeness, [p.count, q.count]))
+}
+
+/// The first seven words of each line in a space.
+fn without_caps<'a>(space: &'a [i32], plan: &Plan) -> impl Iterator<Item = &'a [i32]> {
+    let lines = space.chunks_exact(plan.line_words).take(plan.count);
+    lines.map(|words| &words[..LINE_WORDS])
 }
 
 /// "Reading's, then 10: not n components; 11: one beyond ±1,000,000,000; then 8."
@@ -627,19 +697,22 @@ pub fn admitted(sheet: &[u8], times: &[i64]) -> Result<Tables, Refusal> {
 }
 
 /// "Testing a timing": the refusals above. "Otherwise yes exactly when the timing is tightest, else no."
+/// No. 5: "testing and No. 1 include" the last moments.
 pub fn test(sheet: &[u8], times: &[i64]) -> Result<bool, Refusal> {
-    let tables = admitted(sheet, times)?;
-    Ok(keeps_order(&tables.sheet, times) && deviation(&tables.sheet, times) == tables.deviation)
+    let Tables {
+        sheet,
+        deviation: least,
+        ..
+    } = admitted(sheet, times)?;
+    let x: Vec<Entry> = times.iter().copied().map(Some).collect();
+    Ok(keeps_order(&sheet, &x) && deviation(&sheet, &x) == Some(least) && in_time(&sheet, &x))
 }
 
 /// "A timing keeps the order when it keeps every after rule": x(i) ≥ b(i,j) + x(j); by No. 2 it also
 /// keeps every land rule: x(i) ≥ c(i,j) + y(j).
-fn keeps_order(sheet: &Sheet, times: &[i64]) -> bool {
-    let x: Vec<Entry> = times.iter().copied().map(Some).collect();
-    let y: Vec<Entry> = (0..sheet.panels)
-        .map(|i| landing(sheet, times, i))
-        .collect();
-    rules_kept(&sheet.after, &x, &x) && rules_kept(&sheet.land, &x, &y)
+fn keeps_order(sheet: &Sheet, x: &[Entry]) -> bool {
+    let y: Vec<Entry> = (0..sheet.panels).map(|i| landing(sheet, x, i)).collect();
+    rules_kept(&sheet.after, x, x) && rules_kept(&sheet.land, x, &y)
 }
 
 /// Every rule of a table: each time of x is at least a rule of its row plus the time that it waits for.
@@ -653,34 +726,40 @@ fn rules_kept(rules: &Table, x: &[Entry], waited_for: &[Entry]) -> bool {
 
 /// "Deviation is the largest x(j) − q(j) plus the largest p(i) − y(i) over panels with a floor." By
 /// No. 4 "The largest x(j) − q(j) is taken over triggers that are not spare."
-fn deviation(sheet: &Sheet, x: &[i64]) -> i64 {
-    let late = largest(sheet.in_use().map(|j| Some(x[j] - sheet.due[j]?)));
+fn deviation(sheet: &Sheet, x: &[Entry]) -> Entry {
+    let late = largest(sheet.in_use().map(|j| Some(x[j]? - sheet.due[j]?)));
     let short = largest((0..sheet.panels).map(|i| Some(sheet.floor[i]? - landing(sheet, x, i)?)));
-    late.zip(short)
-        .map(|(late, short)| late + short)
-        .expect("a due and a floor are present")
+    plus(late, short)
+}
+
+/// No. 5: whether times, or a line with a weight, meet "every last moment", if the sheet has any. An absent
+/// landing is below every moment.
+fn in_time(sheet: &Sheet, x: &[Entry]) -> bool {
+    let meets = |last: &Vec<Entry>| (0..sheet.panels).all(|i| landing(sheet, x, i) <= last[i]);
+    sheet.last.iter().all(meets)
 }
 
 /// "Landing y(i) is the largest a(i,j) + x(j)."
-fn landing(sheet: &Sheet, x: &[i64], i: usize) -> Entry {
-    largest((0..x.len()).map(|j| plus(sheet.lag[i][j], Some(x[j]))))
+fn landing(sheet: &Sheet, x: &[Entry], i: usize) -> Entry {
+    largest((0..x.len()).map(|j| plus(sheet.lag[i][j], x[j])))
 }
 
 // ------------------------------------------------------------ What the programs write
 
 /// The planning program's text for a sheet.
 pub fn plan_text(sheet: &[u8]) -> String {
-    let mut space = vec![0; PROGRAM_LINES * LINE_WORDS];
+    let line_words = read(sheet).map_or(LINE_WORDS, |sheet| sheet.line_words());
+    let mut space = vec![0; PROGRAM_LINES * line_words];
     plan_answer_text(&plan(sheet, &mut space), &space)
 }
 
 /// "The fields are Δ, the walk's fixings, its selections, the number of lines, then each line,
 /// trigger 1 first. A refusal is written `refused=` and its number, LF." No. 4: "a spare component is
-/// written `s` in every line".
+/// written `s` in every line"; No. 5: "Each line of the plan then gains its own following line `cap=`".
 pub fn plan_answer_text(answer: &Result<Plan, NoPlan>, space: &[i32]) -> String {
     match answer {
         Ok(plan) => {
-            let lines = space.chunks_exact(LINE_WORDS).take(plan.count);
+            let lines = space.chunks_exact(plan.line_words).take(plan.count);
             let lines: String = lines.map(|words| line_text(words, plan.spares)).collect();
             format!(
                 "deviation={}\nsteps={}\nselections={}\ncount={}\n{lines}",
@@ -688,7 +767,7 @@ pub fn plan_answer_text(answer: &Result<Plan, NoPlan>, space: &[i32]) -> String 
             )
         }
         Err(NoPlan::Refused(number)) => format!("refused={number}\n"),
-        Err(NoPlan::SpaceTooSmall(count)) => format!("refused=9\ncount={count}\n"),
+        Err(NoPlan::SpaceTooSmall { count, .. }) => format!("refused=9\ncount={count}\n"),
     }
 }
 
@@ -700,7 +779,8 @@ fn line_text(words: &[i32], spares: u8) -> String {
     };
     let components = words[1..=words[0] as usize].iter().enumerate();
     let shown: Vec<String> = components.map(component).collect();
-    format!("line={}\n", shown.join(","))
+    let cap = words.get(LINE_WORDS).map(|cap| format!("cap={cap}\n"));
+    format!("line={}\n{}", shown.join(","), cap.unwrap_or_default())
 }
 
 /// The kept program's text for a sheet.

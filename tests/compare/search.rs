@@ -1,6 +1,6 @@
 //! The meaning of a plan, checked by search on small sheets: document 01's definitions of landing,
-//! deviation, order and tightest, with document 02's land rules and spare triggers, over every timing of
-//! a window, and none of its method.
+//! deviation, order and tightest, with document 02's land rules, spare triggers and last moments, over
+//! every timing of a window, and none of its method.
 //!
 //! Why a window is enough. Moving all times together changes neither order nor deviation, so x(1)
 //! is 0. What is asked is always whether some timing fulfils one of finitely many systems of rules
@@ -22,7 +22,16 @@
 //! - The latest tightest timing below a given one fulfils one of the systems for Δ, and each of its
 //!   components is a given one, at the end of a path of its rules: they differ by at most as much as
 //!   the given ones and the n − 1 rules. A spare one is the given one itself.
+//!
+//! Last moments are about the times themselves: a timing is looked at where it is moved, as a whole, to
+//! the last place that is in time, and one further. Every earlier place is in time too, and is a
+//! combination within the caps too. The rules are now also such between a time and the clock:
+//! x(k) ≤ last(i) − a(i,k), and x(j) ≤ cap + line(j) where a line has no greater weight. A path goes by
+//! the clock once, from one of them to another, and adds no more than they differ, and 1 for a broken
+//! one. For the latest timing the last moments stand beside the given times.
 
+use crate::last::weight_about;
+use crate::reference::largest_allowed;
 use crate::sheets::{Draft, Random, Table};
 
 /// The window's search goes up to three triggers.
@@ -30,12 +39,18 @@ pub const TRIGGERS: usize = 3;
 
 /// A timing of up to three triggers; unused times are 0.
 type Timing = [i64; TRIGGERS];
+type Lines = [Vec<Option<i64>>];
 
 /// A plan as the search sees it. Components of a line: one for each trigger, absent for a spare one.
 pub struct Found {
     pub deviation: i64,
     pub lines: Vec<Vec<Option<i64>>>,
+    /// The cap of each line, where the sheet has a last line.
+    pub caps: Option<Vec<i64>>,
 }
+
+/// Caps of small sheets, whose entries are within ±50, lie within ± this.
+const WEIGHTS: i64 = 4_000;
 
 /// Every timing with x(1) = 0 and the others within ± `window`.
 fn timings(n: usize, window: i64) -> impl Iterator<Item = Timing> {
@@ -107,6 +122,30 @@ fn is_tightest(draft: &Draft, least: i64, x: &[i64]) -> bool {
     keeps_order(draft, x) && deviation(draft, x) == least
 }
 
+/// "meets every last moment": no landing is later than allowed, where there is a last line.
+fn in_time(draft: &Draft, x: &[i64]) -> bool {
+    let meets = |last: &Vec<i64>| (0..draft.panels()).all(|i| landing(draft, x, i) <= last[i]);
+    draft.last.iter().all(meets)
+}
+
+/// Whether "no landing of that line is later than allowed" with a weight. A panel that the line does not
+/// reach has no landing.
+fn line_in_time(draft: &Draft, line: &[Option<i64>], weight: i64) -> bool {
+    let lands = |lags: &Vec<Option<i64>>| {
+        let reached = lags
+            .iter()
+            .zip(line)
+            .filter_map(|(a, c)| Some((*a)? + (*c)?));
+        reached.max().map(|lands| weight + lands)
+    };
+    let landings = || draft.lag.iter().map(lands);
+    let moments = draft.last.iter();
+    moments
+        .flatten()
+        .zip(landings())
+        .all(|(last, lands)| lands <= Some(*last))
+}
+
 fn largest_entry(draft: &Draft) -> i64 {
     let land = draft.land.iter().flatten();
     let tables = draft.lag.iter().chain(&draft.after).chain(land).flatten();
@@ -115,8 +154,8 @@ fn largest_entry(draft: &Draft) -> i64 {
     entries.map(|v| v.abs()).max().expect("there is a floor")
 }
 
-/// Half the window for a sheet and its lines, by the bounds above.
-fn window(draft: &Draft, lines: &[Vec<Option<i64>>]) -> i64 {
+/// Half the window for a sheet and its lines, by the bounds above, last moments left out.
+fn window(draft: &Draft, lines: &Lines) -> i64 {
     let n = draft.triggers() as i64;
     let entry = largest_entry(draft);
     let order = if draft.land.is_some() { 2 } else { 1 } * entry;
@@ -125,18 +164,40 @@ fn window(draft: &Draft, lines: &[Vec<Option<i64>>]) -> i64 {
     (n - 1) * (rule + 1)
 }
 
-/// Whether `x` is the combination of all lines with present weights: "Every statement on combinations …
-/// is about the components that are not spare". The largest weights that fit are present, for a line has
-/// a present component and `x` has no absent one.
-fn is_combination(draft: &Draft, lines: &[Vec<Option<i64>>], x: &[i64]) -> bool {
+/// The last time of each trigger for each panel that it reaches, by the last moments.
+fn last_times(draft: &Draft) -> impl Iterator<Item = i64> {
+    let moments = draft.last.iter().flatten().zip(&draft.lag);
+    moments.flat_map(|(last, lags)| lags.iter().flatten().map(move |a| last - a))
+}
+
+/// What the rules by the clock add to the window.
+fn clock(draft: &Draft, found: &Found) -> i64 {
+    if draft.last.is_none() {
+        return 0;
+    }
+    let capped = found.lines.iter().zip(found.caps.iter().flatten());
+    let within_caps = capped.flat_map(|(line, cap)| line.iter().flatten().map(move |c| cap + c));
+    apart(last_times(draft).chain(within_caps)) + 1
+}
+
+/// How far some numbers are apart.
+fn apart(numbers: impl Iterator<Item = i64>) -> i64 {
+    let ends = numbers.fold(None, |ends, number| match ends {
+        None => Some((number, number)),
+        Some((least, most)) => Some((number.min(least), number.max(most))),
+    });
+    ends.map_or(0, |(least, most)| most - least)
+}
+
+/// Whether `x` is the combination of all lines with present weights, none greater than its cap if caps are
+/// given: "Every statement on combinations … is about the components that are not spare". The largest
+/// weights that fit are present, for a line has a present component and `x` has no absent one.
+fn is_combination(draft: &Draft, lines: &Lines, caps: Option<&Vec<i64>>, x: &[i64]) -> bool {
     let mut combined: Timing = [i64::MIN; TRIGGERS];
-    for line in lines {
-        let room = line
-            .iter()
-            .zip(x)
-            .filter_map(|(c, x)| c.map(|c| x - c))
-            .min();
-        let Some(weight) = room else { return false };
+    for (at, line) in lines.iter().enumerate() {
+        let room = line.iter().zip(x).filter_map(|(c, x)| c.map(|c| x - c));
+        let Some(room) = room.min() else { return false };
+        let weight = caps.map_or(room, |caps| room.min(caps[at]));
         join(&mut combined, line, weight);
     }
     in_use(draft).all(|j| combined[j] == x[j])
@@ -151,11 +212,26 @@ fn join(combined: &mut Timing, line: &[Option<i64>], weight: i64) {
     }
 }
 
-/// A combination of all lines with random present weights, and any numbers at the spare places.
-fn random_combination(draft: &Draft, found: &Found, random: &mut Random, reach: i64) -> Timing {
+/// Random weights for all lines, about their caps where they have some.
+fn random_weights(found: &Found, random: &mut Random, reach: i64) -> Vec<i64> {
+    let mut weight = |at: usize| match &found.caps {
+        Some(caps) => weight_about(caps[at], reach, random),
+        None => random.between(-reach, reach),
+    };
+    (0..found.lines.len()).map(&mut weight).collect()
+}
+
+/// The combination of all lines with some weights, and any numbers at the spare places.
+fn combination(
+    draft: &Draft,
+    found: &Found,
+    weights: &[i64],
+    random: &mut Random,
+    reach: i64,
+) -> Timing {
     let mut combined = [i64::MIN; TRIGGERS];
-    for line in &found.lines {
-        join(&mut combined, line, random.between(-reach, reach));
+    for (line, weight) in found.lines.iter().zip(weights) {
+        join(&mut combined, line, *weight);
     }
     for (j, spare) in draft.spares().into_iter().enumerate() {
         if spare {
@@ -165,13 +241,13 @@ fn random_combination(draft: &Draft, found: &Found, random: &mut Random, reach: 
     combined
 }
 
-/// Holds a plan (or its refusal) against the search. `says_tightest` is the test operation.
+/// Holds a plan (or its refusal) against the search. `says_yes` is the test operation: tightest and in time.
 /// Gives the number of timings looked at.
 pub fn check(
     draft: &Draft,
     plan: &Result<Found, u32>,
     random: &mut Random,
-    says_tightest: impl Fn(&[i64]) -> bool,
+    says_yes: impl Fn(&[i64]) -> bool,
 ) -> Result<u64, String> {
     let n = draft.triggers();
     let lines = plan.as_ref().map_or(&[][..], |found| &found.lines);
@@ -191,9 +267,26 @@ pub fn check(
             ));
         }
     };
-    let looked = check_window(draft, found, random, window, &says_tightest)?;
-    check_combinations(draft, found, random, window, &says_tightest)?;
+    check_caps(draft, found)?;
+    let window = window + clock(draft, found);
+    let looked = check_window(draft, found, random, window, &says_yes)?;
+    check_combinations(draft, found, random, window, &says_yes)?;
     Ok(looked)
+}
+
+/// Each cap is "the largest weight for which no landing of that line is later than allowed", found by trying
+/// one after the other.
+fn check_caps(draft: &Draft, found: &Found) -> Result<(), String> {
+    for (line, cap) in found.lines.iter().zip(found.caps.iter().flatten()) {
+        let allowed = |weight: &i64| line_in_time(draft, line, *weight);
+        let largest = (-WEIGHTS..=WEIGHTS).take_while(allowed).last();
+        if largest != Some(*cap) || largest == Some(WEIGHTS) {
+            return Err(format!(
+                "line {line:?}: cap by search {largest:?}, by plan {cap}"
+            ));
+        }
+    }
+    Ok(())
 }
 
 /// In the window a timing is tightest exactly when it is a combination of all lines.
@@ -202,69 +295,104 @@ fn check_window(
     found: &Found,
     random: &mut Random,
     window: i64,
-    says_tightest: &impl Fn(&[i64]) -> bool,
+    says_yes: &impl Fn(&[i64]) -> bool,
 ) -> Result<u64, String> {
     let n = draft.triggers();
     let mut looked = 0;
     for x in timings(n, window) {
         let x = &x[..n];
         let tightest = is_tightest(draft, found.deviation, x);
-        if tightest != is_combination(draft, &found.lines, x) {
+        if tightest != is_combination(draft, &found.lines, None, x) {
             return Err(format!(
                 "times {x:?}: tightest {tightest}, combination {}",
                 !tightest
             ));
         }
         // The test operation is asked for one timing in 64.
-        if random.below(64) == 0 && says_tightest(x) != tightest {
-            return Err(format!(
-                "times {x:?}: tightest {tightest}, tested {}",
-                !tightest
-            ));
+        let asked = random.below(64) == 0;
+        let yes = tightest && in_time(draft, x);
+        if asked && says_yes(x) != yes {
+            return Err(format!("times {x:?}: by search {yes}, tested {}", !yes));
+        }
+        if tightest && draft.last.is_some() {
+            check_moved(draft, found, x, asked.then_some(says_yes))?;
         }
         looked += 1;
     }
     Ok(looked)
 }
 
-/// Random weights give tightest timings.
+/// A tightest timing is moved as late as the last moments let it, and 1 later: the first is a combination
+/// with weights no greater than the caps, and the second is none.
+fn check_moved(
+    draft: &Draft,
+    found: &Found,
+    x: &[i64],
+    asked: Option<&impl Fn(&[i64]) -> bool>,
+) -> Result<(), String> {
+    let moved = |by: i64| -> Vec<i64> { x.iter().map(|x| x + by).collect() };
+    let latest = largest_allowed(|by| in_time(draft, &moved(by))).expect("panels have lags");
+    for (x, yes) in [(moved(latest), true), (moved(latest + 1), false)] {
+        if is_combination(draft, &found.lines, found.caps.as_ref(), &x) != yes {
+            return Err(format!("times {x:?}: in time {yes}, by the caps {}", !yes));
+        }
+        if asked.is_some_and(|says_yes| says_yes(&x) != yes) {
+            return Err(format!("times {x:?}: in time {yes}, tested {}", !yes));
+        }
+    }
+    Ok(())
+}
+
+/// Random weights give tightest timings, which are in time as long as no weight is greater than its cap.
 fn check_combinations(
     draft: &Draft,
     found: &Found,
     random: &mut Random,
     window: i64,
-    says_tightest: &impl Fn(&[i64]) -> bool,
+    says_yes: &impl Fn(&[i64]) -> bool,
 ) -> Result<(), String> {
     let n = draft.triggers();
+    let reach = 2 * window + 1;
     for _ in 0..16 {
-        let x = random_combination(draft, found, random, 2 * window + 1);
+        let weights = random_weights(found, random, reach);
+        let x = combination(draft, found, &weights, random, reach);
         let x = &x[..n];
         if x.contains(&i64::MIN) {
             return Err("a trigger is absent in every line".to_string());
         }
-        if !is_tightest(draft, found.deviation, x) || !says_tightest(x) {
+        if !is_tightest(draft, found.deviation, x) {
             return Err(format!("times {x:?} are a combination and not tightest"));
+        }
+        let caps = found.caps.iter().flatten();
+        let yes = caps.zip(&weights).all(|(cap, weight)| weight <= cap);
+        if in_time(draft, x) != yes || says_yes(x) != yes {
+            return Err(format!("times {x:?}: by weights and caps {yes}"));
         }
     }
     Ok(())
 }
 
 /// Document 02, No. 1: of the tightest timings "none of whose components exceeds the given one" the
-/// one that is "at least as late, component by component, as every other". "One always exists."
+/// one that is "at least as late, component by component, as every other"; all of them in time, by No. 5.
+/// "One always exists."
 pub fn latest(draft: &Draft, found: &Found, given: &[i64]) -> Result<Vec<i64>, String> {
     let n = draft.triggers();
-    let apart = given.iter().max().expect("there is a trigger") - given.iter().min().unwrap();
+    let apart = apart(last_times(draft).chain(given.iter().copied()));
     let mut latest = [i64::MIN; TRIGGERS];
     for x in timings(n, window(draft, &found.lines) + apart) {
         if is_tightest(draft, found.deviation, &x[..n]) {
-            // Moved as late as the given times let it.
-            let by = given.iter().zip(x).map(|(g, x)| g - x).min();
+            // Moved as late as the given times and the last moments let it.
+            let by = largest_allowed(|by| {
+                let moved = x.map(|x| x + by);
+                let exceeds = given.iter().zip(moved).any(|(g, x)| x > *g);
+                !exceeds && in_time(draft, &moved[..n])
+            });
             let by = by.expect("there is a trigger");
             (0..n).for_each(|j| latest[j] = latest[j].max(x[j] + by));
         }
     }
     let latest = latest[..n].to_vec();
-    if !is_tightest(draft, found.deviation, &latest) {
+    if !is_tightest(draft, found.deviation, &latest) || !in_time(draft, &latest) {
         return Err(format!("given {given:?}, no timing is the latest"));
     }
     // No. 4: a tested timing "may hold any permitted number there, and No. 1 hands that number back".
@@ -274,8 +402,9 @@ pub fn latest(draft: &Draft, found: &Found, given: &[i64]) -> Result<Vec<i64>, S
     Ok(latest)
 }
 
-/// Demand 3, where the same triggers are spare: the lists are the same exactly when every timing is
-/// tightest on both sheets or on neither. Both plans were checked before. Gives whether every timing is.
+/// Demand 3, where the same triggers are spare: the lists, caps left out, are the same exactly when every
+/// timing is tightest on both sheets or on neither, last moments left out. Both plans were checked before.
+/// Gives whether every timing is.
 pub fn check_pair(one: (&Draft, &Found), other: (&Draft, &Found)) -> Result<bool, String> {
     let n = one.0.triggers();
     let window = window(one.0, &one.1.lines).max(window(other.0, &other.1.lines));

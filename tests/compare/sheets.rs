@@ -52,6 +52,8 @@ pub struct Draft {
     pub after: Table,
     /// The land lines, where it has some.
     pub land: Option<Table>,
+    /// The last moments, where it has a last line.
+    pub last: Option<Vec<i64>>,
 }
 
 impl Draft {
@@ -66,15 +68,16 @@ impl Draft {
     /// The sheet's bytes.
     pub fn write(&self) -> Vec<u8> {
         let mut text = format!("panels={}\ntriggers={}\n", self.panels(), self.triggers());
-        let due: Vec<Option<i64>> = self.due.iter().copied().map(Some).collect();
         self.lag.iter().for_each(|row| text += &written("lag", row));
         text += &written("floor", &self.floor);
-        text += &written("due", &due);
+        text += &written("due", &all_present(&self.due));
         self.after
             .iter()
             .for_each(|row| text += &written("after", row));
         let land = self.land.iter().flatten();
         land.for_each(|row| text += &written("land", row));
+        let last = self.last.iter();
+        last.for_each(|last| text += &written("last", &all_present(last)));
         text.into_bytes()
     }
 
@@ -109,6 +112,10 @@ impl Draft {
         }
         order
     }
+}
+
+fn all_present(numbers: &[i64]) -> Vec<Option<i64>> {
+    numbers.iter().copied().map(Some).collect()
 }
 
 fn written(key: &str, entries: &[Option<i64>]) -> String {
@@ -156,6 +163,7 @@ impl Manner {
             due: (0..n).map(|_| self.number(random)).collect(),
             after: (0..n).map(|_| self.row(random, n, self.no_after)).collect(),
             land: None,
+            last: None,
         }
     }
 }
@@ -180,8 +188,10 @@ pub fn tiny(random: &mut Random) -> Draft {
         circle(random, &mut draft, 1);
     }
     mend(random, &mut draft, manner.size);
+    side_panel(random, &mut draft);
     land(random, &mut draft, manner.size);
     idle(random, &mut draft);
+    last(random, &mut draft, 3 * manner.size);
     draft
 }
 
@@ -205,8 +215,10 @@ pub fn any_size(random: &mut Random) -> Draft {
     if random.chance(97) {
         mend(random, &mut draft, size);
     }
+    side_panel(random, &mut draft);
     land(random, &mut draft, (3 * size).min(100_000));
     idle(random, &mut draft);
+    last(random, &mut draft, (3 * size).min(100_000));
     draft
 }
 
@@ -236,6 +248,10 @@ pub fn at_limits(random: &mut Random) -> Draft {
         draft.land = Some((0..n).map(|_| manner.row(random, m, 80)).collect());
     }
     idle(random, &mut draft);
+    last(random, &mut draft, 100_000);
+    if random.chance(20) {
+        draft.last = Some((0..m).map(|_| manner.number(random)).collect());
+    }
     draft
 }
 
@@ -274,6 +290,7 @@ pub fn nearly_tied(random: &mut Random) -> Draft {
         due: marks.iter().map(|v| v + random.between(0, noise)).collect(),
         after: vec![vec![None; n]; n],
         land: None,
+        last: None,
     };
     for i in 0..m {
         for j in 0..n {
@@ -285,8 +302,10 @@ pub fn nearly_tied(random: &mut Random) -> Draft {
     }
     order(random, &mut draft, 2);
     mend(random, &mut draft, 3);
+    side_panel(random, &mut draft);
     land(random, &mut draft, 40);
     idle(random, &mut draft);
+    last(random, &mut draft, 40);
     draft
 }
 
@@ -413,6 +432,20 @@ fn mend(random: &mut Random, draft: &mut Draft, size: i64) {
     }
 }
 
+/// Sometimes a panel without a floor that a single trigger reaches: few lines have a landing there.
+fn side_panel(random: &mut Random, draft: &mut Draft) {
+    let (panel, trigger) = (random.below(draft.panels()), random.below(draft.triggers()));
+    let mut floors = draft.floor.clone();
+    floors[panel] = None;
+    if random.chance(70) || floors.iter().all(Option::is_none) {
+        return;
+    }
+    draft.floor = floors;
+    let lag = draft.lag[panel][trigger].unwrap_or(0);
+    draft.lag[panel].fill(None);
+    draft.lag[panel][trigger] = Some(lag);
+}
+
 /// Sometimes triggers with nothing but a due mark, which are spare, and often one among them that a
 /// single entry keeps in use.
 fn idle(random: &mut Random, draft: &mut Draft) {
@@ -468,10 +501,44 @@ fn give_one(random: &mut Random, draft: &mut Draft, trigger: usize, other: usize
     }
 }
 
+/// In four sheets of nine a last line: one moment for all panels, moments within ±`size`, or such as the
+/// landings of some times just meet or miss. A panel without a floor may have an early one: it decides for
+/// the lines that reach it, and not for those that do not.
+fn last(random: &mut Random, draft: &mut Draft, size: i64) {
+    let m = draft.panels();
+    let mut last = match random.below(9) {
+        0..=4 => return draft.last = None,
+        5 => vec![random.between(-size, size); m],
+        6 => (0..m).map(|_| random.between(-size, size)).collect(),
+        _ => last_from_landings(random, draft, size),
+    };
+    for (moment, floor) in last.iter_mut().zip(&draft.floor) {
+        if floor.is_none() && random.chance(40) {
+            *moment = (*moment - size).max(-100_000);
+        }
+    }
+    draft.last = Some(last);
+}
+
+/// Moments about the landings of a timing, so that many panels come near to deciding; often some are so late
+/// that those left decide.
+fn last_from_landings(random: &mut Random, draft: &Draft, size: i64) -> Vec<i64> {
+    let x = timing_in_order(random, draft, (size / 4).max(1));
+    let about = random.between(0, size.min(3));
+    let late = *random.pick(&[0, 0, 30, 60]);
+    let moment = |lags: &Vec<Option<i64>>| {
+        let lands = largest_sum(lags, &x).unwrap_or(0);
+        let room = if random.chance(late) { size } else { 0 };
+        let moment = lands + room + random.between(-about, about);
+        moment.clamp(-100_000, 100_000)
+    };
+    draft.lag.iter().map(moment).collect()
+}
+
 // ------------------------------------------------------- Related sheets, for demand 3
 
 /// A draft related to another of the same triggers, and whether the same timings are known to be
-/// tightest on both; where it is not known they often are.
+/// tightest on both; where it is not known they often are. Last moments play no part in it.
 pub fn related(random: &mut Random, draft: &Draft) -> (Draft, bool) {
     let mut other = draft.clone();
     let known = random.chance(40);
@@ -483,6 +550,9 @@ pub fn related(random: &mut Random, draft: &Draft) -> (Draft, bool) {
         if random.chance(30) {
             idle(random, &mut other);
         }
+    }
+    if random.chance(20) {
+        last(random, &mut other, 9);
     }
     (other, known)
 }
@@ -497,7 +567,7 @@ fn keep_timings(random: &mut Random, draft: &mut Draft) {
     let by = *random.pick(&[-1, 1]);
     let move_floors = |draft: &mut Draft| draft.floor.iter_mut().for_each(|p| *p = moved(*p, by));
     let move_dues = |draft: &mut Draft| draft.due.iter_mut().for_each(|q| *q += by);
-    match random.below(15) {
+    match random.below(17) {
         0 => move_floors(draft),
         1 => move_dues(draft),
         2 => {
@@ -521,6 +591,8 @@ fn keep_timings(random: &mut Random, draft: &mut Draft) {
         9 | 10 => add_weaker_land_rule(random, draft),
         11 => land_written_out(draft),
         12 => draft.land = land_said_otherwise(draft),
+        13 => change_moment(random, draft, by),
+        14 => draft.last = last_or_none(random, draft),
         _ => change_spare_dues(random, draft),
     }
 }
@@ -534,10 +606,23 @@ fn change_spare_dues(random: &mut Random, draft: &mut Draft) {
     }
 }
 
-/// A panel that changes later, with its floor; who waits for it waits so much less.
+/// One last moment a little earlier or later, where there are any.
+fn change_moment(random: &mut Random, draft: &mut Draft, by: i64) {
+    let panel = random.below(draft.panels());
+    draft.last.iter_mut().for_each(|last| last[panel] += by);
+}
+
+/// A last line in the place of none; none in the place of one.
+fn last_or_none(random: &mut Random, draft: &Draft) -> Option<Vec<i64>> {
+    let none = draft.last.is_none();
+    none.then(|| last_from_landings(random, draft, 9))
+}
+
+/// A panel that changes later, with its floor and its last moment; who waits for it waits so much less.
 fn move_panel(draft: &mut Draft, panel: usize, by: i64) {
     draft.lag[panel].iter_mut().for_each(|a| *a = moved(*a, by));
     draft.floor[panel] = moved(draft.floor[panel], by);
+    draft.last.iter_mut().for_each(|last| last[panel] += by);
     for row in draft.land.iter_mut().flatten() {
         row[panel] = moved(row[panel], -by);
     }
@@ -546,15 +631,19 @@ fn move_panel(draft: &mut Draft, panel: usize, by: i64) {
 fn exchange_panels(draft: &mut Draft, one: usize, other: usize) {
     draft.lag.swap(one, other);
     draft.floor.swap(one, other);
+    draft.last.iter_mut().for_each(|last| last.swap(one, other));
     for row in draft.land.iter_mut().flatten() {
         row.swap(one, other);
     }
 }
 
-/// A panel once more, with a floor that asks no more; who waits for it may wait for the copy as well.
+/// A panel once more, with a floor that asks no more and another last moment; who waits for it may wait for
+/// the copy as well.
 fn copy_panel(random: &mut Random, draft: &mut Draft, panel: usize, floor: Option<i64>) {
     draft.lag.push(draft.lag[panel].clone());
     draft.floor.push(floor);
+    let last = draft.last.iter_mut();
+    last.for_each(|last| last.push(last[panel] + random.between(-1, 1)));
     for row in draft.land.iter_mut().flatten() {
         let rule = row[panel].filter(|_| random.chance(50));
         row.push(moved(rule, -random.between(0, 1)));
@@ -693,10 +782,13 @@ pub fn damaged(random: &mut Random, draft: &Draft) -> Vec<u8> {
     if random.chance(10) {
         without_lag_or_floor(random, &mut draft);
     }
-    // Such land lines are a fault by themselves, which any other would hide.
+    // Such lines are a fault by themselves, which any other would hide.
     if random.chance(15) {
         draft.land = Some(misshapen_land(random, &draft));
         return draft.write();
+    }
+    if random.chance(30) {
+        return with_faulty_last(random, draft);
     }
     let spare = (0..draft.triggers()).find(|&j| draft.is_spare(j));
     if let (Some(spare), true) = (spare, random.chance(20)) {
@@ -734,6 +826,36 @@ fn misshapen_land(random: &mut Random, draft: &Draft) -> Table {
     let shapes = [(few, m), (n + 1, m), (n, m - 1), (n, m + 1), (m, n)];
     let (rows, items) = *random.pick(&shapes);
     vec![vec![None; items]; rows]
+}
+
+/// A last line in a wrong place, before another one or before the land lines; or one with a wrong number of
+/// items, or with moments that are absent, out of range or no numbers.
+fn with_faulty_last(random: &mut Random, mut draft: Draft) -> Vec<u8> {
+    let (m, n) = (draft.panels(), draft.triggers());
+    let last = |items: &[&str]| format!("last={}\n", items.join(","));
+    let right = last(&vec!["0"; m]);
+    let no_rules = draft.no_land_rules();
+    let lines = match random.below(6) {
+        0 => right.repeat(2),
+        1 => {
+            let land = draft.land.take().unwrap_or(no_rules);
+            let land = land.iter().map(|row| written("land", row));
+            right + &land.collect::<String>()
+        }
+        2 => last(&vec!["0"; *random.pick(&[m - 1, m + 1, n])]),
+        _ => last(&faulty_moments(random, m)),
+    };
+    draft.last = None;
+    [draft.write(), lines.into_bytes()].concat()
+}
+
+fn faulty_moments(random: &mut Random, m: usize) -> Vec<&'static str> {
+    let mut items = vec!["0"; m];
+    for _ in 0..1 + random.below(3) {
+        let faults = ["-", "-", "100001", "-100001", "-0", "x"];
+        items[random.below(m)] = *random.pick(&faults);
+    }
+    items
 }
 
 /// A byte changed, removed, inserted or duplicated.
@@ -870,8 +992,9 @@ fn with_faulty_due(random: &mut Random, draft: &Draft, spare: usize) -> Vec<u8> 
     text.into_bytes()
 }
 
-/// What is put behind a sheet. To one of a single panel and trigger, land lines are no fault.
-const LEFT_OVER: [&[u8]; 9] = [
+/// What is put behind a sheet. To one of a single panel and trigger, such land lines are no fault, and to one
+/// of a single panel such a last line.
+const LEFT_OVER: [&[u8]; 13] = [
     b"\n",
     b"x",
     b"\0",
@@ -881,6 +1004,10 @@ const LEFT_OVER: [&[u8]; 9] = [
     b"land=",
     b"land",
     b"Land=-\n",
+    b"last=0\n",
+    b"last=",
+    b"last",
+    b"Last=0\n",
 ];
 
 /// Cut short, bytes left over, or near the limit of 2,048 bytes.

@@ -6,7 +6,7 @@ use crate::latest::{Reached, latest};
 use crate::reference::{self, Entry, LINE_WORDS, Likeness, Line, Plan, SIZE, Sheet, Survey, Table};
 
 /// Nothing is about trigger 2 but its due mark.
-const IDLE: &str = "panels=1\ntriggers=2\nlag=0,-\nfloor=0\ndue=0,-7\nafter=-,-\nafter=-,-\n";
+pub const IDLE: &str = "panels=1\ntriggers=2\nlag=0,-\nfloor=0\ndue=0,-7\nafter=-,-\nafter=-,-\n";
 const IDLE_TEXT: &str = "deviation=0\nsteps=1\nselections=1\ncount=1\nline=0,s\n";
 /// What is planned where trigger 2 is in use and held by its due mark alone.
 const HELD_TEXT: &str = "deviation=0\nsteps=1\nselections=1\ncount=2\nline=0,-\nline=0,-7\n";
@@ -160,6 +160,7 @@ fn word_cases(checks: &mut Checks) {
         selections: 1,
         count: 1,
         spares: 2,
+        line_words: LINE_WORDS,
     };
     let line = [2, 0, absent, absent, absent, absent, absent];
     let left = space[..LINE_WORDS] == line && space[LINE_WORDS..] == [77; 3];
@@ -213,10 +214,14 @@ fn latest_cases(checks: &mut Checks) {
     for (sheet, given, times) in cases {
         let found = latest(sheet.as_bytes(), given, &mut [0; 2 * LINE_WORDS]);
         let count = if sheet == IDLE { 1 } else { 2 };
-        let times = times.to_vec();
+        let wanted = Reached {
+            count,
+            line_words: LINE_WORDS,
+            times: times.to_vec(),
+        };
         checks.check(
             &format!("latest below {given:?} on {sheet:?}"),
-            found == Ok(Reached { count, times }),
+            found == Ok(wanted),
         );
     }
 }
@@ -344,6 +349,7 @@ fn of_triggers(sheet: &Sheet, places: &[usize]) -> Sheet {
         due: items(&sheet.due),
         after: rows(&sheet.after).iter().map(items).collect(),
         land: rows(&sheet.land),
+        last: sheet.last.clone(),
     }
 }
 

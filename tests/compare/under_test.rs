@@ -41,11 +41,11 @@ pub const NAME: &str = if cfg!(linked) {
 pub const UNTOUCHED: i64 = -7_777_777_777;
 
 /// 0 or the refusal, and the answer's words after the call: deviation, steps, selections, count, the
-/// byte of spare triggers and two words that stay.
+/// byte of spare triggers, how many words a line takes and two words that stay.
 #[derive(Debug, PartialEq, Eq)]
 pub struct PlanAnswer {
     pub code: u32,
-    pub words: [i64; 7],
+    pub words: [i64; 8],
 }
 
 /// 0 or the refusal, and the answer's words after the call: deviation, steps, selections, panels,
@@ -58,11 +58,11 @@ pub struct KeptAnswer {
 }
 
 /// 0 or the refusal, and the answer's words after the call: count, six times (0 for those that are not
-/// there) and two words that stay.
+/// there), how many words a line takes and two words that stay.
 #[derive(Debug, PartialEq, Eq)]
 pub struct LatestAnswer {
     pub code: u32,
-    pub words: [i64; 9],
+    pub words: [i64; 10],
 }
 
 /// What the sheets are or the refusal, and the answer's words after the call: the two counts and two

@@ -74,6 +74,7 @@ fn draft_of(sheet: Sheet) -> Draft {
         due: sheet.due.into_iter().flatten().collect(),
         after: sheet.after,
         land: Some(sheet.land),
+        last: sheet.last.map(|last| last.into_iter().flatten().collect()),
     }
 }
 

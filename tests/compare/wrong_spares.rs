@@ -1,7 +1,7 @@
 //! Wrong programs that are wrong about spare triggers.
 
 use crate::itself;
-use crate::reference::{self, LINE_WORDS, LONGEST_TIME, SIZE, Sheet};
+use crate::reference::{self, CAPPED_WORDS, LINE_WORDS, LONGEST_TIME, SIZE, Sheet};
 use crate::sheets::Draft;
 use crate::under_test::{DIFFERENT, KeptAnswer, LatestAnswer, Operations, PlanAnswer, SameAnswer};
 use crate::under_test::{UNLIKE, UNTOUCHED};
@@ -61,7 +61,7 @@ fn overlooked(sheet: &[u8], clear: fn(&mut Draft, usize)) -> Vec<u8> {
 }
 
 /// What a good sheet says; a planned one is good.
-fn read(sheet: &[u8]) -> Sheet {
+pub fn read(sheet: &[u8]) -> Sheet {
     reference::read(sheet).unwrap_or_else(|number| panic!("refused with {number}"))
 }
 
@@ -86,7 +86,7 @@ impl Mistake for DueInLatest {
     fn latest(sheet: &[u8], given: &[i64], space: &mut [i32]) -> LatestAnswer {
         let mut answer = itself::latest(sheet, given, space);
         if answer.code == 0 {
-            let mut enough = vec![0; 1000 * LINE_WORDS];
+            let mut enough = vec![0; 1000 * CAPPED_WORDS];
             let held = itself::latest(&all_in_use(sheet), given, &mut enough);
             answer.words[1..].copy_from_slice(&held.words[1..]);
         }
@@ -156,7 +156,7 @@ fn with_lines(sheet: &[u8], space: &mut [i32], change: fn(&mut [i32], &[usize]))
     let answer = itself::plan(sheet, space);
     if answer.code == 0 {
         let in_use: Vec<usize> = read(sheet).in_use().collect();
-        let lines = space.chunks_exact_mut(LINE_WORDS);
+        let lines = space.chunks_exact_mut(answer.words[5] as usize);
         let lines = lines.take(answer.words[3] as usize);
         lines.for_each(|words| change(words, &in_use));
     }
@@ -172,7 +172,7 @@ impl Mistake for Together {
             for (component, j) in together.iter_mut().zip(in_use) {
                 *component = words[1 + j];
             }
-            words[1..].copy_from_slice(&together);
+            words[1..LINE_WORDS].copy_from_slice(&together);
         })
     }
 }

@@ -2,17 +2,11 @@
  * What embed/c/tuzhelar.h says of lengths, null pointers and overlaps, case by case; sheets with land lines, and with spare triggers; the
  * longest sheet. Prints each case that fails; the last line is 'N passed, M failed'. Also C++.
  */
-#include <stdio.h>
+#include "edges.h"
+
 #include <stdlib.h>
-#include <string.h>
 
-#include "tuzhelar.h"
-
-#define SPACE 30
-#define ANSWER 20
-#define UNTOUCHED 7777
-#define NONE TUZHELAR_ABSENT
-#define LONGEST 1080 /* bytes of a good sheet, at most */
+#define LONGEST 1133 /* bytes of a good sheet, at most */
 
 static const char WHOLE[] = "panels=2\ntriggers=2\nlag=2,0\nlag=4,1\nfloor=5,2\ndue=1,2\nafter=-,-\nafter=-,-\n";
 static const char CIRCLE[] = "panels=1\ntriggers=1\nlag=5\nfloor=0\ndue=0\nafter=1\n";
@@ -45,71 +39,10 @@ static const int32_t ONE_LINE[TUZHELAR_LINE_WORDS] = {
     1, 0, TUZHELAR_ABSENT, TUZHELAR_ABSENT, TUZHELAR_ABSENT, TUZHELAR_ABSENT, TUZHELAR_ABSENT,
 };
 static const int64_t TWO_AND_TWO[TUZHELAR_SAME_WORDS] = {2, 2}, TWO_AND_ONE[TUZHELAR_SAME_WORDS] = {2, 1};
-static const int64_t PLANNED[TUZHELAR_PLAN_WORDS] = {2, 2, 1, 2, 0};
+static const int64_t PLANNED[TUZHELAR_PLAN_WORDS] = {2, 2, 1, 2, 0, 7};
 static const int64_t KEPT[TUZHELAR_KEPT_WORDS] = {2, 2, 1, 2, 1, 1, 3, 2, 0, 0, 0, 0, 0, 0, 0, 0};
 static const int64_t WISHED[TUZHELAR_MOST] = {0, 2, 0, 0, 0, 0};
-static const int64_t LATEST[TUZHELAR_LATEST_WORDS] = {2, 0, 1, 0, 0, 0, 0};
-
-static int passed, failed;
-
-static void check(const char *name, size_t number, int holds)
-{
-    if (holds) {
-        passed++;
-    } else {
-        failed++;
-        printf("FAILED: %s, %lu\n", name, (unsigned long)number);
-    }
-}
-
-static const uint8_t *bytes(const char *sheet)
-{
-    return (const uint8_t *)sheet;
-}
-
-static void untouched(int32_t *space, int64_t *answer)
-{
-    size_t i;
-    for (i = 0; i < SPACE; i++) {
-        space[i] = UNTOUCHED;
-    }
-    for (i = 0; i < ANSWER; i++) {
-        answer[i] = UNTOUCHED;
-    }
-}
-
-/* The first `written` words are those wanted, and the others were not touched. */
-static int space_holds(const int32_t *space, const int32_t *wanted, size_t written)
-{
-    size_t i;
-    for (i = 0; i < SPACE; i++) {
-        if (space[i] != (i < written ? wanted[i] : UNTOUCHED)) {
-            return 0;
-        }
-    }
-    return 1;
-}
-
-static int answer_holds(const int64_t *answer, const int64_t *wanted, size_t written)
-{
-    size_t i;
-    for (i = 0; i < ANSWER; i++) {
-        if (answer[i] != (i < written ? wanted[i] : UNTOUCHED)) {
-            return 0;
-        }
-    }
-    return 1;
-}
-
-static size_t least(size_t a, size_t b)
-{
-    return a < b ? a : b;
-}
-
-static uint32_t tested(const char *sheet, const int64_t *times, size_t length)
-{
-    return tuzhelar_test(bytes(sheet), strlen(sheet), times, length);
-}
+static const int64_t LATEST[TUZHELAR_LATEST_WORDS] = {2, 0, 1, 0, 0, 0, 0, 7};
 
 /* The proved functions, for every length of the space, the answer and the times. */
 static void lengths(void)
@@ -123,9 +56,8 @@ static void lengths(void)
         check("plan, words of space", length,
               tuzhelar_plan(bytes(WHOLE), strlen(WHOLE), space, length, answer, ANSWER) == wanted);
         check("plan, the space", length, space_holds(space, LINES, wanted == TUZHELAR_DONE ? 2 * TUZHELAR_LINE_WORDS : 0));
-        check("plan, the count", length, answer[3] == 2);
-        answer[3] = UNTOUCHED;
-        check("plan, 9 gives the count alone", length, wanted == TUZHELAR_DONE || answer_holds(answer, PLANNED, 0));
+        check("plan, the answer beside it", length,
+              wanted == TUZHELAR_DONE ? answer_holds(answer, PLANNED, TUZHELAR_PLAN_WORDS) : room_holds(answer, ANSWER, 3, 2, 5, 7));
     }
     for (length = 0; length <= ANSWER; length++) {
         untouched(space, answer);
@@ -175,11 +107,15 @@ static uint32_t latest(const char *sheet, const int64_t *times, size_t times_len
     return tuzhelar_latest(bytes(sheet), strlen(sheet), times, times_length, listed, space_length, reached, answer_length);
 }
 
-/* A refusal leaves the space and the answer; 9 gives the count needed and nothing else. */
-static int left_but(size_t written)
+/* A refusal leaves the space and the answer; 9 gives the count needed, here 2, and the words of a line. */
+static int all_stays(void)
 {
-    static const int64_t needed[1] = {2};
-    return space_holds(listed, LINES, 0) && answer_holds(reached, needed, written);
+    return space_holds(listed, LINES, 0) && answer_holds(reached, LATEST, 0);
+}
+
+static int gives_room(size_t answer_length, int64_t words)
+{
+    return space_holds(listed, LINES, 0) && room_holds(reached, answer_length, 0, 2, 7, words);
 }
 
 /* The latest times, for every length of the space and the answer. */
@@ -190,20 +126,20 @@ static void reaching(void)
     for (length = 0; length <= SPACE; length++) {
         int holds = length >= lines;
         check("latest, words of space", length, latest(WHOLE, WISHED, 2, length, ANSWER) == (holds ? TUZHELAR_DONE : TUZHELAR_SPACE));
-        check("latest, the space", length, holds ? space_holds(listed, LINES, lines) : left_but(1));
+        check("latest, the space", length, holds ? space_holds(listed, LINES, lines) : gives_room(ANSWER, 7));
         check("latest, the answer beside it", length, !holds || answer_holds(reached, LATEST, TUZHELAR_LATEST_WORDS));
-        check("latest, 8 before 9", length, latest(CIRCLE, WISHED, 1, length, ANSWER) == TUZHELAR_ORDER && left_but(0));
-        check("latest, 10 before 9", length, latest(WHOLE, WISHED, 3, length, ANSWER) == TUZHELAR_COMPONENTS && left_but(0));
+        check("latest, 8 before 9", length, latest(CIRCLE, WISHED, 1, length, ANSWER) == TUZHELAR_ORDER && all_stays());
+        check("latest, 10 before 9", length, latest(WHOLE, WISHED, 3, length, ANSWER) == TUZHELAR_COMPONENTS && all_stays());
     }
     for (length = 0; length <= ANSWER; length++) {
         check("latest, words of answer", length, latest(WHOLE, WISHED, 2, SPACE, length) == TUZHELAR_DONE);
         check("latest, the answer", length, answer_holds(reached, LATEST, least(length, TUZHELAR_LATEST_WORDS)));
         check("latest, the space beside it", length, space_holds(listed, LINES, lines));
-        check("latest, 9", length, latest(WHOLE, WISHED, 2, lines - 1, length) == TUZHELAR_SPACE && left_but(least(length, 1)));
-        check("latest, no space", length, latest(WHOLE, WISHED, 2, 0, length) == TUZHELAR_SPACE && left_but(least(length, 1)));
-        check("latest, 2", length, latest("", WISHED, 2, SPACE, length) == TUZHELAR_FORM && left_but(0));
-        check("latest, 8", length, latest(CIRCLE, WISHED, 1, SPACE, length) == TUZHELAR_ORDER && left_but(0));
-        check("latest, 10", length, latest(WHOLE, WISHED, 1, SPACE, length) == TUZHELAR_COMPONENTS && left_but(0));
+        check("latest, 9", length, latest(WHOLE, WISHED, 2, lines - 1, length) == TUZHELAR_SPACE && gives_room(length, 7));
+        check("latest, no space", length, latest(WHOLE, WISHED, 2, 0, length) == TUZHELAR_SPACE && gives_room(length, 7));
+        check("latest, 2", length, latest("", WISHED, 2, SPACE, length) == TUZHELAR_FORM && all_stays());
+        check("latest, 8", length, latest(CIRCLE, WISHED, 1, SPACE, length) == TUZHELAR_ORDER && all_stays());
+        check("latest, 10", length, latest(WHOLE, WISHED, 1, SPACE, length) == TUZHELAR_COMPONENTS && all_stays());
     }
 }
 
@@ -231,11 +167,11 @@ static void reaching_times(void)
     check("latest, below the limit", 1, reached[1] == -limit - 1 && reached[2] == -limit);
     check("latest, below the limit", 2, tested(AFTER, reached + 1, 2) == TUZHELAR_TIME);
     times[1] = limit + 1;
-    check("latest, 11", 0, latest(WHOLE, times, 2, SPACE, ANSWER) == TUZHELAR_TIME && left_but(0));
-    check("latest, 11 before 9", 0, latest(WHOLE, times, 2, 0, ANSWER) == TUZHELAR_TIME && left_but(0));
-    check("latest, 10 before 11", 0, latest(WHOLE, times, 3, SPACE, ANSWER) == TUZHELAR_COMPONENTS && left_but(0));
+    check("latest, 11", 0, latest(WHOLE, times, 2, SPACE, ANSWER) == TUZHELAR_TIME && all_stays());
+    check("latest, 11 before 9", 0, latest(WHOLE, times, 2, 0, ANSWER) == TUZHELAR_TIME && all_stays());
+    check("latest, 10 before 11", 0, latest(WHOLE, times, 3, SPACE, ANSWER) == TUZHELAR_COMPONENTS && all_stays());
     times[0] = INT64_MIN;
-    check("latest, 11 before 8", 0, latest(CIRCLE, times, 1, SPACE, ANSWER) == TUZHELAR_TIME && left_but(0));
+    check("latest, 11 before 8", 0, latest(CIRCLE, times, 1, SPACE, ANSWER) == TUZHELAR_TIME && all_stays());
 }
 
 /* Two spaces and an answer, for comparing. */
@@ -343,26 +279,26 @@ static const char ITSELF[] = "panels=1\ntriggers=2\nlag=0,-\nfloor=0\ndue=0,-7\n
 
 /* Those of IDLE, and sheets beside it: a trigger is spare with land lines that hold no rule, and is not with one entry of any kind. */
 static const struct worked WORKED[] = {
-    {IDLE, {0, 1, 1, 1, 2}, {1, 0}, {{2, 0, NONE, NONE, NONE, NONE, NONE}, {0}}},
+    {IDLE, {0, 1, 1, 1, 2, 7}, {1, 0}, {{2, 0, NONE, NONE, NONE, NONE, NONE}, {0}}},
     {"panels=1\ntriggers=2\nlag=0,-\nfloor=0\ndue=0,-7\nafter=-,-\nafter=-,-\nland=-\nland=-\n",
-     {0, 1, 1, 1, 2}, {1, 0}, {{2, 0, NONE, NONE, NONE, NONE, NONE}, {0}}},
-    {ITSELF, {0, 1, 1, 2, 0}, {1, 0}, {{2, 0, NONE, NONE, NONE, NONE, NONE}, {2, 0, -7, NONE, NONE, NONE, NONE}}},
+     {0, 1, 1, 1, 2, 7}, {1, 0}, {{2, 0, NONE, NONE, NONE, NONE, NONE}, {0}}},
+    {ITSELF, {0, 1, 1, 2, 0, 7}, {1, 0}, {{2, 0, NONE, NONE, NONE, NONE, NONE}, {2, 0, -7, NONE, NONE, NONE, NONE}}},
     {"panels=1\ntriggers=2\nlag=0,-\nfloor=0\ndue=0,-7\nafter=-,0\nafter=-,-\n",
-     {0, 1, 1, 2, 0}, {1, 0}, {{2, 0, NONE, NONE, NONE, NONE, NONE}, {2, 0, -7, NONE, NONE, NONE, NONE}}},
+     {0, 1, 1, 2, 0, 7}, {1, 0}, {{2, 0, NONE, NONE, NONE, NONE, NONE}, {2, 0, -7, NONE, NONE, NONE, NONE}}},
     {"panels=1\ntriggers=2\nlag=0,-\nfloor=0\ndue=0,-7\nafter=-,-\nafter=-9,-\n",
-     {0, 1, 1, 2, 0}, {1, 0}, {{2, 0, -9, NONE, NONE, NONE, NONE}, {2, 0, -7, NONE, NONE, NONE, NONE}}},
+     {0, 1, 1, 2, 0, 7}, {1, 0}, {{2, 0, -9, NONE, NONE, NONE, NONE}, {2, 0, -7, NONE, NONE, NONE, NONE}}},
     {"panels=1\ntriggers=2\nlag=0,-\nfloor=0\ndue=0,-7\nafter=-,-\nafter=-,-\nland=-\nland=-9\n",
-     {0, 1, 1, 2, 0}, {1, 0}, {{2, 0, -9, NONE, NONE, NONE, NONE}, {2, 0, -7, NONE, NONE, NONE, NONE}}},
+     {0, 1, 1, 2, 0, 7}, {1, 0}, {{2, 0, -9, NONE, NONE, NONE, NONE}, {2, 0, -7, NONE, NONE, NONE, NONE}}},
     {"panels=1\ntriggers=2\nlag=0,-100\nfloor=0\ndue=0,-7\nafter=-,-\nafter=-,-\n",
-     {0, 1, 1, 2, 0}, {1, 0}, {{2, 0, NONE, NONE, NONE, NONE, NONE}, {2, 0, -7, NONE, NONE, NONE, NONE}}},
+     {0, 1, 1, 2, 0, 7}, {1, 0}, {{2, 0, NONE, NONE, NONE, NONE, NONE}, {2, 0, -7, NONE, NONE, NONE, NONE}}},
     /* The first, the last, one between others, five of six. */
-    {FIRST, {0, 1, 1, 1, 1}, {2, 0}, {{2, NONE, 0, NONE, NONE, NONE, NONE}, {0}}},
+    {FIRST, {0, 1, 1, 1, 1, 7}, {2, 0}, {{2, NONE, 0, NONE, NONE, NONE, NONE}, {0}}},
     {"panels=2\ntriggers=3\nlag=2,0,-\nlag=4,1,-\nfloor=5,2\ndue=1,2,99\nafter=-,-,-\nafter=-,-,-\nafter=-,-,-\n",
-     {2, 2, 1, 2, 4}, {1, 3}, {{3, -1, 0, NONE, NONE, NONE, NONE}, {3, 0, NONE, NONE, NONE, NONE, NONE}}},
-    {BETWEEN, {2, 2, 1, 2, 2}, {1, 5}, {{3, -1, NONE, 0, NONE, NONE, NONE}, {3, 0, NONE, NONE, NONE, NONE, NONE}}},
+     {2, 2, 1, 2, 4, 7}, {1, 3}, {{3, -1, 0, NONE, NONE, NONE, NONE}, {3, 0, NONE, NONE, NONE, NONE, NONE}}},
+    {BETWEEN, {2, 2, 1, 2, 2, 7}, {1, 5}, {{3, -1, NONE, 0, NONE, NONE, NONE}, {3, 0, NONE, NONE, NONE, NONE, NONE}}},
     {"panels=1\ntriggers=6\nlag=-,-,-,3,-,-\nfloor=5\ndue=1,2,3,4,5,6\nafter=-,-,-,-,-,-\nafter=-,-,-,-,-,-\nafter=-,-,-,-,-,-\n"
      "after=-,-,-,-,-,-\nafter=-,-,-,-,-,-\nafter=-,-,-,-,-,-\n",
-     {-2, 1, 1, 1, 1 + 2 + 4 + 16 + 32}, {8, 0}, {{6, NONE, NONE, NONE, 0, NONE, NONE}, {0}}},
+     {-2, 1, 1, 1, 1 + 2 + 4 + 16 + 32, 7}, {8, 0}, {{6, NONE, NONE, NONE, 0, NONE, NONE}, {0}}},
 };
 
 /* Planning and the kept table of each; for every length of the answer, the spare triggers are its fifth word. */
@@ -382,9 +318,7 @@ static void spare_plans(void)
             check(sheet, length, space_holds(space, worked->lines[0], words));
             untouched(space, answer);
             check(sheet, length, tuzhelar_plan(bytes(sheet), strlen(sheet), space, words - 1, answer, length) == TUZHELAR_SPACE);
-            check(sheet, length, length <= 3 || answer[3] == worked->answer[3]);
-            answer[3] = UNTOUCHED;
-            check(sheet, length, answer_holds(answer, worked->answer, 0) && space_holds(space, worked->lines[0], 0));
+            check(sheet, length, room_holds(answer, length, 3, worked->answer[3], 5, 7) && space_holds(space, worked->lines[0], 0));
         }
         check(sheet, 0, tuzhelar_kept(bytes(sheet), strlen(sheet), answer, ANSWER) == TUZHELAR_DONE);
         check(sheet, 0, memcmp(answer, worked->answer, 3 * sizeof *answer) == 0);
@@ -413,7 +347,7 @@ static void spare_times(void)
     for (i = 0; i < 2; i++) {
         times[1] = i == 0 ? beyond : -beyond;
         check("spare, 11", i, tested(BETWEEN, times, 3) == TUZHELAR_TIME && latest(BETWEEN, times, 3, SPACE, ANSWER) == TUZHELAR_TIME);
-        check("spare, 11", i, left_but(0));
+        check("spare, 11", i, all_stays());
         check("spare, 10 before 11", i, tested(BETWEEN, times, 2) == TUZHELAR_COMPONENTS && tested(IDLE, times, 1) == TUZHELAR_COMPONENTS);
     }
 }
@@ -456,7 +390,7 @@ static void refused(const char *sheet, uint32_t number)
     check(sheet, number, tuzhelar_kept(bytes(sheet), length, answer, ANSWER) == number);
     check(sheet, number, space_holds(space, LINES, 0) && answer_holds(answer, PLANNED, 0));
     check(sheet, number, tested(sheet, WISHED, 1) == number);
-    check(sheet, number, latest(sheet, WISHED, 1, SPACE, ANSWER) == number && left_but(0));
+    check(sheet, number, latest(sheet, WISHED, 1, SPACE, ANSWER) == number && all_stays());
     check(sheet, number, same(sheet, WHOLE, SPACE, SPACE, ANSWER) == number && all_left(NULL));
     check(sheet, number, same(WHOLE, sheet, SPACE, SPACE, ANSWER) == TUZHELAR_SECOND + number && all_left(NULL));
 }
@@ -483,7 +417,7 @@ static void spare_refusals(void)
     refused("panels=1\ntriggers=2\nlag=0,-\nfloor=0\ndue=0,-0\nafter=-,-\nafter=-,-\n", TUZHELAR_FORM);
     refused("panels=1\ntriggers=2\nlag=-,-\nfloor=0\ndue=0,0\nafter=-,-\nafter=-,-\n", TUZHELAR_NO_LAG);
     check("spare, 8", 0, latest("panels=1\ntriggers=2\nlag=0,-\nfloor=0\ndue=0,0\nafter=1,-\nafter=-,-\n", WISHED, 2, SPACE, ANSWER) ==
-                             TUZHELAR_ORDER && left_but(0));
+                             TUZHELAR_ORDER && all_stays());
     check("spare, no space", 0, latest(IDLE, WISHED, 2, 0, ANSWER) == TUZHELAR_SPACE && reached[0] == 1);
 }
 
@@ -509,7 +443,8 @@ static size_t longest_of(char *sheet, size_t panels, size_t triggers)
     length = add_lines(sheet, length, "floor=", 1, panels);
     length = add_lines(sheet, length, "due=", 1, triggers);
     length = add_lines(sheet, length, "after=", triggers, triggers);
-    return add_lines(sheet, length, "land=", triggers, panels);
+    length = add_lines(sheet, length, "land=", triggers, panels);
+    return add_lines(sheet, length, "last=", 1, panels);
 }
 
 /*
@@ -591,11 +526,12 @@ static void layer(void)
         planned = tuzhelar_plan_sheet(NULL, length, space, SPACE);
         check("no sheet, plan", length, planned.refusal == TUZHELAR_FORM && planned.deviation == 0 && planned.steps == 0);
         check("no sheet, plan", length, planned.selections == 0 && planned.count == 0 && space_holds(space, LINES, 0));
-        check("no sheet, plan", length, planned.spares == 0);
+        check("no sheet, plan", length, planned.spares == 0 && planned.line_words == 0);
         check("no sheet, kept", length, tuzhelar_kept_table(NULL, length).refusal == TUZHELAR_FORM);
         check("no sheet, test", length, tuzhelar_test_timing(NULL, length, times, 2) == TUZHELAR_FORM);
         planned = tuzhelar_plan_sheet(WHOLE, whole, NULL, length);
         check("no space", length, planned.refusal == TUZHELAR_SPACE && planned.count == 2 && planned.deviation == 0);
+        check("no space", length, planned.line_words == TUZHELAR_LINE_WORDS);
         planned = tuzhelar_plan_sheet(BETWEEN, strlen(BETWEEN), NULL, length);
         check("no space, spares", length, planned.refusal == TUZHELAR_SPACE && planned.count == 2 && planned.spares == 0);
         check("no times", length, tuzhelar_test_timing(WHOLE, whole, NULL, length) == TUZHELAR_COMPONENTS);
@@ -609,12 +545,13 @@ static void layer(void)
     check("plan", 0, planned.refusal == TUZHELAR_DONE && planned.deviation == 2 && planned.steps == 2);
     check("plan", 1, planned.selections == 1 && planned.count == 2 && planned.spares == 0);
     check("plan", 2, space_holds(space, LINES, 2 * TUZHELAR_LINE_WORDS));
-    check("component", 0, tuzhelar_component(space, 0, 0) == -1 && tuzhelar_component(space, 0, 1) == 0);
-    check("component", 1, tuzhelar_component(space, 1, 0) == 0 && tuzhelar_component(space, 1, 1) == TUZHELAR_ABSENT);
+    check("plan", 3, planned.line_words == TUZHELAR_LINE_WORDS);
+    check("component", 0, tuzhelar_component(space, 7, 0, 0) == -1 && tuzhelar_component(space, 7, 0, 1) == 0);
+    check("component", 1, tuzhelar_component(space, 7, 1, 0) == 0 && tuzhelar_component(space, 7, 1, 1) == TUZHELAR_ABSENT);
 
     planned = tuzhelar_plan_sheet(BETWEEN, strlen(BETWEEN), space, SPACE);
     check("plan, spares", 0, planned.refusal == TUZHELAR_DONE && planned.deviation == 2 && planned.count == 2 && planned.spares == 2);
-    check("component, spare", 0, tuzhelar_component(space, 0, 0) == -1 && tuzhelar_component(space, 0, 1) == TUZHELAR_ABSENT);
+    check("component, spare", 0, tuzhelar_component(space, 7, 0, 0) == -1 && tuzhelar_component(space, 7, 0, 1) == NONE);
     for (count = 0; count <= 64; count++) {
         check("is it spare", count, tuzhelar_is_spare(planned.spares, count) == (count == 1));
         check("all are spare", count, tuzhelar_is_spare(63, count) == (count < TUZHELAR_MOST));
@@ -669,23 +606,25 @@ static void layer_for_latest(void)
     for (i = 0; i < 3; i++) {
         size_t length = i == 0 ? 0 : i == 1 ? whole : SIZE_MAX;
         found = tuzhelar_latest_timing(NULL, length, WISHED, 2, listed, SPACE);
-        check("no sheet, latest", length, found.refusal == TUZHELAR_FORM && found.count == 0 && no_times(found.times) && left_but(0));
+        check("no sheet, latest", length, found.refusal == TUZHELAR_FORM && found.count == 0 && no_times(found.times) && all_stays());
+        check("no sheet, latest, words", length, found.line_words == 0);
         found = tuzhelar_latest_timing(WHOLE, whole, NULL, length, listed, SPACE);
-        check("no times, latest", length, found.refusal == TUZHELAR_COMPONENTS && found.count == 0 && left_but(0));
+        check("no times, latest", length, found.refusal == TUZHELAR_COMPONENTS && found.count == 0 && all_stays());
         found = tuzhelar_latest_timing(WHOLE, whole, WISHED, 2, NULL, length);
         check("no space, latest", length, found.refusal == TUZHELAR_SPACE && found.count == 2 && no_times(found.times));
+        check("no space, latest, words", length, found.line_words == TUZHELAR_LINE_WORDS);
     }
     found = tuzhelar_latest_timing(WHOLE, SIZE_MAX, WISHED, 2, listed, SPACE);
-    check("the longest sheet, latest", 0, found.refusal == TUZHELAR_TOO_LONG && left_but(0));
+    check("the longest sheet, latest", 0, found.refusal == TUZHELAR_TOO_LONG && all_stays());
     /* Nothing is read through these pointers: they lead nowhere. */
     found = tuzhelar_latest_timing(WHOLE, whole, (const int64_t *)8, 7, listed, SPACE);
-    check("seven times, unread, latest", 0, found.refusal == TUZHELAR_COMPONENTS && left_but(0));
+    check("seven times, unread, latest", 0, found.refusal == TUZHELAR_COMPONENTS && all_stays());
     found = tuzhelar_latest_timing(WHOLE, whole, (const int64_t *)8, SIZE_MAX, listed, SPACE);
-    check("the most times, unread, latest", 0, found.refusal == TUZHELAR_COMPONENTS && left_but(0));
+    check("the most times, unread, latest", 0, found.refusal == TUZHELAR_COMPONENTS && all_stays());
 
     found = tuzhelar_latest_timing(WHOLE, whole, WISHED, 2, listed, SPACE);
     check("latest", 0, found.refusal == TUZHELAR_DONE && found.count == 2 && space_holds(listed, LINES, 2 * TUZHELAR_LINE_WORDS));
-    check("latest", 1, memcmp(found.times, LATEST + 1, sizeof found.times) == 0);
+    check("latest", 1, memcmp(found.times, LATEST + 1, sizeof found.times) == 0 && found.line_words == TUZHELAR_LINE_WORDS);
     memcpy(shared.sheet, WHOLE, whole);
     found = tuzhelar_latest_timing(shared.sheet, whole, WISHED, 2, shared.words, SPACE);
     check("sheet in the space, latest", 0, found.refusal == TUZHELAR_DONE && memcmp(shared.words, LINES, sizeof LINES) == 0);
@@ -715,8 +654,10 @@ static void layer_for_two(void)
         check("no second sheet", length, found.number == 202 && found.first == 0 && found.second == 0 && all_left(NULL));
         found = tuzhelar_same_timings(WHOLE, whole, WHOLE, whole, NULL, length, right, SPACE);
         check("no left space", length, found.number == 9 && found.first == 2 && found.second == 0 && all_left(NULL));
+        check("no left space, words", length, found.first_words == TUZHELAR_LINE_WORDS && found.second_words == 0);
         found = tuzhelar_same_timings(WHOLE, whole, WHOLE, whole, left, SPACE, NULL, length);
         check("no right space", length, found.number == 209 && found.first == 0 && found.second == 2 && all_left(NULL));
+        check("no right space, words", length, found.first_words == 0 && found.second_words == TUZHELAR_LINE_WORDS);
         found = tuzhelar_same_timings(NULL, length, NULL, length, NULL, length, NULL, length);
         check("nothing at all", length, found.number == 2 && found.first == 0 && found.second == 0);
     }
@@ -727,6 +668,7 @@ static void layer_for_two(void)
 
     found = tuzhelar_same_timings(WHOLE, whole, ONE, strlen(ONE), left, SPACE, right, SPACE);
     check("two sheets", 0, found.number == TUZHELAR_UNLIKE && found.first == 2 && found.second == 1);
+    check("two sheets", 1, found.first_words == TUZHELAR_LINE_WORDS && found.second_words == TUZHELAR_LINE_WORDS);
     for (i = 0; i < 2; i++) {
         memcpy(one.sheet, WHOLE, whole);
         memcpy(other.sheet, EXCHANGED, whole);
@@ -776,6 +718,5 @@ int main(void)
     layer_for_latest();
     layer_for_two();
     meanings();
-    printf("%d passed, %d failed\n", passed, failed);
-    return failed != 0;
+    return summed();
 }

@@ -8,8 +8,8 @@
  * same list, and into fewer 9 with the same count; times that are tested have the answer that the meaning of the sheet gives; what the list
  * makes is tightest; the latest times that are no later than given ones are those that the meaning gives (latest.c); land lines without a
  * rule change nothing (land.c); the spare triggers are those that the tables of the sheet say, have no part in lines and kept bytes, may have
- * any time, and make no difference to the others (spares.c); and it is compared with a second sheet, often one that means the same or nearly
- * so (pairs.c).
+ * any time, and make no difference to the others (spares.c); a last line gives each line its cap, holds tested and latest times back, and
+ * makes no difference else (last.c); and it is compared with a second sheet, often one that means the same or nearly so (pairs.c).
  * The last line is: N passed, M failed. A sheet that fails is written with its number, so that it can be tried alone.
  */
 #define _DEFAULT_SOURCE
@@ -22,8 +22,10 @@
 #include <unistd.h>
 
 #include "land.h"
+#include "last.h"
 #include "latest.h"
 #include "lent.h"
+#include "list.h"
 #include "meaning.h"
 #include "pairs.h"
 #include "reader.h"
@@ -33,7 +35,7 @@
 #include "tuzhelar.h"
 
 #define SHOWN 5             /* failures that are written in full */
-#define PROGRAM_WORDS 14000 /* words that the program `plan` lends */
+#define PROGRAM_WORDS 16000 /* words that the program `plan` lends */
 #define MOST_LINES 279936   /* no list has more: 6 to the power 7 */
 #define ANSWER_WORDS 20     /* more than any answer has */
 #define MOST_TIMES 8        /* times that are lent, at most */
@@ -47,6 +49,9 @@ static uint64_t seed, current;
 static struct text text, other;
 static int sheet_at_end;
 static const uint8_t *sheet;
+
+/* How many words a line of the sheet takes, by its tables. */
+static size_t wide;
 
 /* What was wrong with it: the first fault found. */
 static const char *wrong;
@@ -135,7 +140,7 @@ static struct answered try_plan(struct random *random, size_t words, size_t leng
     expect(marks_stay(&space_area, words * sizeof *lent, space_at_end), "words beside the space were written");
     /* With an answer too short for the count, its fourth word, there is nothing to hold the space to. */
     if (answered.number != TUZHELAR_DONE || length > 3) {
-        written = answered.number == TUZHELAR_DONE ? (size_t)answered.words[3] * TUZHELAR_LINE_WORDS : 0;
+        written = answered.number == TUZHELAR_DONE ? (size_t)answered.words[3] * wide : 0;
         expect(written <= words, "more lines than the space holds");
         for (i = written; i < words; i++) {
             expect(lent[i] == UNTOUCHED_WORD, "words behind the list, or on a refusal, were written");
@@ -182,14 +187,20 @@ static int all_untouched(const struct answered *answered, size_t first)
     return 1;
 }
 
-/* What testing must answer for times within its limits, on a sheet whose order can be kept. */
-static uint32_t meant(const struct tables *tables, const int64_t *times, int64_t least)
+/* Whether times are tightest, in time or not, on a sheet whose order can be kept. */
+static int tightest(const struct tables *tables, const int64_t *times, int64_t least)
 {
     if (!keeps_order(tables, times)) {
-        return TUZHELAR_NO;
+        return 0;
     }
     expect(deviation(tables, times) >= least, "times with a deviation below the least one");
-    return deviation(tables, times) == least ? TUZHELAR_YES : TUZHELAR_NO;
+    return deviation(tables, times) == least;
+}
+
+/* What testing must answer for times within its limits, on such a sheet. */
+static uint32_t meant(const struct tables *tables, const int64_t *times, int64_t least)
+{
+    return tightest(tables, times, least) && in_time(tables, times) ? TUZHELAR_YES : TUZHELAR_NO;
 }
 
 /* ---- The checks */
@@ -271,12 +282,12 @@ static void check_kept_words(const struct tables *tables, const struct answered 
 }
 
 /* The list's form: counts, components of spare triggers and unused ones, the shift, and the order of lines. */
-static void check_lines(const struct tables *tables, const int32_t *lines, size_t count)
+static void check_lines(const struct tables *tables, const struct list *list)
 {
     int n = tables->triggers, j;
     size_t i;
-    for (i = 0; i < count; i++) {
-        const int32_t *line = lines + TUZHELAR_LINE_WORDS * i, *before = line - TUZHELAR_LINE_WORDS;
+    for (i = 0; i < list->count; i++) {
+        const int32_t *line = line_at(list, i), *before = line_at(list, i == 0 ? 0 : i - 1);
         int32_t greatest = TUZHELAR_ABSENT;
         expect(line[0] == n, "a line's count of triggers is not the sheet's");
         for (j = 1; j <= MOST; j++) {
@@ -296,53 +307,65 @@ static void check_time(struct random *random, const struct tables *tables, const
     expect(try_test(random, times, (size_t)tables->triggers) == meant(tables, times, least), what);
 }
 
-/*
- * What the list makes is tightest: lines without absent components, and combinations of all. Other times are as the meaning says. Spare
- * triggers have any times throughout.
- */
-static void check_times(struct random *random, const struct tables *tables, const int32_t *lines, size_t count, int64_t least)
+/* Whether there is a time for each trigger that is not spare. */
+static int is_whole(const struct tables *tables, const int64_t *times)
 {
-    int n = tables->triggers, whole, j, tries;
-    int64_t times[MOST], reach = chance(random, 50) ? 3 : 300000;
+    int j;
+    for (j = 0; j < tables->triggers; j++) {
+        if (times[j] == NONE && !is_spare(tables, j)) {
+            return 0;
+        }
+    }
+    return 1;
+}
+
+/* Lines without absent components are tightest. */
+static void check_whole_lines(struct random *random, const struct tables *tables, const struct list *list, int64_t least)
+{
+    int64_t times[MOST];
     size_t i;
-    for (i = 0; i < count; i++) {
-        for (whole = 1, j = 0; j < n; j++) {
-            times[j] = lines[TUZHELAR_LINE_WORDS * i + 1 + (size_t)j];
-            whole = whole && (times[j] != TUZHELAR_ABSENT || is_spare(tables, j));
-        }
-        if (whole) {
+    for (i = 0; i < list->count; i++) {
+        clear_times(times);
+        lift(times, line_at(list, i), 0);
+        if (is_whole(tables, times)) {
             fill_spares(random, tables, times);
-            expect(try_test(random, times, (size_t)n) == TUZHELAR_YES, "a whole line is not tightest");
-            expect(meant(tables, times, least) == TUZHELAR_YES, "a whole line is not tightest by the meaning");
+            expect(tightest(tables, times, least), "a whole line is not tightest by the meaning");
+            check_time(random, tables, times, least, "testing a whole line is not as the meaning says");
         }
     }
-    for (tries = 0; tries < 3; tries++) {
-        for (j = 0; j < n; j++) {
-            times[j] = NONE;
-        }
-        for (i = 0; i < count; i++) {
-            int64_t weight = between(random, -reach, reach);
-            for (j = 0; j < n; j++) {
-                int32_t component = lines[TUZHELAR_LINE_WORDS * i + 1 + (size_t)j];
-                if (component != TUZHELAR_ABSENT && weight + component > times[j]) {
-                    times[j] = weight + component;
-                }
-            }
-        }
-        for (j = 0; j < n; j++) {
-            expect(times[j] != NONE || is_spare(tables, j), "a component is absent in every line");
-        }
-        if (wrong != NULL) {
-            return;
-        }
-        fill_spares(random, tables, times);
-        expect(meant(tables, times, least) == TUZHELAR_YES, "a combination is not tightest by the meaning");
-        check_time(random, tables, times, least, "testing a combination is not as the meaning says");
-        times[below(random, n)] += between(random, -2, 2);
-        fill_spares(random, tables, times);
-        check_time(random, tables, times, least, "testing times beside a combination is not as the meaning says");
+}
+
+/* Combinations of all lines are tightest; and times beside one are as the meaning says. */
+static void check_combination(struct random *random, const struct tables *tables, const struct list *list, int64_t least, int64_t reach)
+{
+    int64_t times[MOST];
+    size_t i;
+    clear_times(times);
+    for (i = 0; i < list->count; i++) {
+        lift(times, line_at(list, i), between(random, -reach, reach));
     }
-    for (j = 0; j < n; j++) {
+    expect(is_whole(tables, times), "a component is absent in every line");
+    if (wrong != NULL) {
+        return;
+    }
+    fill_spares(random, tables, times);
+    expect(tightest(tables, times, least), "a combination is not tightest by the meaning");
+    check_time(random, tables, times, least, "testing a combination is not as the meaning says");
+    times[below(random, tables->triggers)] += between(random, -2, 2);
+    fill_spares(random, tables, times);
+    check_time(random, tables, times, least, "testing times beside a combination is not as the meaning says");
+}
+
+/* What the list makes is tightest, and other times are as the meaning says. Spare triggers have any times throughout. */
+static void check_times(struct random *random, const struct tables *tables, const struct list *list, int64_t least)
+{
+    int64_t times[MOST], reach = chance(random, 50) ? 3 : 300000;
+    int j, tries;
+    check_whole_lines(random, tables, list, least);
+    for (tries = 0; wrong == NULL && tries < 3; tries++) {
+        check_combination(random, tables, list, least, reach);
+    }
+    for (j = 0; j < tables->triggers; j++) {
         times[j] = between(random, -reach, reach);
     }
     fill_spares(random, tables, times);
@@ -352,66 +375,78 @@ static void check_times(struct random *random, const struct tables *tables, cons
 /* A word of planning's answer where the sheet has a plan. */
 static int64_t plan_word(const struct tables *tables, const struct answered *kept, size_t count, size_t at)
 {
-    return at < 3 ? kept->words[at] : at == 3 ? (int64_t)count : spares(tables);
+    return at < 3 ? kept->words[at] : at == 3 ? (int64_t)count : at == 4 ? spares(tables) : (int64_t)wide;
+}
+
+/* The first words of an answer of planning: all that there are, or for 9 the count needed and the words of a line. */
+static void check_answer(const struct tables *tables, const struct answered *kept, const struct answered *plan, size_t count, size_t length)
+{
+    int done = plan->number == TUZHELAR_DONE;
+    size_t i;
+    for (i = 0; i < length; i++) {
+        expect(plan->words[i] == (done || i == 3 || i == 5 ? plan_word(tables, kept, count, i) : UNTOUCHED),
+               "planning and the kept table differ, the spare triggers or the words of a line are not the sheet's, another planning has "
+               "another count, or 9 gives more than it should");
+    }
+    expect(all_untouched(plan, length), "words behind planning's answer were written");
+}
+
+/* A word or a line too few; then just enough words, and an answer of any length. The list is left in `space`. */
+static void check_room(struct random *random, const struct tables *tables, const struct answered *kept, size_t count, const int32_t **space)
+{
+    size_t length = (size_t)below(random, TUZHELAR_PLAN_WORDS + 2), words = count * wide;
+    struct answered again = try_plan(random, words - (size_t)between(random, 1, (int64_t)wide), ANSWER_WORDS, space);
+    expect(again.number == TUZHELAR_SPACE, "too few words are not 9");
+    check_answer(tables, kept, &again, count, TUZHELAR_PLAN_WORDS);
+    again = try_plan(random, words, length, space);
+    expect(again.number == TUZHELAR_DONE, "just enough words are refused");
+    check_answer(tables, kept, &again, count, length < TUZHELAR_PLAN_WORDS ? length : TUZHELAR_PLAN_WORDS);
+}
+
+/* A list of a sheet that has a plan, whose form is right. */
+static void check_list(struct random *random, const struct tables *tables, const struct list *list, int64_t least)
+{
+    check_times(random, tables, list, least);
+    if (wrong == NULL) {
+        check_latest(random, &text, tables, list, least);
+    }
+    if (wrong == NULL) {
+        check_last(random, &text, tables, list, least);
+    }
 }
 
 /* A sheet that has a plan. */
 static void check_planned(struct random *random, const struct tables *tables, const struct answered *kept)
 {
     static int32_t lines[PROGRAM_WORDS];
-    size_t words = (size_t)(chance(random, 2) ? PROGRAM_WORDS : below(random, 250)), count, length, i;
-    const int32_t *space;
-    struct answered plan = try_plan(random, words, ANSWER_WORDS, &space), again;
-    int done = plan.number == TUZHELAR_DONE;
+    size_t words = (size_t)(chance(random, 2) ? PROGRAM_WORDS : below(random, 250)), count;
+    const int32_t *space, *again;
+    struct answered plan = try_plan(random, words, ANSWER_WORDS, &space);
+    struct list list = {lines, 0, wide};
 
     expect(plan.words[3] >= 1 && plan.words[3] <= MOST_LINES, "a list without lines, or with more than there can be");
     if (wrong != NULL) {
         return;
     }
-    count = (size_t)plan.words[3];
-    expect(plan.number == (count > words / TUZHELAR_LINE_WORDS ? TUZHELAR_SPACE : TUZHELAR_DONE), "planning is neither 0 nor 9 where due");
+    list.count = count = (size_t)plan.words[3];
+    expect(plan.number == (count > words / wide ? TUZHELAR_SPACE : TUZHELAR_DONE), "planning is neither 0 nor 9 where due");
     met.too_small += plan.number == TUZHELAR_SPACE;
     met.most_lines = count > met.most_lines ? count : met.most_lines;
     met.most_selections = kept->words[2] > met.most_selections ? kept->words[2] : met.most_selections;
-    expect(all_untouched(&plan, TUZHELAR_PLAN_WORDS), "words behind planning's answer were written");
-    for (i = 0; i < TUZHELAR_PLAN_WORDS; i++) {
-        expect(plan.words[i] == (done || i == 3 ? plan_word(tables, kept, count, i) : UNTOUCHED),
-               "planning and the kept table differ, the spare triggers are not the sheet's, or 9 gives more than the count");
-    }
-    if (count * TUZHELAR_LINE_WORDS > PROGRAM_WORDS) {
-        expect(0, "a list of more than 2,000 lines, which this test cannot hold");
+    check_answer(tables, kept, &plan, count, TUZHELAR_PLAN_WORDS);
+    expect(count * wide <= PROGRAM_WORDS, "a list of more than 2,000 lines, which this test cannot hold");
+    if (wrong != NULL) {
         return;
     }
-    if (done) {
-        memcpy(lines, space, count * TUZHELAR_LINE_WORDS * sizeof *lines);
+    if (plan.number == TUZHELAR_DONE) {
+        memcpy(lines, space, count * wide * sizeof *lines);
     }
-
-    /* Just enough words, and an answer of any length. */
-    length = (size_t)below(random, TUZHELAR_PLAN_WORDS + 2);
-    again = try_plan(random, count * TUZHELAR_LINE_WORDS, length, &space);
-    expect(again.number == TUZHELAR_DONE, "just enough words are refused");
-    for (i = 0; i < length && i < TUZHELAR_PLAN_WORDS; i++) {
-        expect(again.words[i] == plan_word(tables, kept, count, i), "a second planning gives another answer");
-    }
-    expect(all_untouched(&again, length < TUZHELAR_PLAN_WORDS ? length : TUZHELAR_PLAN_WORDS), "words behind the answer were written");
-    if (done) {
-        expect(memcmp(lines, space, count * TUZHELAR_LINE_WORDS * sizeof *lines) == 0, "a second planning gives another list");
-    } else {
-        memcpy(lines, space, count * TUZHELAR_LINE_WORDS * sizeof *lines);
-    }
-
-    /* A word or a line too few. */
-    again = try_plan(random, count * TUZHELAR_LINE_WORDS - (size_t)between(random, 1, TUZHELAR_LINE_WORDS), ANSWER_WORDS, &space);
-    expect(again.number == TUZHELAR_SPACE && again.words[3] == (int64_t)count, "too few words are not 9 with the same count");
-    again.words[3] = UNTOUCHED;
-    expect(all_untouched(&again, 0), "9 gives more than the count");
-
-    check_lines(tables, lines, count);
+    check_room(random, tables, kept, count, &again);
+    expect(plan.number != TUZHELAR_DONE || memcmp(lines, again, count * wide * sizeof *lines) == 0, "a second planning gives another list");
+    memcpy(lines, again, count * wide * sizeof *lines);
+    check_lines(tables, &list);
     if (wrong == NULL) {
-        check_times(random, tables, lines, count, kept->words[0]);
-    }
-    if (wrong == NULL) {
-        check_latest(random, &text, tables, lines, count, kept->words[0]);
+        check_list(random, tables, &list, kept->words[0]);
     }
 }
 
@@ -472,6 +507,7 @@ static void try_sheet(void)
     make_sheet(&random, &text);
     lend_sheet(&random);
     refusal = read_tables(text.bytes, text.length, &tables);
+    wide = line_words(&tables);
     met.read[refusal]++;
     if (refusal != 0) {
         check_refused(&random, refusal);
@@ -531,8 +567,9 @@ static void print_met(void)
            met.planned, met.too_small);
     printf("times: yes: %" PRIu64 ", no: %" PRIu64 ", 8: %" PRIu64 ", 10: %" PRIu64 ", 11: %" PRIu64 "\n", met.tested[TUZHELAR_YES],
            met.tested[TUZHELAR_NO], met.tested[TUZHELAR_ORDER], met.tested[TUZHELAR_COMPONENTS], met.tested[TUZHELAR_TIME]);
-    printf("latest times: found: %" PRIu64 ", of these as given: %" PRIu64 ", by the meaning alone: %" PRIu64 "; 9: %" PRIu64 "\n",
-           met_latest.found, met_latest.given, met_latest.by_meaning, met_latest.too_small);
+    printf("latest times: found: %" PRIu64 ", of these as given: %" PRIu64 ", by the meaning alone: %" PRIu64 ", held back by last moments: %"
+           PRIu64 "; 9: %" PRIu64 "\n", met_latest.found, met_latest.given, met_latest.by_meaning, met_latest.held_back,
+           met_latest.too_small);
     printf("good sheets with land lines: %" PRIu64 ", of these without a rule: %" PRIu64 ", with rules that make 8: %" PRIu64
            ", that change the plan: %" PRIu64 "\n", met_land.sheets, met_land.no_rule, met_land.no_order, met_land.changed);
     printf("good sheets with spare triggers: %" PRIu64 ", of these the first: %" PRIu64 ", the last: %" PRIu64 ", one between: %" PRIu64
@@ -540,6 +577,10 @@ static void print_met(void)
            met_spares.several, met_spares.five);
     printf("triggers that one entry keeps from being spare: on the diagonal: %" PRIu64 ", in the row: %" PRIu64 ", in the column: %" PRIu64
            ", a land entry: %" PRIu64 "\n", met_spares.diagonal, met_spares.row, met_spares.column, met_spares.land);
+    printf("planned sheets with a last line: %" PRIu64 ", of these with land rules: %" PRIu64 ", with spare triggers: %" PRIu64
+           "; caps: %" PRIu64 ", of these below 0: %" PRIu64 ", for panels without a floor: %" PRIu64 "; times beside the caps in time: %"
+           PRIu64 ", late: %" PRIu64 "\n", met_last.sheets, met_last.land, met_last.spare, met_last.caps, met_last.below_0,
+           met_last.no_floor, met_last.in_time, met_last.late);
     for (i = 0; i < 10; i++) {
         refused_first += met.compared[i];
         refused_second += met.compared[TUZHELAR_SECOND + i];

@@ -8,53 +8,50 @@
 
 #include "meaning.h"
 #include "pairs.h"
-#include "tuzhelar.h"
-
-#define WORDS 700 /* of a space */
+#include "planned.h"
+#include "writer.h"
 
 struct met_land met_land;
 
-struct planned {
-    uint32_t number;
-    int64_t answer[TUZHELAR_PLAN_WORDS];
-    int32_t space[WORDS + 1]; /* one is not lent */
-};
-
-static void plan_front(struct planned *planned, const struct text *text, size_t length)
-{
-    memset(planned, 0, sizeof *planned);
-    planned->number = tuzhelar_plan(text->bytes, length, planned->space, WORDS, planned->answer, TUZHELAR_PLAN_WORDS);
-}
-
-static int same_plan(const struct planned *a, const struct planned *b)
-{
-    return a->number == b->number && memcmp(a->answer, b->answer, sizeof a->answer) == 0 && memcmp(a->space, b->space, sizeof a->space) == 0;
-}
-
-/* Where the land lines start, or the end of the sheet. No other line holds their key. */
-static size_t before_land(const struct text *text)
+/* Whether the sheet has land lines. No other line holds their key. */
+static int has_land(const struct text *text)
 {
     static const char KEY[] = "land=";
     size_t length = sizeof KEY - 1, at;
     for (at = 0; at + length <= text->length; at++) {
         if (memcmp(text->bytes + at, KEY, length) == 0) {
-            return at;
+            return 1;
         }
     }
-    return text->length;
+    return 0;
+}
+
+/* The same tables without the rules of the land lines. */
+static struct tables without_land(const struct tables *tables)
+{
+    struct tables fewer = *tables;
+    int i, j;
+    for (i = 0; i < MOST; i++) {
+        for (j = 0; j < MOST; j++) {
+            fewer.land[i][j] = NONE;
+        }
+    }
+    return fewer;
 }
 
 void check_land(const struct text *text, const struct tables *tables)
 {
     static struct planned whole, front;
-    size_t length = before_land(text);
+    struct tables fewer = without_land(tables);
+    struct text without;
     int same;
-    if (length == text->length) {
+    if (!has_land(text)) {
         return;
     }
-    plan_front(&whole, text, text->length);
-    plan_front(&front, text, length);
-    same = same_plan(&whole, &front);
+    write_tables(&fewer, 0, &without);
+    plan_text(&whole, text);
+    plan_text(&front, &without);
+    same = memcmp(&whole, &front, sizeof whole) == 0;
     expect(same || has_land_rule(tables), "land lines without a rule change the plan");
     met_land.sheets++;
     met_land.no_rule += !has_land_rule(tables);

@@ -1,22 +1,23 @@
 /*
- * Document 02, No. 1. For a sheet that has a plan and times within the limits: where the space holds the list, it holds it as after planning;
- * the times given back are tightest by the meaning of the sheet and by tuzhelar_test, none is later than given, and they are what lowering the
- * given times by the meaning comes to or, where that would take long, what the list makes with the largest weights that fit; a spare
- * trigger's is the one given (No. 4). Where the space does not hold the list, 9 gives the count and writes nothing else; nor does any other
- * refusal write anything.
+ * Document 02, No. 1 and 5. For a sheet that has a plan and times within the limits: where the space holds the list, it holds it as after
+ * planning; the times given back are tightest and in time by the meaning of the sheet and by tuzhelar_test, none is later than given, and they
+ * are what lowering the given times by the meaning comes to or, where that would take long, what the list makes with the largest weights that
+ * fit and are no greater than the caps; a spare trigger's is the one given (No. 4). Where the space does not hold the list, 9 gives the count
+ * and the words of a line and writes nothing else; nor does any other refusal write anything.
  */
 #include "latest.h"
 
 #include <string.h>
 
 #include "lent.h"
+#include "list.h"
 #include "meaning.h"
 #include "pairs.h"
 #include "spares.h"
 #include "tuzhelar.h"
 
-#define WORDS 14008       /* of a space, at most: those that the program `plan` lends, and some */
-#define ANSWER_WORDS 9    /* of the answer, at most */
+#define WORDS 16008       /* of a space, at most: those that the program `plan` lends, and some */
+#define ANSWER_WORDS 10   /* of the answer, at most */
 #define MOST_TIMES 8      /* that are lent, at most */
 #define WISHES 3          /* times given for each sheet */
 #define ROUNDS 2000       /* in which times are lowered */
@@ -160,13 +161,29 @@ static int64_t latest_by_rules(const struct tables *tables, const int64_t *times
     return latest;
 }
 
+/* The latest that trigger j may come by the last moments of the panels that it reaches. */
+static int64_t latest_by_moments(const struct tables *tables, int64_t time, int j)
+{
+    int panel;
+    for (panel = 0; has_last(tables) && panel < tables->panels; panel++) {
+        if (tables->lag[panel][j] != NONE) {
+            time = earlier(time, tables->last[panel] - tables->lag[panel][j]);
+        }
+    }
+    return time;
+}
+
 /*
- * Lowers times until they keep the after and land rules and none is too late for the landings. All tightest times that are no later than those
- * given stay no later than these, and where these come to rest they are tightest. Returns whether they did. Spare triggers are not lowered.
+ * Lowers times until they meet the last moments, keep the after and land rules and none is too late for the landings. All tightest times in
+ * time that are no later than those given stay no later than these, and where these come to rest they are such. Returns whether they did.
+ * Spare triggers are not lowered.
  */
 static int lower(const struct tables *tables, int64_t least, int64_t *times)
 {
     int n = tables->triggers, round, lowered, j;
+    for (j = 0; j < n; j++) {
+        times[j] = latest_by_moments(tables, times[j], j);
+    }
     for (round = 0; round < ROUNDS; round++) {
         int64_t most = least - early(tables, times);
         for (lowered = 0, j = 0; j < n; j++) {
@@ -181,23 +198,25 @@ static int lower(const struct tables *tables, int64_t least, int64_t *times)
     return 0;
 }
 
-/* The list with the largest weights that lift no component above the given times, which spare triggers keep. */
-static void weigh(const struct tables *tables, const int32_t *lines, size_t count, const int64_t *given, int64_t *times)
+/*
+ * The list with the largest weights that lift no component above the given times, which spare triggers keep; where `capped` is set, with none
+ * greater than its cap.
+ */
+static void weigh(const struct tables *tables, const struct list *list, int capped, const int64_t *given, int64_t *times)
 {
     int n = tables->triggers, j;
     size_t i;
-    for (j = 0; j < n; j++) {
-        times[j] = is_spare(tables, j) ? given[j] : NONE;
+    clear_times(times);
+    for (i = 0; i < list->count; i++) {
+        const int32_t *line = line_at(list, i);
+        int64_t weight = capped ? cap_at(list, i) : INT64_MAX;
+        for (j = 0; j < n; j++) {
+            weight = line[1 + j] == TUZHELAR_ABSENT ? weight : earlier(weight, given[j] - line[1 + j]);
+        }
+        lift(times, line, weight);
     }
-    for (i = 0; i < count; i++) {
-        const int32_t *line = lines + TUZHELAR_LINE_WORDS * i + 1;
-        int64_t weight = INT64_MAX;
-        for (j = 0; j < n; j++) {
-            weight = line[j] == TUZHELAR_ABSENT ? weight : earlier(weight, given[j] - line[j]);
-        }
-        for (j = 0; j < n; j++) {
-            times[j] = line[j] == TUZHELAR_ABSENT ? times[j] : later(times[j], weight + line[j]);
-        }
+    for (j = 0; j < n; j++) {
+        times[j] = is_spare(tables, j) ? given[j] : times[j];
     }
 }
 
@@ -226,15 +245,15 @@ static int64_t moved(struct random *random, int manner, int64_t time)
     }
 }
 
-/* Times that the list makes, or some or all of them moved, anywhere or at a limit; for spare triggers any. */
-static void wish(struct random *random, const struct tables *tables, const int32_t *lines, size_t count, int64_t *times)
+/* Times that the list makes, in time or not, or some or all of them moved, anywhere or at a limit; for spare triggers any. */
+static void wish(struct random *random, const struct tables *tables, const struct list *list, int64_t *times)
 {
     int n = tables->triggers, far = chance(random, 20), manner = below(random, 6), all = chance(random, 50), j;
     int64_t around[MOST];
     for (j = 0; j < n; j++) {
         around[j] = far ? limit(random) : between(random, -1000, 1000);
     }
-    weigh(tables, lines, count, around, times);
+    weigh(tables, list, chance(random, 50), around, times);
     for (j = 0; j < n; j++) {
         times[j] = all || chance(random, 50) ? moved(random, manner, times[j]) : times[j];
         times[j] = later(-(int64_t)TUZHELAR_LAST_TIME, earlier(TUZHELAR_LAST_TIME, times[j]));
@@ -253,7 +272,15 @@ static int within(const int64_t *times, int n)
     return 1;
 }
 
-static void check_times(const struct asked *asked, const struct tables *tables, const int32_t *lines, size_t count, int64_t least,
+/* Whether it is for the last moments that the latest times are no later. */
+static int held_back(const struct tables *tables, const struct list *list, const int64_t *given, const int64_t *found)
+{
+    int64_t times[MOST];
+    weigh(tables, list, 0, given, times);
+    return memcmp(found, times, (size_t)tables->triggers * sizeof *found) != 0;
+}
+
+static void check_times(const struct asked *asked, const struct tables *tables, const struct list *list, int64_t least,
                         const int64_t *found)
 {
     int64_t wanted[MOST];
@@ -262,7 +289,7 @@ static void check_times(const struct asked *asked, const struct tables *tables, 
     if (lower(tables, least, wanted)) {
         met_latest.by_meaning++;
     } else {
-        weigh(tables, lines, count, asked->times, wanted);
+        weigh(tables, list, 1, asked->times, wanted);
     }
     for (j = 0; j < n; j++) {
         expect(!is_spare(tables, j) || found[j] == asked->times[j], "the latest times: a spare trigger's is not the one given");
@@ -272,16 +299,38 @@ static void check_times(const struct asked *asked, const struct tables *tables, 
         expect(j >= n || found[j] <= asked->times[j], "the latest times: one is later than given");
     }
     expect(keeps_order(tables, found) && deviation(tables, found) == least, "the latest times are not tightest by the meaning");
+    expect(in_time(tables, found), "the latest times are not in time by the meaning");
     expect(!within(found, n) || tuzhelar_test(asked->text->bytes, asked->text->length, found, (size_t)n) == TUZHELAR_YES,
-           "the latest times are not tightest by the test");
+           "the latest times are not tightest and in time by the test");
     met_latest.found++;
     met_latest.given += memcmp(found, asked->times, (size_t)n * sizeof *found) == 0;
+    met_latest.held_back += held_back(tables, list, asked->times, found);
 }
 
-void check_latest(struct random *random, const struct text *text, const struct tables *tables, const int32_t *lines, size_t count,
-                  int64_t least)
+/* A word of the answer of a length: as wanted, or not there. */
+static void check_word(const struct asked *asked, struct answered *answered, size_t at, size_t wanted, const char *what)
 {
-    size_t needed = count * TUZHELAR_LINE_WORDS;
+    expect(at >= asked->answer_length || answered->words[at] == (int64_t)wanted, what);
+    answered->words[at] = UNTOUCHED;
+}
+
+/* A line too few, or none, and an answer of any length. */
+static void check_too_small(struct random *random, struct asked *asked, const struct list *list)
+{
+    struct answered answered;
+    asked->words = chance(random, 50) ? 0 : list->count * list->wide - (size_t)between(random, 1, (int64_t)list->wide);
+    asked->answer_length = (size_t)below(random, ANSWER_WORDS + 1);
+    answered = ask(random, asked);
+    expect(answered.number == TUZHELAR_SPACE, "the latest times: too few words are not 9");
+    check_word(asked, &answered, 0, list->count, "the latest times: 9 does not give the count needed");
+    check_word(asked, &answered, 7, list->wide, "the latest times: 9 does not give the words of a line");
+    rest_stays(asked, &answered, 0, 0);
+    met_latest.too_small++;
+}
+
+void check_latest(struct random *random, const struct text *text, const struct tables *tables, const struct list *list, int64_t least)
+{
+    size_t needed = list->count * list->wide;
     int64_t times[MOST];
     struct asked asked;
     struct answered answered;
@@ -290,21 +339,17 @@ void check_latest(struct random *random, const struct text *text, const struct t
     asked.times = times;
     asked.times_length = (size_t)tables->triggers;
     for (tries = 0; tries < WISHES; tries++) {
-        wish(random, tables, lines, count, times);
+        wish(random, tables, list, times);
         asked.words = needed + (size_t)below(random, 9);
         asked.answer_length = ANSWER_WORDS;
         answered = ask(random, &asked);
-        expect(answered.number == TUZHELAR_DONE && answered.words[0] == (int64_t)count, "the latest times: not 0 with the number of lines");
-        expect(memcmp(answered.space, lines, needed * sizeof *lines) == 0, "the latest times: the space does not hold the list");
+        expect(answered.number == TUZHELAR_DONE && answered.words[0] == (int64_t)list->count,
+               "the latest times: not 0 with the number of lines");
+        expect(answered.words[7] == (int64_t)list->wide, "the latest times: not with the words of a line");
+        expect(memcmp(answered.space, list->words, needed * sizeof *list->words) == 0,
+               "the latest times: the space does not hold the list");
         rest_stays(&asked, &answered, TUZHELAR_LATEST_WORDS, needed);
-        check_times(&asked, tables, lines, count, least, answered.words + 1);
+        check_times(&asked, tables, list, least, answered.words + 1);
     }
-    /* A line too few, or none, and an answer of any length. */
-    asked.words = chance(random, 50) ? 0 : needed - (size_t)between(random, 1, TUZHELAR_LINE_WORDS);
-    asked.answer_length = (size_t)below(random, ANSWER_WORDS + 1);
-    answered = ask(random, &asked);
-    expect(answered.number == TUZHELAR_SPACE, "the latest times: too few words are not 9");
-    expect(asked.answer_length == 0 || answered.words[0] == (int64_t)count, "the latest times: 9 does not give the count needed");
-    rest_stays(&asked, &answered, asked.answer_length == 0 ? 0 : 1, 0);
-    met_latest.too_small++;
+    check_too_small(random, &asked, list);
 }

@@ -1,13 +1,14 @@
-/* The latest tightest times that are no later than given ones, held to the list and to what the sheet means. */
+/* The latest times that are tightest, in time and no later than given ones, held to the list and to what the sheet means. */
 #ifndef LATEST_H
 #define LATEST_H
 
+#include "list.h"
 #include "reader.h"
 #include "sheets.h"
 
-/* What was met: times found, of these the given ones, those found by the meaning alone, and 9. */
+/* What was met: times found, of these the given ones, those found by the meaning alone, those that last moments hold back, and 9. */
 struct met_latest {
-    uint64_t found, given, by_meaning, too_small;
+    uint64_t found, given, by_meaning, held_back, too_small;
 };
 extern struct met_latest met_latest;
 
@@ -21,7 +22,6 @@ void check_latest_refused(struct random *random, const struct text *text, const 
 void check_latest_many(const struct text *text, size_t length, uint32_t number);
 
 /* A sheet that has a plan: its list and its least deviation are known. */
-void check_latest(struct random *random, const struct text *text, const struct tables *tables, const int32_t *lines, size_t count,
-                  int64_t least);
+void check_latest(struct random *random, const struct text *text, const struct tables *tables, const struct list *list, int64_t least);
 
 #endif

@@ -1,15 +1,15 @@
-/* Document 01, "One cue in one house", and document 02, No. 2 and 4: times on the tables of a sheet, and none of the method. */
+/* Document 01, "One cue in one house", and document 02, No. 2, 4 and 5: times on the tables of a sheet, and none of the method. */
 #include "meaning.h"
 
 #define PLACES (2 * MOST) /* of a circle: the triggers, then the panels */
 
-/* y(i), the largest a(i,j) + x(j). */
+/* y(i), the largest a(i,j) + x(j); absent where no trigger with a time reaches the panel. */
 static int64_t landing(const struct tables *tables, const int64_t *times, int panel)
 {
     int64_t largest = NONE;
     int j;
     for (j = 0; j < tables->triggers; j++) {
-        if (tables->lag[panel][j] != NONE && tables->lag[panel][j] + times[j] > largest) {
+        if (tables->lag[panel][j] != NONE && times[j] != NONE && tables->lag[panel][j] + times[j] > largest) {
             largest = tables->lag[panel][j] + times[j];
         }
     }
@@ -93,6 +93,22 @@ int64_t deviation(const struct tables *tables, const int64_t *times)
         late = by > late ? by : late;
     }
     return late + early(tables, times);
+}
+
+int has_last(const struct tables *tables)
+{
+    return tables->last[0] != NONE;
+}
+
+int in_time(const struct tables *tables, const int64_t *times)
+{
+    int i;
+    for (i = 0; has_last(tables) && i < tables->panels; i++) {
+        if (landing(tables, times, i) > tables->last[i]) {
+            return 0;
+        }
+    }
+    return 1;
 }
 
 int has_land_rule(const struct tables *tables)

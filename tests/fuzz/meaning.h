@@ -19,6 +19,12 @@ int spares(const struct tables *tables);
 /* The largest x(j) - q(j) over triggers that are not spare, and how early the landings are. */
 int64_t deviation(const struct tables *tables, const int64_t *times);
 
+/* Whether the sheet has a last line. */
+int has_last(const struct tables *tables);
+
+/* Whether no panel lands later than the last line allows, if there is one. Times may be absent, as in a line: then nothing lands by them. */
+int in_time(const struct tables *tables, const int64_t *times);
+
 /* Whether a trigger waits for a landing. */
 int has_land_rule(const struct tables *tables);
 

@@ -1,13 +1,13 @@
 /*
- * Document 01, "The sheet" and "Reading", and document 02, No. 2. A line is taken whole, up to its LF, split at its commas, and then asked
- * for each kind of fault in turn: "in one line 2 before 3 before 4 before 5".
+ * Document 01, "The sheet" and "Reading", and document 02, No. 2 and 5. A line is taken whole, up to its LF, split at its commas, and then
+ * asked for each kind of fault in turn: "in one line 2 before 3 before 4 before 5".
  */
 #include "reader.h"
 
 #include <string.h>
 
-/* What a line's items may be. */
-enum rule { SIZE, ENTRY, DUE };
+/* What a line's items may be: a size, an entry that may be absent, or one that may not. */
+enum rule { SIZE, ENTRY, PRESENT };
 
 /* What one item is. */
 enum form { WRONG, ABSENT, NUMBER };
@@ -96,7 +96,7 @@ static uint32_t fault(enum rule rule, const struct item *items, size_t count)
         }
     }
     for (i = 0; i < count; i++) {
-        if (rule == DUE && items[i].form == ABSENT) {
+        if (rule == PRESENT && items[i].form == ABSENT) {
             return 5;
         }
     }
@@ -168,54 +168,69 @@ static void clear(struct tables *tables)
     int i, j;
     tables->panels = tables->triggers = 0;
     for (i = 0; i < MOST; i++) {
-        tables->floor[i] = tables->due[i] = NONE;
+        tables->floor[i] = tables->due[i] = tables->last[i] = NONE;
         for (j = 0; j < MOST; j++) {
             tables->lag[i][j] = tables->after[i][j] = tables->land[i][j] = NONE;
         }
     }
 }
 
+/* The lines of sizes and tables. */
+static uint32_t read_front(struct reading *reading, struct tables *tables)
+{
+    int64_t size = 0;
+    uint32_t refusal;
+    int m, n;
+    if ((refusal = read_line(reading, "panels=", SIZE, 1, &size)) != 0) {
+        return refusal;
+    }
+    m = tables->panels = (int)size;
+    if ((refusal = read_line(reading, "triggers=", SIZE, 1, &size)) != 0) {
+        return refusal;
+    }
+    n = tables->triggers = (int)size;
+    if ((refusal = read_rows(reading, "lag=", m, n, tables->lag)) != 0) {
+        return refusal;
+    }
+    if ((refusal = read_line(reading, "floor=", ENTRY, m, tables->floor)) != 0) {
+        return refusal;
+    }
+    if ((refusal = read_line(reading, "due=", PRESENT, n, tables->due)) != 0) {
+        return refusal;
+    }
+    return read_rows(reading, "after=", n, n, tables->after);
+}
+
+/* The lines that may follow. "Either all n lines are there or none": one land key, and all must be. Any other bytes are left over. */
+static uint32_t read_further(struct reading *reading, struct tables *tables)
+{
+    int m = tables->panels, n = tables->triggers;
+    uint32_t refusal;
+    if (key_follows(reading, "land=") && (refusal = read_rows(reading, "land=", n, m, tables->land)) != 0) {
+        return refusal;
+    }
+    if (key_follows(reading, "last=") && (refusal = read_line(reading, "last=", PRESENT, m, tables->last)) != 0) {
+        return refusal;
+    }
+    return reading->length == 0 ? 0 : 2;
+}
+
 uint32_t read_tables(const uint8_t *sheet, size_t length, struct tables *tables)
 {
     struct reading reading = {sheet, length};
-    int64_t size = 0;
     uint32_t refusal;
-    int m, n, i;
+    int i;
     clear(tables);
     if (length > LONGEST) {
         return 1;
     }
-    if ((refusal = read_line(&reading, "panels=", SIZE, 1, &size)) != 0) {
+    if ((refusal = read_front(&reading, tables)) != 0 || (refusal = read_further(&reading, tables)) != 0) {
         return refusal;
     }
-    m = tables->panels = (int)size;
-    if ((refusal = read_line(&reading, "triggers=", SIZE, 1, &size)) != 0) {
-        return refusal;
-    }
-    n = tables->triggers = (int)size;
-    if ((refusal = read_rows(&reading, "lag=", m, n, tables->lag)) != 0) {
-        return refusal;
-    }
-    if ((refusal = read_line(&reading, "floor=", ENTRY, m, tables->floor)) != 0) {
-        return refusal;
-    }
-    if ((refusal = read_line(&reading, "due=", DUE, n, tables->due)) != 0) {
-        return refusal;
-    }
-    if ((refusal = read_rows(&reading, "after=", n, n, tables->after)) != 0) {
-        return refusal;
-    }
-    /* "Either all n lines are there or none": one such key, and all must be. Any other bytes are left over. */
-    if (key_follows(&reading, "land=") && (refusal = read_rows(&reading, "land=", n, m, tables->land)) != 0) {
-        return refusal;
-    }
-    if (reading.length != 0) {
-        return 2;
-    }
-    for (i = 0; i < m; i++) {
-        if (all_absent(tables->lag[i], n)) {
+    for (i = 0; i < tables->panels; i++) {
+        if (all_absent(tables->lag[i], tables->triggers)) {
             return 6;
         }
     }
-    return all_absent(tables->floor, m) ? 7 : 0;
+    return all_absent(tables->floor, tables->panels) ? 7 : 0;
 }

@@ -14,6 +14,7 @@ struct tables {
     int panels, triggers;
     int64_t lag[MOST][MOST], floor[MOST], due[MOST], after[MOST][MOST];
     int64_t land[MOST][MOST]; /* by trigger, then panel; a sheet without such lines has none */
+    int64_t last[MOST];       /* a sheet without such a line has none */
 };
 
 /* 0 and the sheet's tables, or the refusal, 1 to 7. Entries past the sheet's sizes are absent. */

@@ -30,6 +30,7 @@ static void exchange_panels(struct tables *tables, int a, int b)
 {
     int j;
     exchange(&tables->floor[a], &tables->floor[b]);
+    exchange(&tables->last[a], &tables->last[b]);
     for (j = 0; j < tables->triggers; j++) {
         exchange(&tables->lag[a][j], &tables->lag[b][j]);
         exchange(&tables->land[j][a], &tables->land[j][b]);
@@ -57,6 +58,7 @@ static void repeat_panel(struct tables *tables, int panel, int64_t floor, int wa
             tables->land[j][tables->panels] = waited_for ? tables->land[j][panel] : NONE;
         }
         tables->floor[tables->panels] = floor;
+        tables->last[tables->panels] = tables->last[panel];
         tables->panels++;
     }
 }
@@ -108,12 +110,21 @@ static void move_spare_due(struct random *random, struct tables *tables, int tri
     }
 }
 
+void change_last(struct random *random, struct tables *tables)
+{
+    int gone = has_last(tables) && chance(random, 40), far = chance(random, 30), i;
+    for (i = 0; i < tables->panels; i++) {
+        int64_t moment = far ? between(random, -LIMIT, LIMIT) : between(random, -9, 9);
+        tables->last[i] = gone ? NONE : moment;
+    }
+}
+
 /* A change after which the same timings are tightest, and the same triggers spare. */
 static void keep_timings(struct random *random, struct tables *tables)
 {
     int panel = below(random, tables->panels);
     int64_t by = between(random, -3, 3), lower = tables->floor[panel];
-    switch (below(random, 9)) {
+    switch (below(random, 11)) {
     case 0:
         move_all(tables->floor, tables->panels, by);
         break;
@@ -139,6 +150,10 @@ static void keep_timings(struct random *random, struct tables *tables)
         break;
     case 7:
         move_spare_due(random, tables, below(random, tables->triggers));
+        break;
+    case 8:
+    case 9:
+        change_last(random, tables);
         break;
     default:
         add_rule(random, tables);

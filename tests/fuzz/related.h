@@ -11,4 +11,7 @@
  */
 int make_related(struct random *random, const struct tables *tables, struct text *text);
 
+/* Another last line, one where there was none, or none. Which timings are tightest does not depend on it. */
+void change_last(struct random *random, struct tables *tables);
+
 #endif

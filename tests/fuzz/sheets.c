@@ -318,6 +318,24 @@ static void add_tied(struct random *random, struct draft *draft, const struct ma
     }
 }
 
+/* Panels without a floor that one trigger alone reaches, so that lines need not: only panels with a floor are reached by all. */
+static void thin_lags(struct random *random, struct draft *draft)
+{
+    const struct line *floors = line_of(draft, "floor=", 0);
+    int i, j, only;
+    for (i = 0; i < draft->m; i++) {
+        struct line *lags = line_of(draft, "lag=", i);
+        for (only = below(random, draft->n); is_absent(&lags->items[only]);) {
+            only = below(random, draft->n);
+        }
+        for (j = 0; is_absent(&floors->items[i]) && j < draft->n; j++) {
+            if (j != only) {
+                set_item(lags, j, "-");
+            }
+        }
+    }
+}
+
 /* ---- Idle triggers: with no entry left they are spare, with one they are not */
 
 static int is_idle(const struct draft *draft, int trigger)
@@ -438,20 +456,61 @@ static void use_some(struct random *random, struct draft *draft)
     }
 }
 
+/* ---- Last moments */
+
+/* A last moment by one of several ways: near when the panel lands with the draft's times, the same as others, at the limits, or anyhow. */
+static int64_t draw_moment(struct random *random, struct draft *draft, const struct manner *manner, int way, int64_t downbeat, int panel)
+{
+    static const int64_t EXTREMES[] = {LIMIT, -LIMIT, LIMIT - 1, 1 - LIMIT};
+    int64_t reach = chance(random, 50) ? 3 : manner->size;
+    switch (way) {
+    case 0:
+        return downbeat;
+    case 1:
+        return EXTREMES[below(random, COUNT_OF(EXTREMES))];
+    case 2:
+        return number(random, manner);
+    default:
+        return landing(draft, panel) + between(random, -reach, reach);
+    }
+}
+
+/* Panels without a floor, which a line need not reach, often have the earlier moments. */
+static void add_last(struct random *random, struct draft *draft, const struct manner *manner)
+{
+    const struct line *floors = line_of(draft, "floor=", 0);
+    struct line *line = add_line(draft, "last=");
+    int way = below(random, 7), earlier = chance(random, 50), i;
+    int64_t downbeat = number(random, manner);
+    for (i = 0; i < draft->m; i++) {
+        int64_t moment = draw_moment(random, draft, manner, way, downbeat, i);
+        if (earlier && is_absent(&floors->items[i])) {
+            moment -= between(random, 0, 2 * manner->size);
+        }
+        add_number(line, moment < -LIMIT ? -LIMIT : moment > LIMIT ? LIMIT : moment);
+    }
+}
+
 /* ---- Good sheets, whole */
 
-static void make_draft(struct random *random, struct draft *draft)
+static struct manner draw_manner(struct random *random)
 {
     static const int64_t SIZES[] = {1, 1, 2, 3, 9, 400, 2000, LIMIT};
     static const int ABSENT[] = {0, 0, 20, 50, 80};
     struct manner manner;
-    int i;
     manner.size = SIZES[below(random, COUNT_OF(SIZES))];
     manner.extreme = manner.size == LIMIT && chance(random, 50);
     manner.no_lag = ABSENT[below(random, COUNT_OF(ABSENT))];
     manner.no_floor = ABSENT[below(random, COUNT_OF(ABSENT))];
     manner.no_after = chance(random, 40) ? 100 : 20 + below(random, 81);
     manner.no_land = chance(random, 20) ? 100 : 20 + below(random, 81);
+    return manner;
+}
+
+static void make_draft(struct random *random, struct draft *draft)
+{
+    struct manner manner = draw_manner(random);
+    int i;
     memset(draft, 0, sizeof *draft);
     draft->m = 1 + below(random, MOST);
     draft->n = 1 + below(random, MOST);
@@ -470,6 +529,9 @@ static void make_draft(struct random *random, struct draft *draft)
         add_row(random, draft, "floor=", &manner, draft->m, manner.no_floor, 1);
         add_row(random, draft, "due=", &manner, draft->n, 0, 0);
     }
+    if (chance(random, 20)) {
+        thin_lags(random, draft);
+    }
     take_lags(draft);
     move_due(random, draft);
     if (chance(random, 90)) {
@@ -482,6 +544,9 @@ static void make_draft(struct random *random, struct draft *draft)
     }
     take_rules(draft);
     use_some(random, draft);
+    if (chance(random, 35)) {
+        add_last(random, draft, &manner);
+    }
 }
 
 /* ---- Faults of chosen kinds */
@@ -493,7 +558,7 @@ static const char *const BEYOND[] = {"100001",     "-100001",     "1000000",    
                                      "2147483648", "-2147483649", "4294967301", "18446744073709551621", "-18446744073709551615"};
 static const char *const AT_LIMIT[] = {"100000", "-100000", "99999", "-99999"};
 static const char *const WRONG_SIZES[] = {"0", "7", "-1", "10", "-6", "66", "100001", "4294967298", "18446744073709551618"};
-static const char *const KEYS[] = {"panels=", "triggers=", "lag=", "floor=", "due=", "after=", "land="};
+static const char *const KEYS[] = {"panels=", "triggers=", "lag=", "floor=", "due=", "after=", "land=", "last="};
 static const struct {
     const char *bytes;
     int length;
@@ -648,6 +713,80 @@ static void add_land_fault(struct random *random, struct draft *draft)
     }
 }
 
+/* A last line of small moments, behind all others. */
+static void add_small_last(struct random *random, struct draft *draft)
+{
+    static const struct manner small = {9, 0, 0, 0, 0, 0};
+    if (draft->count < LINES) {
+        add_row(random, draft, "last=", &small, draft->m, 0, 0);
+    }
+}
+
+/* A moment that is absent, and often one beside it that is beyond the limit, or wrong. */
+static void absent_moment(struct random *random, struct line *line)
+{
+    int at = line->count > 0 ? below(random, line->count) : 0, beside = line->count > 1 ? (at + 1) % line->count : at;
+    if (chance(random, 50)) {
+        set_item(line, beside, BEYOND[below(random, COUNT_OF(BEYOND))]);
+    } else if (chance(random, 30)) {
+        set_item(line, beside, WRONG_NUMERALS[below(random, COUNT_OF(WRONG_NUMERALS))]);
+    }
+    set_item(line, at, "-");
+}
+
+/* A fault of the last line, which stands at a place, or something beside one. */
+static void wrong_last(struct random *random, struct draft *draft, int at)
+{
+    int land = place_of(draft, "land=", below(random, draft->n));
+    struct line *line = &draft->lines[at];
+    switch (below(random, 11)) {
+    case 0:
+        repeat_line(draft, at);
+        break;
+    case 1:
+        wrong_count(random, line, draft->n);
+        break;
+    case 2:
+        wrong_key(random, line);
+        break;
+    case 3:
+    case 4:
+        /* Before a land line where there is one. */
+        exchange_lines(draft, at, land < 0 ? below(random, draft->count) : land);
+        break;
+    case 5:
+        add_small_last(random, draft);
+        break;
+    case 6:
+        set_any(random, line, BEYOND[below(random, COUNT_OF(BEYOND))]);
+        break;
+    case 7:
+        set_any(random, line, AT_LIMIT[below(random, COUNT_OF(AT_LIMIT))]);
+        break;
+    case 8:
+        line->end_length = 0;
+        break;
+    default:
+        absent_moment(random, line);
+    }
+}
+
+/* A sheet that has no last line gets one, and often no fault of it. Some get what is refused as 6 or 7 only where the last line is good. */
+static void add_last_fault(struct random *random, struct draft *draft)
+{
+    int had = place_of(draft, "last=", 0) >= 0, at;
+    if (!had) {
+        add_small_last(random, draft);
+    }
+    if (chance(random, 15)) {
+        all_absent_in(line_of(draft, chance(random, 50) ? "lag=" : "floor=", 0));
+    }
+    at = place_of(draft, "last=", 0);
+    if (at >= 0 && (had || chance(random, 70))) {
+        wrong_last(random, draft, at);
+    }
+}
+
 /* One fault, or something beside one, of a kind and at a place that are drawn. */
 static void add_fault(struct random *random, struct draft *draft)
 {
@@ -657,7 +796,7 @@ static void add_fault(struct random *random, struct draft *draft)
         wrong_due(random, draft);
         return;
     }
-    switch (below(random, 22)) {
+    switch (below(random, 27)) {
     case 0:
         wrong_key(random, line);
         break;
@@ -722,8 +861,14 @@ static void add_fault(struct random *random, struct draft *draft)
     case 17:
         circle(random, draft);
         break;
-    default:
+    case 18:
+    case 19:
+    case 20:
+    case 21:
         add_land_fault(random, draft);
+        break;
+    default:
+        add_last_fault(random, draft);
     }
 }
 
@@ -799,9 +944,11 @@ static void change(struct random *random, struct text *text)
     }
 }
 
-/* What random bytes may stand behind: the sizes, a good sheet, and one that has begun with its land lines. */
+/* What random bytes may stand behind: the sizes, a good sheet, and one that has begun with its land lines or with its last line. */
 static const char *const FRONTS[] = {"panels=1\ntriggers=1\n", "panels=1\ntriggers=1\nlag=5\nfloor=0\ndue=0\nafter=-\n",
-                                     "panels=1\ntriggers=1\nlag=5\nfloor=0\ndue=0\nafter=-\nland="};
+                                     "panels=1\ntriggers=1\nlag=5\nfloor=0\ndue=0\nafter=-\nland=",
+                                     "panels=1\ntriggers=1\nlag=5\nfloor=0\ndue=0\nafter=-\nlast=",
+                                     "panels=1\ntriggers=1\nlag=5\nfloor=0\ndue=0\nafter=-\nland=-\nlast="};
 
 static void random_bytes(struct random *random, struct text *text)
 {

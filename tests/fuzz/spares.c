@@ -1,7 +1,8 @@
 /*
  * Document 02, No. 4, beside what the meaning says of times. A sheet with spare triggers is planned again
  * - with other due marks for them: nothing is other than before;
- * - without them: deviation, steps, selections and count are the same, and so are the lines and the kept triggers, each at its own place;
+ * - without them: deviation, steps, selections and count are the same, and so are the lines, their caps and the kept triggers, each at its
+ *   own place;
  * - with a rule x(j) >= x(j) for each of them, so that none is spare: deviation, steps, selections and the kept triggers are the same, and
  *   the list is what is left of that one without the lines that have a component for one of them.
  */
@@ -11,33 +12,9 @@
 
 #include "meaning.h"
 #include "pairs.h"
-#include "tuzhelar.h"
-#include "writer.h"
-
-#define WORDS 700 /* of a space */
+#include "planned.h"
 
 struct met_spares met_spares;
-
-struct planned {
-    uint32_t number;
-    int64_t answer[TUZHELAR_PLAN_WORDS], kept[TUZHELAR_KEPT_WORDS];
-    int32_t space[WORDS + 1]; /* one is not lent */
-};
-
-static void plan_text(struct planned *planned, const struct text *text)
-{
-    memset(planned, 0, sizeof *planned);
-    planned->number = tuzhelar_plan(text->bytes, text->length, planned->space, WORDS, planned->answer, TUZHELAR_PLAN_WORDS);
-    planned->answer[3] = planned->number == TUZHELAR_DONE ? planned->answer[3] : 0; /* on a refusal the space has no lines */
-    tuzhelar_kept(text->bytes, text->length, planned->kept, TUZHELAR_KEPT_WORDS);
-}
-
-static void plan_tables(struct random *random, struct planned *planned, const struct tables *tables)
-{
-    struct text text;
-    write_tables(tables, chance(random, 50), &text);
-    plan_text(planned, &text);
-}
 
 void fill_spares(struct random *random, const struct tables *tables, int64_t *times)
 {
@@ -110,7 +87,7 @@ static struct tables without_spares(const struct tables *tables)
     return fewer;
 }
 
-/* A line, each component at its own trigger of the sheet. */
+/* A line, each component at its own trigger of the sheet. Its cap, if it has one, is not looked at. */
 static int is_laid_out(const struct tables *tables, const int32_t *line, const int32_t *fewer)
 {
     int at[MOST], count = places(tables, at), j, k = 0;
@@ -137,16 +114,19 @@ static void check_without(struct random *random, const struct tables *tables, co
 {
     static struct planned fewer;
     struct tables others = without_spares(tables);
-    int64_t line;
+    struct list list = planned_list(planned, tables), fewer_list;
+    size_t line;
     int i;
     plan_tables(random, &fewer, &others);
+    fewer_list = planned_list(&fewer, &others);
     expect(fewer.number == planned->number, "without its spare triggers a sheet is refused, or with them");
     expect(memcmp(fewer.answer, planned->answer, 4 * sizeof *fewer.answer) == 0,
            "without its spare triggers a sheet has another deviation, or other steps, selections or count");
     expect(fewer.answer[4] == 0, "without its spare triggers a sheet has one");
-    for (line = 0; line < planned->answer[3]; line++) {
-        expect(is_laid_out(tables, planned->space + TUZHELAR_LINE_WORDS * line, fewer.space + TUZHELAR_LINE_WORDS * line),
+    for (line = 0; line < list.count; line++) {
+        expect(is_laid_out(tables, line_at(&list, line), line_at(&fewer_list, line)),
                "a line is not that of the sheet without its spare triggers");
+        expect(cap_at(&list, line) == cap_at(&fewer_list, line), "a cap is not that of the sheet without its spare triggers");
     }
     expect(memcmp(fewer.kept, planned->kept, 4 * sizeof *fewer.kept) == 0, "the kept table has other numbers without the spare triggers");
     for (i = 4; i < TUZHELAR_KEPT_WORDS; i += 2) {
@@ -168,35 +148,36 @@ static int has_one_of(int byte, const int32_t *line)
     return 0;
 }
 
-/* The lines of a larger list that have no component for a trigger of the byte are those of the list. */
-static int is_rest(const struct planned *planned, const struct planned *larger, int byte)
+/* The lines of a larger list that have no component for a trigger of the byte are those of the list, with their caps. */
+static int is_rest(const struct list *list, const struct list *larger, int byte)
 {
-    const size_t size = TUZHELAR_LINE_WORDS * sizeof(int32_t);
-    int64_t line, at = 0;
-    for (line = 0; line < larger->answer[3]; line++) {
-        const int32_t *words = larger->space + TUZHELAR_LINE_WORDS * line;
+    size_t line, at = 0;
+    for (line = 0; line < larger->count; line++) {
+        const int32_t *words = line_at(larger, line);
         if (!has_one_of(byte, words)) {
-            if (at == planned->answer[3] || memcmp(words, planned->space + TUZHELAR_LINE_WORDS * at, size) != 0) {
+            if (at == list->count || memcmp(words, line_at(list, at), list->wide * sizeof *words) != 0) {
                 return 0;
             }
             at++;
         }
     }
-    return at == planned->answer[3];
+    return at == list->count;
 }
 
 static void check_in_use(struct random *random, const struct tables *tables, const struct planned *planned)
 {
     static struct planned larger;
     struct tables in_use = all_in_use(tables);
+    struct list list = planned_list(planned, tables), larger_list;
     plan_tables(random, &larger, &in_use);
+    larger_list = planned_list(&larger, &in_use);
     expect(larger.number == planned->number, "a rule that asks for nothing makes a sheet refused, or good");
     expect(memcmp(larger.answer, planned->answer, 3 * sizeof *larger.answer) == 0,
            "where its spare triggers are not spare a sheet has another deviation, or other steps or selections");
     expect(larger.answer[4] == 0, "a trigger with a rule is spare");
     expect(memcmp(larger.kept, planned->kept, sizeof larger.kept) == 0,
            "where its spare triggers are not spare a sheet has another kept table");
-    expect(is_rest(planned, &larger, spares(tables)), "the list is not that of the sheet whose triggers are all in use, without theirs");
+    expect(is_rest(&list, &larger_list, spares(tables)), "the list is not that of the sheet whose triggers are all in use, without theirs");
 }
 
 /* ---- What was met */

@@ -1,4 +1,4 @@
-/* Document 01, "The sheet", and document 02, No. 2, the other way round: from tables to the bytes of a sheet. */
+/* Document 01, "The sheet", and document 02, No. 2 and 5, the other way round: from tables to the bytes of a sheet. */
 #include "writer.h"
 
 #include <inttypes.h>
@@ -46,5 +46,8 @@ void write_tables(const struct tables *tables, int land_lines, struct text *text
     write_rows(text, "after=", tables->after, tables->triggers, tables->triggers);
     if (land_lines || has_land_rule(tables)) {
         write_rows(text, "land=", tables->land, tables->triggers, tables->panels);
+    }
+    if (has_last(tables)) {
+        write_line(text, "last=", tables->last, tables->panels);
     }
 }

@@ -2,35 +2,24 @@
  * Wrong planners, to see that the test sees them: linked with --wrap, each call goes to the library and comes back with one fault, which
  * the variable WRONG names by its number. `run` tries each.
  */
+#include "wrong.h"
+
 #include <stdlib.h>
 #include <string.h>
 
+#include "list.h"
 #include "meaning.h"
-#include "reader.h"
 #include "spares.h"
-#include "tuzhelar.h"
 #include "writer.h"
 
-#define FAULTS 79
-
-uint32_t __real_tuzhelar_plan(const uint8_t *sheet, size_t sheet_length, int32_t *space, size_t space_length, int64_t *answer,
-                              size_t answer_length);
-uint32_t __real_tuzhelar_kept(const uint8_t *sheet, size_t sheet_length, int64_t *answer, size_t answer_length);
-uint32_t __real_tuzhelar_test(const uint8_t *sheet, size_t sheet_length, const int64_t *times, size_t times_length);
 uint32_t __wrap_tuzhelar_plan(const uint8_t *sheet, size_t sheet_length, int32_t *space, size_t space_length, int64_t *answer,
                               size_t answer_length);
 uint32_t __wrap_tuzhelar_kept(const uint8_t *sheet, size_t sheet_length, int64_t *answer, size_t answer_length);
 uint32_t __wrap_tuzhelar_test(const uint8_t *sheet, size_t sheet_length, const int64_t *times, size_t times_length);
-
-uint32_t __real_tuzhelar_same(const uint8_t *first, size_t first_length, const uint8_t *second, size_t second_length, int32_t *left,
-                              size_t left_length, int32_t *right, size_t right_length, int64_t *answer, size_t answer_length);
-uint32_t __wrap_tuzhelar_same(const uint8_t *first, size_t first_length, const uint8_t *second, size_t second_length, int32_t *left,
-                              size_t left_length, int32_t *right, size_t right_length, int64_t *answer, size_t answer_length);
-
-uint32_t __real_tuzhelar_latest(const uint8_t *sheet, size_t sheet_length, const int64_t *times, size_t times_length, int32_t *space,
-                                size_t space_length, int64_t *answer, size_t answer_length);
 uint32_t __wrap_tuzhelar_latest(const uint8_t *sheet, size_t sheet_length, const int64_t *times, size_t times_length, int32_t *space,
                                 size_t space_length, int64_t *answer, size_t answer_length);
+uint32_t __wrap_tuzhelar_same(const uint8_t *first, size_t first_length, const uint8_t *second, size_t second_length, int32_t *left,
+                              size_t left_length, int32_t *right, size_t right_length, int64_t *answer, size_t answer_length);
 
 static volatile uint8_t read_byte;
 
@@ -43,7 +32,7 @@ __attribute__((no_sanitize_address)) static void touch(const uint8_t *byte)
     read_byte = *byte;
 }
 
-static int fault(int number)
+int fault(int number)
 {
     static int named;
     const char *value;
@@ -57,48 +46,56 @@ static int fault(int number)
     return named == number;
 }
 
-/* ---- Land lines */
+/* ---- Sheets */
 
-/* Where the land lines of a sheet start, or its end. */
-static size_t before_land(const uint8_t *sheet, size_t length)
+size_t before_key(const uint8_t *sheet, size_t length, const char *key)
 {
-    size_t at;
-    for (at = 0; at + 6 <= length; at++) {
-        if (memcmp(sheet + at, "\nland=", 6) == 0) {
-            return at + 1;
+    size_t key_length = strlen(key), at;
+    for (at = 1; at + key_length <= length; at++) {
+        if (sheet[at - 1] == '\n' && memcmp(sheet + at, key, key_length) == 0) {
+            return at;
         }
     }
     return length;
 }
 
-static int is_numeral_byte(uint8_t byte)
-{
-    return byte == '-' || (byte >= '0' && byte <= '9');
-}
-
-/* A copy of a good sheet whose land items, but for the first so many of each line, are absent. Returns its length. */
-static size_t forget_items(uint8_t *copy, const uint8_t *sheet, size_t length, size_t first)
-{
-    size_t end = before_land(sheet, length), item = 0, at;
-    memcpy(copy, sheet, end);
-    for (at = end; at < length; at++) {
-        int opens = sheet[at] == '=' || sheet[at] == ',';
-        if (!is_numeral_byte(sheet[at]) || item < first) {
-            copy[end++] = sheet[at];
-        }
-        item = sheet[at] == '=' ? 0 : item + (sheet[at] == ',');
-        if (opens && item >= first) {
-            copy[end++] = '-';
-        }
-    }
-    return end;
-}
-
-static int is_good(const uint8_t *sheet, size_t length)
+int is_good(const uint8_t *sheet, size_t length)
 {
     int64_t none = 0;
     uint32_t number = __real_tuzhelar_kept(sheet, length, &none, 0);
     return number == TUZHELAR_DONE || number == TUZHELAR_ORDER;
+}
+
+size_t write_copy(uint8_t *copy, const struct tables *tables)
+{
+    struct text text;
+    write_tables(tables, 0, &text);
+    memcpy(copy, text.bytes, text.length);
+    return text.length;
+}
+
+/* ---- Land lines */
+
+/* A copy of a good sheet without its land rules, but for those of the first so many panels. Returns its length. */
+static size_t forget_land(uint8_t *copy, const uint8_t *sheet, size_t length, int first)
+{
+    struct tables tables;
+    int i, j;
+    read_tables(sheet, length, &tables);
+    for (i = 0; i < MOST; i++) {
+        for (j = first; j < MOST; j++) {
+            tables.land[i][j] = NONE;
+        }
+    }
+    return write_copy(copy, &tables);
+}
+
+/* Land times lag over triggers and not over panels. */
+static size_t forget_panels(uint8_t *copy, const uint8_t *sheet, size_t length)
+{
+    struct tables tables;
+    read_tables(sheet, length, &tables);
+    return forget_land(copy, sheet, length, tables.triggers);
 }
 
 /* ---- Spare triggers */
@@ -108,15 +105,6 @@ static int spares_of(const uint8_t *sheet, size_t length)
 {
     struct tables tables;
     return read_tables(sheet, length, &tables) == 0 ? spares(&tables) : 0;
-}
-
-/* A sheet of changed tables. Returns its length. */
-static size_t write_copy(uint8_t *copy, const struct tables *tables)
-{
-    struct text text;
-    write_tables(tables, 0, &text);
-    memcpy(copy, text.bytes, text.length);
-    return text.length;
 }
 
 /* A copy of a good sheet in which no trigger is spare. Returns its length. */
@@ -170,7 +158,7 @@ static int wrong_byte(const uint8_t *sheet, size_t length, int byte)
             return overlooking(&tables, kind);
         }
     }
-    if (fault(64) && before_land(sheet, length) < length) {
+    if (fault(64) && before_key(sheet, length, "land=") < length) {
         return 0; /* a land row of minus signs makes a trigger not spare */
     }
     if (fault(65)) {
@@ -234,32 +222,34 @@ static int lacks_spare_due(const uint8_t *sheet, size_t length)
 
 /* ---- What is forgotten or misread of a sheet */
 
-/* The sheet that a function works on which forgets land rules or spare triggers: all functions do, or the one whose own fault is named. */
-static const uint8_t *worked_on(int own_land, int own_spares, uint8_t *copy, const uint8_t *sheet, size_t *length)
+/*
+ * The sheet that a function works on which forgets land rules, spare triggers or the last line: all functions do, or the one whose own fault
+ * is named.
+ */
+static const uint8_t *worked_on(int own_land, int own_spares, int own_last, uint8_t *copy, const uint8_t *sheet, size_t *length)
 {
-    size_t first = 0;
-    if ((fault(55) || fault(own_spares)) && is_good(sheet, *length)) {
-        *length = use_all(copy, sheet, *length);
-        return copy;
-    }
-    if (fault(79) && is_good(sheet, *length)) {
-        *length = forget_columns(copy, sheet, *length);
-        return copy;
-    }
-    if ((!fault(45) && !fault(46) && !fault(own_land)) || !is_good(sheet, *length)) {
+    int known = fault(45) || fault(46) || fault(55) || fault(79) || fault(own_land) || fault(own_spares) || fault(own_last);
+    if (!known || !is_good(sheet, *length)) {
         return sheet;
     }
-    if (fault(46)) {
-        first = (size_t)(sheet[strlen("panels=6\ntriggers=")] - '0'); /* land times lag, over triggers and not over panels */
+    if (fault(own_last)) {
+        *length = forget_last(copy, sheet, *length);
+    } else if (fault(55) || fault(own_spares)) {
+        *length = use_all(copy, sheet, *length);
+    } else if (fault(79)) {
+        *length = forget_columns(copy, sheet, *length);
+    } else if (fault(46)) {
+        *length = forget_panels(copy, sheet, *length);
+    } else {
+        *length = forget_land(copy, sheet, *length, 0);
     }
-    *length = forget_items(copy, sheet, *length, first);
     return copy;
 }
 
 /* Faults of reading land lines. */
 static uint32_t reading_land(const uint8_t *sheet, size_t length, uint32_t number)
 {
-    size_t front = before_land(sheet, length);
+    size_t front = before_key(sheet, length, "land=");
     int good_front = front < length && is_good(sheet, front);
     if (fault(52) && good_front) {
         return TUZHELAR_FORM; /* bytes left over, as before there were such lines */
@@ -299,19 +289,27 @@ static uint32_t reading(const uint8_t *sheet, size_t length, uint32_t number)
     if (fault(76) && number == TUZHELAR_NO_DUE && lacks_spare_due(sheet, length)) {
         return TUZHELAR_DONE; /* a spare trigger needs no due mark */
     }
-    return reading_land(sheet, length, number);
+    return reading_last(sheet, length, reading_land(sheet, length, number));
+}
+
+/* How many words a line of a sheet takes. */
+static size_t words_of(const uint8_t *sheet, size_t length)
+{
+    struct tables tables;
+    read_tables(sheet, length, &tables);
+    return line_words(&tables);
 }
 
 /* Faults of planning on a sheet with spare triggers, in its lines and its answer. */
 static void plan_spares(const uint8_t *sheet, size_t length, uint32_t number, int32_t *space, int64_t *answer, size_t answer_length)
 {
     int spare = spares_of(sheet, length);
-    int64_t i;
+    size_t wide = words_of(sheet, length), i;
     if (number == TUZHELAR_DONE && answer_length > 4 && !fault(55)) {
         answer[4] = wrong_byte(sheet, length, fault(56) || fault(79) ? spare : (int)answer[4]); /* these two are seen without it */
     }
-    for (i = 0; spare != 0 && number == TUZHELAR_DONE && answer_length > 3 && i < answer[3]; i++) {
-        wrong_line(spare, space + TUZHELAR_LINE_WORDS * i);
+    for (i = 0; spare != 0 && number == TUZHELAR_DONE && answer_length > 3 && i < (size_t)answer[3]; i++) {
+        wrong_line(spare, space + wide * i);
     }
     if (fault(66) && number == TUZHELAR_SPACE && answer_length > 4) {
         answer[4] = spare; /* 9 gives more than the count */
@@ -321,14 +319,32 @@ static void plan_spares(const uint8_t *sheet, size_t length, uint32_t number, in
     }
 }
 
+/* Faults of a list: two lines exchanged, or a component of the first one less. */
+static void plan_lines(size_t wide, int32_t *space, int64_t count)
+{
+    size_t i;
+    for (i = 0; fault(13) && count > 1 && i < wide; i++) {
+        int32_t word = space[i];
+        space[i] = space[i + wide];
+        space[i + wide] = word;
+    }
+    for (i = 1; fault(14) && i <= (size_t)space[0]; i++) {
+        if (space[i] != TUZHELAR_ABSENT && space[i] < 0) {
+            space[i]--;
+            break;
+        }
+    }
+}
+
 uint32_t __wrap_tuzhelar_plan(const uint8_t *sheet, size_t sheet_length, int32_t *space, size_t space_length, int64_t *answer,
                               size_t answer_length)
 {
     uint8_t copy[TUZHELAR_SHEET_BYTES];
-    size_t length = sheet_length;
-    const uint8_t *work = worked_on(47, 56, copy, sheet, &length);
-    uint32_t number = reading(sheet, sheet_length, __real_tuzhelar_plan(work, length, space, space_length, answer, answer_length));
-    int done = number == TUZHELAR_DONE, i;
+    size_t length = sheet_length, room = room_last(sheet, sheet_length, space_length), wide = words_of(sheet, sheet_length);
+    const uint8_t *work = worked_on(47, 56, 0, copy, sheet, &length);
+    struct written written = {0, space, space_length, answer, answer_length, answer_length > 5 ? answer[5] : 0};
+    uint32_t number = reading(sheet, sheet_length, __real_tuzhelar_plan(work, length, space, room, answer, answer_length));
+    int done = number == TUZHELAR_DONE;
     if (fault(7) && done) {
         space[space_length] = 0; /* a word past the space */
     }
@@ -341,39 +357,28 @@ uint32_t __wrap_tuzhelar_plan(const uint8_t *sheet, size_t sheet_length, int32_t
     if (fault(10) && done && answer_length > TUZHELAR_PLAN_WORDS) {
         answer[TUZHELAR_PLAN_WORDS] = 0; /* a word too many */
     }
-    if (fault(11) && done && answer_length > 3 && (size_t)answer[3] * TUZHELAR_LINE_WORDS == space_length) {
+    if (fault(11) && done && answer_length > 3 && (size_t)answer[3] * wide == space_length) {
         return TUZHELAR_SPACE; /* full too early */
     }
     if (fault(12) && done && answer_length > 3 && answer[3] > 1) {
         answer[3]--; /* the last line lost */
     }
-    if (fault(13) && done && answer_length > 3 && answer[3] > 1) {
-        for (i = 0; i < TUZHELAR_LINE_WORDS; i++) { /* two lines exchanged */
-            int32_t word = space[i];
-            space[i] = space[i + TUZHELAR_LINE_WORDS];
-            space[i + TUZHELAR_LINE_WORDS] = word;
-        }
-    }
-    if (fault(14) && done && answer_length > 3) {
-        for (i = 1; i <= space[0]; i++) { /* a component one less */
-            if (space[i] != TUZHELAR_ABSENT && space[i] < 0) {
-                space[i]--;
-                break;
-            }
-        }
+    if (done && answer_length > 3) {
+        plan_lines(wide, space, answer[3]);
     }
     if (fault(15) && number == TUZHELAR_ORDER) {
         return TUZHELAR_DONE;
     }
     plan_spares(sheet, sheet_length, number, space, answer, answer_length);
-    return number;
+    written.number = number;
+    return plan_last(sheet, sheet_length, &written);
 }
 
 uint32_t __wrap_tuzhelar_kept(const uint8_t *sheet, size_t sheet_length, int64_t *answer, size_t answer_length)
 {
     uint8_t copy[TUZHELAR_SHEET_BYTES];
     size_t length = sheet_length;
-    const uint8_t *work = worked_on(48, 0, copy, sheet, &length);
+    const uint8_t *work = worked_on(48, 0, 0, copy, sheet, &length);
     uint32_t number = reading(sheet, sheet_length, __real_tuzhelar_kept(work, length, answer, answer_length));
     size_t at;
     if (fault(16) && number == TUZHELAR_DONE && answer_length > 0) {
@@ -388,6 +393,7 @@ uint32_t __wrap_tuzhelar_kept(const uint8_t *sheet, size_t sheet_length, int64_t
     for (at = 4; fault(70) && number == TUZHELAR_DONE && at < answer_length && at < TUZHELAR_KEPT_WORDS; at += 2) {
         answer[at] = packed_byte(spares_of(sheet, sheet_length), answer[at]); /* kept bits moved together */
     }
+    kept_last(sheet, sheet_length, number, answer, answer_length);
     return number;
 }
 
@@ -421,7 +427,7 @@ uint32_t __wrap_tuzhelar_test(const uint8_t *sheet, size_t sheet_length, const i
 {
     uint8_t copy[TUZHELAR_SHEET_BYTES];
     size_t length = sheet_length;
-    const uint8_t *work = worked_on(49, 57, copy, sheet, &length);
+    const uint8_t *work = worked_on(49, 57, 103, copy, sheet, &length);
     uint32_t number = reading(sheet, sheet_length, __real_tuzhelar_test(work, length, times, times_length));
     if (fault(19) && number == TUZHELAR_NO) {
         return TUZHELAR_YES;
@@ -444,7 +450,7 @@ uint32_t __wrap_tuzhelar_test(const uint8_t *sheet, size_t sheet_length, const i
     if (fault(75) && number == TUZHELAR_TIME) {
         return without_spares_times(sheet, sheet_length, times, times_length);
     }
-    return number;
+    return test_last(sheet, sheet_length, times, times_length, number);
 }
 
 /* Faults of comparing sheets of which not the same triggers are spare. */
@@ -468,10 +474,12 @@ uint32_t __wrap_tuzhelar_same(const uint8_t *first, size_t first_length, const u
 {
     uint8_t copy[TUZHELAR_SHEET_BYTES], other[TUZHELAR_SHEET_BYTES];
     size_t length = first_length, other_length = second_length;
-    const uint8_t *work = worked_on(51, 59, copy, first, &length), *other_work = worked_on(51, 59, other, second, &other_length);
+    const uint8_t *work = worked_on(51, 59, 117, copy, first, &length);
+    const uint8_t *other_work = worked_on(51, 59, 117, other, second, &other_length);
     int64_t before[TUZHELAR_SAME_WORDS] = {answer_length > 0 ? answer[0] : 0, answer_length > 1 ? answer[1] : 0};
     uint32_t number = __real_tuzhelar_same(work, length, other_work, other_length, left, left_length, right, right_length, answer,
                                            answer_length);
+    struct written lefts = {0, left, left_length, answer, answer_length, 0}, rights = {0, right, right_length, answer, answer_length, 0};
     int written = number >= TUZHELAR_SAME && number <= TUZHELAR_UNLIKE;
     int32_t no_left = 0, no_right = 0;
     if (fault(25) && number == TUZHELAR_DIFFERENT && answer_length > 1 && answer[0] == answer[1]) {
@@ -507,7 +515,14 @@ uint32_t __wrap_tuzhelar_same(const uint8_t *first, size_t first_length, const u
     if (number == TUZHELAR_UNLIKE && left[0] == right[0]) { /* by the spare triggers alone */
         return same_spares(number, before, left, answer, answer_length);
     }
-    return number;
+    if (written) {
+        wrong_caps(first, first_length, left);
+        wrong_caps(second, second_length, right);
+    }
+    lefts.number = rights.number = number;
+    lefts.words = (int64_t)words_of(first, first_length);
+    rights.words = (int64_t)words_of(second, second_length);
+    return same_last(&lefts, &rights);
 }
 
 /* The latest of the times that are found for triggers that are not spare. */
@@ -522,7 +537,7 @@ static int64_t latest_of_others(int spare, size_t n, const int64_t *found)
 }
 
 /* Faults of the latest times that were found. */
-static void wrong_times(int spare, const int64_t *times, size_t n, int32_t *space, int64_t *answer)
+static void wrong_times(int spare, const int64_t *times, size_t n, size_t wide, int32_t *space, int64_t *answer)
 {
     int64_t latest = latest_of_others(spare, n, answer + 1);
     size_t j;
@@ -550,7 +565,7 @@ static void wrong_times(int spare, const int64_t *times, size_t n, int32_t *spac
         answer[0]--; /* a line not counted */
     }
     if (fault(39)) {
-        space[TUZHELAR_LINE_WORDS * answer[0] - 1]++; /* another list than planning's */
+        space[wide * (size_t)answer[0] - 1]++; /* another list than planning's */
     }
 }
 
@@ -559,11 +574,12 @@ uint32_t __wrap_tuzhelar_latest(const uint8_t *sheet, size_t sheet_length, const
 {
     uint8_t copy[TUZHELAR_SHEET_BYTES];
     size_t length = sheet_length;
-    const uint8_t *work = worked_on(50, 58, copy, sheet, &length);
+    const uint8_t *work = worked_on(50, 58, 0, copy, sheet, &length);
+    struct written written = {0, space, space_length, answer, answer_length, answer_length > 7 ? answer[7] : 0};
     uint32_t number = reading(sheet, sheet_length, __real_tuzhelar_latest(work, length, times, times_length, space, space_length, answer,
                                                                           answer_length));
     if (number == TUZHELAR_DONE && answer_length >= TUZHELAR_LATEST_WORDS) {
-        wrong_times(spares_of(sheet, sheet_length), times, times_length, space, answer);
+        wrong_times(spares_of(sheet, sheet_length), times, times_length, words_of(sheet, sheet_length), space, answer);
     }
     if (fault(40) && number == TUZHELAR_SPACE && answer_length > 1) {
         answer[1] = 0; /* 9 gives more than the count */
@@ -580,5 +596,7 @@ uint32_t __wrap_tuzhelar_latest(const uint8_t *sheet, size_t sheet_length, const
     if (fault(44) && times_length > TUZHELAR_MOST) {
         read_byte = (uint8_t)times[0]; /* times that are too many are read */
     }
+    written.number = number;
+    latest_last(sheet, sheet_length, times, times_length, &written);
     return number;
 }

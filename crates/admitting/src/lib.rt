@@ -1,10 +1,9 @@
 // What testing a timing refuses, with which every operation on a sheet and a timing begins; and then all that it is made from.
-ghost use mathlib.Core.Path.{_≡_};
-ghost use mathlib.Core.Bool.{Bool, false};
+ghost use mathlib.Core.Bool.{Bool};
 ghost use Prim.Native.Nat.{ℕ};
+ghost use lib.IntN.{ℤ};
 ghost use Rattle.maxplus.specs.Packing.{rank, place};
 ghost use Rattle.sheet.specs.Admitted.{admitted};
-ghost use Rattle.sheet.specs.Times.{some-beyond};
 ghost use Rattle.timing.specs.Times.{component, TimingWords};
 ghost use Rattle.spares.specs.Using.{PlacesOf};
 ghost use Rattle.preparing.specs.Prepared.{PreparedAs};
@@ -15,7 +14,6 @@ use spares::Places;
 use spares::picked;
 use timing::Timing;
 use timing::limit::beyond;
-use timing::times::words_of;
 use words::LineWords;
 
 // "Reading's, then 10: not n components; 11: one beyond ±1,000,000,000; then 8." Otherwise the lent tables are those that `prepare` makes.
@@ -46,12 +44,11 @@ pub fn admit(
 }
 
 // The words of a timing's components at the triggers in use: "A tested timing may hold any permitted number" at the others.
-pub fn times_in_use(timing: Timing, p: Places) -> LineWords
-    requires { ⌜ ((s : ℕ → Bool) × (n : ℕ) × PlacesOf s n p × (some-beyond n (component (timing .at)) ≡ false)) ⌝ }
-    ensures { λ r. ⌜ ((s : ℕ → Bool) (n : ℕ) → PlacesOf s n p → some-beyond n (component (timing .at)) ≡ false →
-        TimingWords (rank s n) (λ k. component (timing .at) (place s n k)) r) ⌝ }
+pub fn times_in_use(x: LineWords, p: Places) -> LineWords
+    requires { ⌜ ((s : ℕ → Bool) × (n : ℕ) × PlacesOf s n p) ⌝ }
+    ensures { λ r. ⌜ ((s : ℕ → Bool) (n : ℕ) (X : ℕ → ℤ) → PlacesOf s n p → TimingWords n X x →
+        TimingWords (rank s n) (λ k. X (place s n k)) r) ⌝ }
 {
-    let x = words_of(timing, p.triggers);
     let at = x.at;
     let times = picked(at, p);
     LineWords {

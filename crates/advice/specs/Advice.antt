@@ -10,11 +10,11 @@ unfoldable pub sentences : List (List ℕ)
 sentences =
     bytes "The sheet has more than 2048 bytes, and no right sheet is so long: look whether it is the right file.\n" ∷
     (bytes "A line is missing or has a wrong key, number of items, numeral or line end: the lines are panels=, triggers=, lag= for each panel, " ++
-    bytes "floor=, due=, after= for each trigger, then land= for each trigger or none, in this order, with no spaces, LF after every line " ++
-    bytes "and nothing behind the last.\n") ∷
+    bytes "floor=, due=, after= for each trigger, then land= for each trigger or none, then last= or none, in this order, with no spaces, " ++
+    bytes "LF after every line and nothing more.\n") ∷
     bytes "The number of panels or of triggers is not from 1 to 6: look at panels= and triggers=.\n" ∷
-    bytes "A number is outside -100000 to 100000: look at the lag=, floor=, due=, after= and land= lines.\n" ∷
-    bytes "A due mark is absent: the due= line needs a number for each trigger.\n" ∷
+    bytes "A number is outside -100000 to 100000: look at the lag=, floor=, due=, after=, land= and last= lines.\n" ∷
+    bytes "A due mark or a last moment is absent: the due= line needs a number for each trigger, the last= line one for each panel.\n" ∷
     bytes "A panel has no lag: each lag= line needs at least one number.\n" ∷
     bytes "No panel has a floor: the floor= line needs at least one number.\n" ∷
     (bytes "No times keep the order: rules of the after= and land= lines, with the lags to panels waited for, form a circle that adds up to " ++

@@ -5,7 +5,7 @@ ghost use Rattle.advice.specs.Advice.{advice};
 ghost use Rattle.advice.specs.Inner.{nth-line};
 ghost use Rattle.writing.specs.Writing.{Writes};
 
-// The sentence of a refusal, 1 to 11; nothing for another number. The longest has 287 bytes.
+// The sentence of a refusal, 1 to 11; nothing for another number. The longest has 296 bytes.
 pub fn advice_text(out: &mut [u8; 300], refusal: u8) -> usize
     ensures { λ r. ⌜ Writes (now (out .exit)) r (advice refusal) ⌝ }
 {
@@ -14,11 +14,11 @@ pub fn advice_text(out: &mut [u8; 300], refusal: u8) -> usize
         out,
         b"The sheet has more than 2048 bytes, and no right sheet is so long: look whether it is the right file.\n\
 A line is missing or has a wrong key, number of items, numeral or line end: the lines are panels=, triggers=, lag= for each panel, \
-floor=, due=, after= for each trigger, then land= for each trigger or none, in this order, with no spaces, LF after every line \
-and nothing behind the last.\n\
+floor=, due=, after= for each trigger, then land= for each trigger or none, then last= or none, in this order, with no spaces, \
+LF after every line and nothing more.\n\
 The number of panels or of triggers is not from 1 to 6: look at panels= and triggers=.\n\
-A number is outside -100000 to 100000: look at the lag=, floor=, due=, after= and land= lines.\n\
-A due mark is absent: the due= line needs a number for each trigger.\n\
+A number is outside -100000 to 100000: look at the lag=, floor=, due=, after=, land= and last= lines.\n\
+A due mark or a last moment is absent: the due= line needs a number for each trigger, the last= line one for each panel.\n\
 A panel has no lag: each lag= line needs at least one number.\n\
 No panel has a floor: the floor= line needs at least one number.\n\
 No times keep the order: rules of the after= and land= lines, with the lags to panels waited for, form a circle that adds up to \

@@ -4,24 +4,26 @@
 use mathlib.Core.Path.{_≡_, refl, ap, sym, _∙_}
 use mathlib.Core.Bool.{Bool, true, false, decide}
 use mathlib.Core.List.{List, [], _∷_, _++_}
-use Prim.Native.Nat.{ℕ, _-_}
+use Prim.Native.Nat.{ℕ, _-_, _<_}
 use lib.Dec.{T}
 use Prim.Native.String.{String}
 use lib.IntN.{ℤ, pos, negsuc}
 use lib.ListN.{length, replicate}
 use contract.Lifetimes.{Lfts}
 use denote.Ref.{RefT}
-use Rattle.maxplus.specs.Finite.{each}
-use Rattle.maxplus.specs.Line.{at, line}
-use Rattle.maxplus.proofs.FiniteLaws.{decide-yes, decide-of}
+use Rattle.maxplus.specs.Entry.{num, _≼_, _⊗_, unit}
+use Rattle.maxplus.proofs.EntryLaws.{≼-dec}
+use Rattle.maxplus.specs.Line.{at}
+use Rattle.maxplus.proofs.FiniteLaws.{all-dec, decide-yes, decide-of}
 use Rattle.cue.specs.Vectors.{Tightest, deviation, Readable}
 use Rattle.cue.specs.Method.{kept}
-use Rattle.cue.specs.Method.{selections, steps, lines}
+use Rattle.cue.specs.Method.{selections, steps}
 use Rattle.cue.proofs.Deviation.{tightest?}
 use Rattle.sheet.specs.Text.{bytes}
-use Rattle.sheet.specs.Sheet.{value, any, read, Sheet}
-use Rattle.sheet.specs.Meaning.{spare}
+use Rattle.sheet.specs.Sheet.{read, Sheet}
 use Rattle.sheet.specs.Cue.{cue-size, cue-of, Orderly}
+use Rattle.sheet.specs.Overruns.{overruns}
+use Rattle.sheet.proofs.Overruns.{in-time-early}
 use Rattle.sheet.proofs.Seam.{at-used, tightest-cue}
 use Rattle.sheet.specs.Sheet as sheet
 use Rattle.sheet.specs.Times.{some-beyond}
@@ -72,31 +74,43 @@ pub data Every (P : Case → Type 0) : List Case → Type 0 where
   _then_ : {c : Case} {l : List Case} → P c → Every P l → Every P (c ∷ l)
 
 -- ---- answers and words
--- triggers, spares, deviation, steps, selections, count; with no spare
+-- triggers, spares, deviation, steps, selections, words of a line, count; without a last line; with no spare
+abbrev pub lined : (wide : ℕ) → ℕ → ℕ → ℤ → ℕ → ℕ → ℕ → CuePlan
+lined w n s D k l c = record { refusal = 0; triggers = n; spares = s; deviation = D; steps = k; selections = l; width = w; count = c }
+
 abbrev pub spared : ℕ → ℕ → ℤ → ℕ → ℕ → ℕ → CuePlan
-spared n s D k l c = record { refusal = 0; triggers = n; spares = s; deviation = D; steps = k; selections = l; count = c }
+spared = lined 7
 
 abbrev pub planned : ℕ → ℤ → ℕ → ℕ → ℕ → CuePlan
 planned n D k l c = spared n 0 D k l c
 
+abbrev pub full-by : (wide : ℕ) → ℕ → CuePlan
+full-by w c = record { refusal = 9; triggers = 0; spares = 0; deviation = pos 0; steps = 0; selections = 0; width = w; count = c }
+
 abbrev pub full : ℕ → CuePlan
-full c = record { refusal = 9; triggers = 0; spares = 0; deviation = pos 0; steps = 0; selections = 0; count = c }
+full = full-by 7
 
 abbrev pub no-plan : ℕ → CuePlan
-no-plan k = record { refusal = k; triggers = 0; spares = 0; deviation = pos 0; steps = 0; selections = 0; count = 0 }
+no-plan k = record { refusal = k; triggers = 0; spares = 0; deviation = pos 0; steps = 0; selections = 0; width = 0; count = 0 }
 
 -- lines and timing; 9 and the count needed; any other refusal
 abbrev pub timing-of-six : List ℤ → Timing
 timing-of-six l = record { count = length l; at = l ++ replicate (6 - length l) (pos 0) }
 
+abbrev pub reached-by : (wide : ℕ) → ℕ → List ℤ → Reached
+reached-by w c l = record { refusal = 0; width = w; count = c; timing = timing-of-six l }
+
 abbrev pub reached : ℕ → List ℤ → Reached
-reached c l = record { refusal = 0; count = c; timing = timing-of-six l }
+reached = reached-by 7
+
+abbrev pub no-room-by : (wide : ℕ) → ℕ → Reached
+no-room-by w c = record { refusal = 9; width = w; count = c; timing = timing-of-six [] }
 
 abbrev pub no-room : ℕ → Reached
-no-room c = record { refusal = 9; count = c; timing = timing-of-six [] }
+no-room = no-room-by 7
 
 abbrev pub not-reached : ℕ → Reached
-not-reached k = record { refusal = k; count = 0; timing = timing-of-six [] }
+not-reached k = record { refusal = k; width = 0; count = 0; timing = timing-of-six [] }
 
 -- of each panel on the sheet; 0 past them
 abbrev pub six-of : List ℕ → List ℕ
@@ -157,22 +171,33 @@ pub all-hold : {l : List Case} → Every Computed l → Every CaseHolds l
 all-hold done = done
 all-hold (_then_ {c} h k) = holds c h then all-hold k
 
--- ---- what testing answers is what is decided of the sheet's cue
+-- ---- what testing answers is what is decided of the sheet's cue and of each trigger's overrun
 module _ (s : String) (t : Sheet) (e : read (bytes s) ≡ sheet.got t []) (R : Readable (cue-size t) (cue-of t)) (O : Orderly t) where
   abbrev pub asked : (X : sheets.Timing) → Dec (Tightest (cue-size t) (cue-of t) (at-used t X))
   asked X = tightest? (cue-size t) (cue-of t) R O (at-used t X)
 
-  says : (X : sheets.Timing) → some-beyond (t .triggers) X ≡ false → (v : Bool) → Says (sheets.Tightest t X) v →
+  abbrev pub early : (X : sheets.Timing) → Dec ((j : ℕ) → j < t .triggers → overruns t j ⊗ num (X j) ≼ unit)
+  early X = all-dec (λ j. overruns t j ⊗ num (X j) ≼ unit) (λ j. ≼-dec (overruns t j ⊗ num (X j)) unit) (t .triggers)
+
+  says : (X : sheets.Timing) → some-beyond (t .triggers) X ≡ false → (v : Bool) → Says (sheets.TightestInTime t X) v →
       answer v ≡ testing (bytes s) (t .triggers) X
   says X near v h =
       testing-says (bytes s) (t .triggers) X t [] (admitted-on (bytes s) (t .triggers) X t [] e refl near ∙ ordered-got (bytes s) t [] e O) v h
 
-  pub says-yes : (X : sheets.Timing) → some-beyond (t .triggers) X ≡ false → T (decide (asked X)) → answer true ≡ testing (bytes s) (t .triggers) X
-  says-yes X near y = says X near true (tightest-cue t X .1 (decide-yes (asked X) y))
+  pub says-yes : (X : sheets.Timing) → some-beyond (t .triggers) X ≡ false → T (decide (asked X)) → T (decide (early X)) →
+      answer true ≡ testing (bytes s) (t .triggers) X
+  says-yes X near y z = says X near true (record {
+    tightest = tightest-cue t X .1 (decide-yes (asked X) y);
+    in-time = in-time-early t X .1 (decide-yes (early X) z);
+  })
 
   pub says-no : (X : sheets.Timing) → some-beyond (t .triggers) X ≡ false → ¬ (T (decide (asked X))) →
       answer false ≡ testing (bytes s) (t .triggers) X
-  says-no X near n = says X near false (λ h. n (decide-of (asked X) (tightest-cue t X .0 h)))
+  says-no X near n = says X near false (λ h. n (decide-of (asked X) (tightest-cue t X .0 (h .tightest))))
+
+  pub says-late : (X : sheets.Timing) → some-beyond (t .triggers) X ≡ false → ¬ (T (decide (early X))) →
+      answer false ≡ testing (bytes s) (t .triggers) X
+  says-late X near n = says X near false (λ h. n (decide-of (early X) (in-time-early t X .0 (h .in-time))))
 
 -- the first two of the times
 abbrev pub times : ℕ → ℕ → List ℤ → sheets.Timing

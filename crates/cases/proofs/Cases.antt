@@ -35,9 +35,10 @@ use Rattle.sheet.specs.Text.{bytes}
 use Rattle.sheet.specs.Sheet.{literal, value, behind, signed, item, ended, items, any, checked, rows, row, table, sections, optional, read, Sheet}
 use Rattle.sheet.specs.Meaning.{spare}
 use Rattle.sheet.specs.Cue.{used, cue-size, order-table, cue-of, Orderly, orderly?, sheet-kept, sheet-byte, sheet-count, sheet-lines}
+use Rattle.sheet.specs.Overruns.{lowered}
 use Rattle.sheet.proofs.Spares.{cue-readable}
 use Rattle.sheet.specs.Sheet as sheet
-use Rattle.cue.specs.Written.{line-words, list-words}
+use Rattle.cue.specs.Written.{line-words, lent-words}
 use Rattle.sheet.specs.Ordered.{ordered}
 use Rattle.sheet.specs.Admitted.{admitted}
 use Rattle.sheet.proofs.Latest.{latest-on, latest-exists}
@@ -111,6 +112,7 @@ whole =
       due = λ j. val (row (num (pos 1) ∷ num (pos 2) ∷ []) j);
       after = table ((absent ∷ absent ∷ []) ∷ (absent ∷ absent ∷ []) ∷ []);
       land = none;
+      last = none;
     }
 
 whole-readable : Readable (cue-size whole) (cue-of whole)
@@ -127,10 +129,10 @@ whole-ordered = decide-yes (orderly? whole) tt
 
 -- ---- the whole table
 pub cases-hold : Every CaseHolds cases
-unfolding reaching reached-space admitted latest-exists latest-on latest made fit planning space-after keeping sheet-byte sheet-count sheet-kept
+unfolding reaching reached-space admitted latest-exists latest-on lowered latest made fit planning space-after keeping sheet-byte sheet-count sheet-kept
     byte-of sheet-lines spare used rank place filled layout
     testing tightest? keeps? Keeps same-entry? deviation shortfall ordered orderly? order-table line-words
-    list-words read sheet.lines sheet.line rows sections optional checked any ended items item signed value behind literal bytes least leastE steps
+    lent-words read sheet.lines sheet.line rows sections optional checked any ended items item signed value behind literal bytes least leastE steps
     selections lines minimal needed? others combination? asked? met? under-dec fixings walk kept cut serves-as-well floor-panels through pull pullE
     overdue need seed ray candidate candidates no-gain? gain-or mm mv star power idm normal sup supL at line put sift each mapL sum val inv _⊗_
     _⊕_ maxz _+z_ neg decLe z-dec ≼-dec present-dec all-or all-dec any-dec dec-× dec-¬ dec-→ ltE-cmp ltL-cmp strict same? decide
@@ -140,8 +142,8 @@ cases-hold =
     (refl, refl) then (refl, refl) then (refl, refl) then
     (refl, refl) then (refl, refl) then (refl, refl) then
     refl then refl then refl then refl then refl then refl then refl then
-    (λ rest. says-yes whole-case whole refl whole-readable whole-ordered (times 0 0 rest) refl tt) then
-    (λ rest. says-yes whole-case whole refl whole-readable whole-ordered (times 0 1 rest) refl tt) then
+    (λ rest. says-yes whole-case whole refl whole-readable whole-ordered (times 0 0 rest) refl tt tt) then
+    (λ rest. says-yes whole-case whole refl whole-readable whole-ordered (times 0 1 rest) refl tt tt) then
     (λ rest. says-no whole-case whole refl whole-readable whole-ordered (times 0 2 rest) refl (λ h. h)) then
     (λ rest. (refl, refl)) then (λ rest. (refl, refl)) then (λ rest. (refl, refl)) then (λ rest. (refl, refl)) then
     (λ rest. (refl, refl)) then (λ rest. (refl, refl)) then (λ rest. (refl, refl)) then (λ rest. (refl, refl)) then

@@ -1,7 +1,7 @@
 -- Cases of document 02's No. 2.
 use mathlib.Core.Path.{refl, ap}
 use mathlib.Core.Bool.{decide}
-use mathlib.Core.Option.{some}
+use mathlib.Core.Option.{none, some}
 use mathlib.Core.List.{List, [], _∷_, _++_}
 use Prim.Native.Nat.{ℕ, _-_, _<_}
 use Prim.Native.Nat as nat
@@ -35,9 +35,10 @@ use Rattle.sheet.specs.Text.{bytes}
 use Rattle.sheet.specs.Sheet.{literal, value, behind, signed, item, ended, items, any, checked, rows, row, table, sections, optional, read, Sheet}
 use Rattle.sheet.specs.Meaning.{spare}
 use Rattle.sheet.specs.Cue.{used, cue-size, order-table, cue-of, Orderly, orderly?, sheet-kept, sheet-byte, sheet-count, sheet-lines}
+use Rattle.sheet.specs.Overruns.{lowered}
 use Rattle.sheet.proofs.Spares.{cue-readable}
 use Rattle.sheet.specs.Sheet as sheet
-use Rattle.cue.specs.Written.{line-words, list-words}
+use Rattle.cue.specs.Written.{line-words, lent-words}
 use Rattle.sheet.specs.Ordered.{ordered}
 use Rattle.sheet.specs.Admitted.{admitted}
 use Rattle.sheet.proofs.Latest.{latest-on, latest-exists}
@@ -96,6 +97,7 @@ lights =
       due = λ j. val (row (num (pos 0) ∷ num (pos 0) ∷ []) j);
       after = table ((absent ∷ absent ∷ []) ∷ (absent ∷ absent ∷ []) ∷ []);
       land = some (table ((absent ∷ []) ∷ (num (pos 2) ∷ []) ∷ []));
+      last = none;
     }
 
 lights-readable : Readable (cue-size lights) (cue-of lights)
@@ -126,13 +128,14 @@ example =
       land = some (table
           ((absent ∷ absent ∷ absent ∷ []) ∷ (num (pos 0) ∷ absent ∷ num (negsuc 2) ∷ []) ∷
           (num (negsuc 0) ∷ absent ∷ absent ∷ []) ∷ []));
+      last = none;
     }
 
 example-reached : Computed (reaches example-6 (pos 0 ∷ pos 1 ∷ pos 0 ∷ []) (old 14) (reached 2 (negsuc 1 ∷ pos 1 ∷ pos 0 ∷ [])) example-6-lines)
-unfolding reaching reached-space admitted latest-exists latest-on latest made fit planning space-after keeping sheet-byte sheet-count sheet-kept
+unfolding reaching reached-space admitted latest-exists latest-on lowered latest made fit planning space-after keeping sheet-byte sheet-count sheet-kept
     byte-of sheet-lines spare used rank place filled layout
     testing tightest? keeps? Keeps same-entry? deviation shortfall ordered orderly? order-table line-words
-    list-words read sheet.lines sheet.line rows sections optional checked any ended items item signed value behind literal bytes least leastE steps
+    lent-words read sheet.lines sheet.line rows sections optional checked any ended items item signed value behind literal bytes least leastE steps
     selections lines minimal needed? others combination? asked? met? under-dec fixings walk kept cut serves-as-well floor-panels through pull pullE
     overdue need seed ray candidate candidates no-gain? gain-or mm mv star power idm normal sup supL at line put sift each mapL sum val inv _⊗_
     _⊕_ maxz _+z_ neg decLe z-dec ≼-dec present-dec all-or all-dec any-dec dec-× dec-¬ dec-→ ltE-cmp ltL-cmp strict same? decide
@@ -142,10 +145,10 @@ example-reached rest =
 
 -- ---- the whole table
 pub land-cases-hold : Every CaseHolds land-cases
-unfolding reaching reached-space admitted latest-exists latest-on latest made fit planning space-after keeping sheet-byte sheet-count sheet-kept
+unfolding reaching reached-space admitted latest-exists latest-on lowered latest made fit planning space-after keeping sheet-byte sheet-count sheet-kept
     byte-of sheet-lines spare used rank place filled layout
     testing tightest? keeps? Keeps same-entry? deviation shortfall ordered orderly? order-table line-words
-    list-words read sheet.lines sheet.line rows sections optional checked any ended items item signed value behind literal bytes least leastE steps
+    lent-words read sheet.lines sheet.line rows sections optional checked any ended items item signed value behind literal bytes least leastE steps
     selections lines minimal needed? others combination? asked? met? under-dec fixings walk kept cut serves-as-well floor-panels through pull pullE
     overdue need seed ray candidate candidates no-gain? gain-or mm mv star power idm normal sup supL at line put sift each mapL sum val inv _⊗_
     _⊕_ maxz _+z_ neg decLe z-dec ≼-dec present-dec all-or all-dec any-dec dec-× dec-¬ dec-→ ltE-cmp ltL-cmp strict same? decide
@@ -153,7 +156,7 @@ land-cases-hold =
     all-hold
     ((refl, refl) then refl then example-reached then
     (refl, refl) then
-    (λ rest. says-yes house-lights lights refl lights-readable lights-ordered (times 0 2 rest) refl tt) then
+    (λ rest. says-yes house-lights lights refl lights-readable lights-ordered (times 0 2 rest) refl tt tt) then
     (λ rest. says-no house-lights lights refl lights-readable lights-ordered (times 0 1 rest) refl (λ h. h)) then
     (refl, refl) then (refl, refl) then (refl, refl) then (refl, refl) then
     done)

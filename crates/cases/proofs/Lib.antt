@@ -3,3 +3,4 @@ pub mod Case
 pub mod Cases
 pub mod LandCases
 pub mod SpareCases
+pub mod LastCases

@@ -1,2 +1,3 @@
 -- Laws of comparing.
+pub mod LineLaws
 pub mod SameLaws

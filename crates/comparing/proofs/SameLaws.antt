@@ -1,33 +1,28 @@
--- Comparing two sheets: words one by one, what planning refuses with no room, and the answer by demand 3.
+-- Comparing two sheets: what planning refuses with no room, and the answer by demand 3.
 use mathlib.Core.Path.{_≡_, refl, ap, sym, subst, _∙_}
 use mathlib.Core.Logic.{_↔_, _⊎_, inl, inr}
 use mathlib.Core.List.{List}
 use mathlib.Core.Bool.{Bool, true, false, cond, not, _||_, decide}
-use Prim.Native.Nat.{ℕ, _+_, _*_, _/_, _≤_, _<_}
-use native.Mathlib.Numerals.{add-one}
+use mathlib.Core.Option.{Option, none, some}
+use Prim.Native.Nat.{ℕ, _*_, _/_, _≤_, _<_}
 use native.Mathlib.Omega.{arith}
 use native.Mathlib.Decide.{decLt}
 use borrow.Author.Tests.{leb-true, leb-false}
-use mir.Syntax.{w32}
-use mir.Val.{toZ, ofZ, SFits}
-use mir.Facts.{toZ-ofZ}
 use lib.Dec.{leb, eqb}
-use lib.IntN.{ℤ, pos}
-use lib.ListN.{length, take, getD}
-use lib.Seq.{take-suc, getD-take}
+use lib.IntN.{ℤ}
+use lib.ListN.{length}
 use Rattle.maxplus.specs.Finite.{byte-of}
-use Rattle.maxplus.specs.Line.{Line}
 use Rattle.sheet.specs.Sheet.{Got, got, Sheet, read}
 use Rattle.sheet.specs.Sheet as sheet
 use Rattle.reading.proofs.Refusals.{refusal-numbered}
-use Rattle.sheet.specs.Cue.{Orderly, orderly?, sheet-lines}
+use Rattle.sheet.specs.Cue.{Orderly, orderly?, sheet-caps, sheet-lines}
 use Rattle.trigger_sets.specs.Sets.{bit}
 use Rattle.trigger_sets.proofs.ByteLaws.{bit-at}
 use Rattle.tables.specs.Held.{Says}
 use Rattle.planning.specs.Planning.{PlanOutcome, planned, full, refused, plan-of, planning, space-after, plan-answer}
 use Rattle.sheet.specs.Ordered.{ordered}
 use Rattle.comparing.specs.Inner.{Refuses}
-use Rattle.planning.specs.Demands.{Planned, count-of, TwoPlans}
+use Rattle.planning.specs.Demands.{Planned, count-of, lines-written, TwoPlans}
 use Rattle.comparing.specs.Comparing.{Comparison, answer, unlike, first-refused, second-refused, comparing, compared-space}
 use Rattle.planning.specs.declared.CuePlan.{CuePlan}
 use Rattle.comparing.specs.declared.Refusal.{Refusal}
@@ -38,106 +33,135 @@ use Rattle.sheet.proofs.Decided.{alike?}
 use Rattle.sheet.proofs.OrderedLaws.{ordered-by, ordered-refused}
 use Rattle.planning.proofs.PlanLaws.{planning-refused}
 use Rattle.maxplus.proofs.FiniteLaws.{equal, unequal, decided-yes, decided-no}
-use Rattle.cue.specs.Written.{line-size}
+use Rattle.lines.proofs.SheetLaws.{width-room, wide-there}
+use Rattle.cue.specs.Written.{line-size, width, uncapped}
 
--- ---- the first words of two spaces
-pub same-at : (k i : ℕ) (a b : List ℤ) → i < k → take k a ≡ take k b → getD a i (pos 0) ≡ getD b i (pos 0)
-same-at k i a b h e = sym (getD-take k a i (pos 0) h) ∙ ap (λ l. getD l i (pos 0)) e ∙ getD-take k b i (pos 0) h
-
-pub same-more : (i : ℕ) (a b : List ℤ) → i < length a → i < length b → take i a ≡ take i b → getD a i (pos 0) ≡ getD b i (pos 0) →
-    take (i + 1) a ≡ take (i + 1) b
-same-more i a b p q e h = rw (add-one, take-suc a i (pos 0) p, take-suc b i (pos 0) q) (cc)
-
+-- ---- an answer taken
 pub said-yes : {P : Type 0} {b : Bool} → b ≡ true → Says P b → P
 said-yes {P} e h = subst (Says P) e h
 
 pub said-no : {P : Type 0} {b : Bool} → b ≡ false → Says P b → ¬ P
 said-no {P} e h = subst (Says P) e h
 
--- two numbers with the same word
-pub same-word : {x y : ℤ} → SFits w32 x → SFits w32 y → ofZ w32 x ≡ ofZ w32 y → x ≡ y
-same-word p q e = sym (toZ-ofZ p) ∙ ap (toZ w32) e ∙ toZ-ofZ q
+-- ---- what planning refuses, from what it answers with no room: the count is the same, and so is how many words a line takes; 9 stands only where
+-- the count is more than the room
+module _ (t : Sheet) where
+  abbrev many : ℕ
+  many = length (sheet-lines t)
 
--- ---- what planning refuses, from what it answers with no room: the count is the same, and 9 stands only where the count is more than the room
-module _ (n : ℕ) (spare : ℕ → Bool) (D : ℤ) (k l : ℕ) (L : List (Line n)) where
+  abbrev wide : ℕ
+  wide = width (sheet-caps t)
+
+  abbrev outcome : Bool → PlanOutcome
+  outcome b = cond b (plan t) (full wide many)
+
   abbrev with : ℕ → CuePlan
-  with room = plan-answer (cond (leb (length L) room) (planned n spare D k l L) (full (length L)))
+  with room = plan-answer (outcome (leb many room))
 
-  counted : (room : ℕ) → with room .count ≡ length L
-  counted room = go (leb (length L) room)
+  counted : (room : ℕ) → with room .count ≡ many
+  counted room = go (leb many room)
     where
-      go : (b : Bool) → plan-answer (cond b (planned n spare D k l L) (full (length L))) .count ≡ length L
+      go : (b : Bool) → plan-answer (outcome b) .count ≡ many
       go true = refl
       go false = refl
 
-  room-for : (room : ℕ) → length L ≤ room → with room .refusal ≡ 0
-  room-for room h = go (leb (length L) room) (leb-false (length L) room)
+  widened : (room : ℕ) → with room .width ≡ wide
+  widened room = go (leb many room)
     where
-      go : (b : Bool) → (b ≡ false → room < length L) → plan-answer (cond b (planned n spare D k l L) (full (length L))) .refusal ≡ 0
+      go : (b : Bool) → plan-answer (outcome b) .width ≡ wide
+      go true = refl
+      go false = refl
+
+  room-for : (room : ℕ) → many ≤ room → with room .refusal ≡ 0
+  room-for room h = go (leb many room) (leb-false many room)
+    where
+      go : (b : Bool) → (b ≡ false → room < many) → plan-answer (outcome b) .refusal ≡ 0
       go true f = refl
       go false f = let q = f refl in let x : ⊥ = omega arith in absurd x
 
-  no-room-for : (room : ℕ) → room < length L → with room .refusal ≡ 9
-  no-room-for room h = go (leb (length L) room) (leb-true (length L) room)
+  no-room-for : (room : ℕ) → room < many → with room .refusal ≡ 9
+  no-room-for room h = go (leb many room) (leb-true many room)
     where
-      go : (b : Bool) → (b ≡ true → length L ≤ room) → plan-answer (cond b (planned n spare D k l L) (full (length L))) .refusal ≡ 9
+      go : (b : Bool) → (b ≡ true → many ≤ room) → plan-answer (outcome b) .refusal ≡ 9
       go true f = let q = f refl in let x : ⊥ = omega arith in absurd x
       go false f = refl
 
--- the answer p with no room, and the one with room for some lines
-module _ (g : Got Sheet) (p : CuePlan) (e : p ≡ plan-answer (plan-of 0 g)) (room : ℕ) where
-  abbrev Found : ℕ → Type 0
-  Found k = Refuses (record { number = k; count = p .count }) (plan-answer (plan-of room g))
+-- one word has room for no line
+no-line : {A : Type 0} (o : Option A) → 1 / width o ≡ 0
+no-line none = refl
+no-line (some a) = refl
 
-  found-enough : 0 < p .count → p .count ≤ room → Found 0
+-- the answer p with one word, and the one with so many
+module _ (g : Got Sheet) (p : CuePlan) (e : p ≡ plan-answer (plan-of (λ wide. 1 / wide) g)) (words : ℕ) where
+  abbrev Found : ℕ → Type 0
+  Found k = Refuses (record { number = k; count = p .count }) (plan-answer (plan-of (λ wide. words / wide) g))
+
+  divisor : 0 < p .count → 0 < p .width
+  divisor = go g e
+    where
+      go : (g : Got Sheet) → p ≡ plan-answer (plan-of (λ wide. 1 / wide) g) → 0 < p .count → 0 < p .width
+      go (sheet.refused k) e h = let x : ⊥ = omega (arith, ap (λ (p : CuePlan). p .count) e) in absurd x
+      go (got t r) e h = wide-there (sheet-caps t) (ap (λ (p : CuePlan). p .width) e ∙ widened t (1 / wide t))
+
+  found-enough : 0 < p .count → p .count ≤ words / p .width → Found 0
   found-enough = go g e
     where
-      go : (g : Got Sheet) → p ≡ plan-answer (plan-of 0 g) → 0 < p .count → p .count ≤ room →
-          Refuses (record { number = 0; count = p .count }) (plan-answer (plan-of room g))
+      go : (g : Got Sheet) → p ≡ plan-answer (plan-of (λ wide. 1 / wide) g) → 0 < p .count → p .count ≤ words / p .width →
+          Refuses (record { number = 0; count = p .count }) (plan-answer (plan-of (λ wide. words / wide) g))
       go (sheet.refused k) e h f = let x : ⊥ = omega (arith, ap (λ (p : CuePlan). p .count) e) in absurd x
       go (got t r) e h f =
-          let L = sheet-lines t in
-          let c = ap (λ (p : CuePlan). p .count) e ∙ counted (t .triggers) _ _ _ _ L 0 in
-          record { number = sym (room-for (t .triggers) _ _ _ _ L room (omega arith)); count = c ∙ sym (counted (t .triggers) _ _ _ _ L room) }
+          let c = ap (λ (p : CuePlan). p .count) e ∙ counted t (1 / wide t) in
+          let w = ap (λ (p : CuePlan). p .width) e ∙ widened t (1 / wide t) in
+          let room = words / wide t in
+          record { number = sym (room-for t room (rw (w, c) at f)); count = c ∙ sym (counted t room) }
 
-  found-short : (0 < p .count → room < p .count) → Found (p .refusal)
+  found-short : (0 < p .count → words / p .width < p .count) → Found (p .refusal)
   found-short = go g e
     where
-      go : (g : Got Sheet) → p ≡ plan-answer (plan-of 0 g) → (0 < p .count → room < p .count) →
-          Refuses (record { number = p .refusal; count = p .count }) (plan-answer (plan-of room g))
+      go : (g : Got Sheet) → p ≡ plan-answer (plan-of (λ wide. 1 / wide) g) → (0 < p .count → words / p .width < p .count) →
+          Refuses (record { number = p .refusal; count = p .count }) (plan-answer (plan-of (λ wide. words / wide) g))
       go (sheet.refused k) e f = record { number = ap (λ (p : CuePlan). p .refusal) e; count = ap (λ (p : CuePlan). p .count) e }
       go (got t r) e f =
-          let L = sheet-lines t in
-          let c = ap (λ (p : CuePlan). p .count) e ∙ counted (t .triggers) _ _ _ _ L 0 in
+          let c = ap (λ (p : CuePlan). p .count) e ∙ counted t (1 / wide t) in
+          let w = ap (λ (p : CuePlan). p .width) e ∙ widened t (1 / wide t) in
+          let q : 0 < many t → words / wide t < many t = rw (w, c) at f in
+          let room = words / wide t in
           record {
-            number = ap (λ (p : CuePlan). p .refusal) e ∙ elim (decLt 0 (length L)) [
-              | yes h ↦ no-room-for (t .triggers) _ _ _ _ L 0 h ∙ sym (no-room-for (t .triggers) _ _ _ _ L room (let q = f (omega arith) in omega arith))
-              | no h ↦ room-for (t .triggers) _ _ _ _ L 0 (omega arith) ∙ sym (room-for (t .triggers) _ _ _ _ L room (omega arith))
+            number = ap (λ (p : CuePlan). p .refusal) e ∙ elim (decLt 0 (many t)) [
+              | yes h ↦ no-room-for t (1 / wide t) (rw (no-line (sheet-caps t)) h) ∙ sym (no-room-for t room (q h))
+              | no h ↦ room-for t (1 / wide t) (omega arith) ∙ sym (room-for t room (omega arith))
             ];
-            count = c ∙ sym (counted (t .triggers) _ _ _ _ L room);
+            count = c ∙ sym (counted t room);
           }
 
-module _ (s : List ℕ) (none : List ℤ) (few : length none / line-size ≡ 0) (p : CuePlan) (e : p ≡ plan-answer (planning s none)) (words : ℕ)
-    (space : List ℤ) (same : length space ≡ words) where
-  at-none : p ≡ plan-answer (plan-of 0 (ordered s))
+module _ (s : List ℕ) (none : List ℤ) (few : length none ≡ 1) (p : CuePlan) (e : p ≡ plan-answer (planning s none)) where
+  at-none : p ≡ plan-answer (plan-of (λ wide. 1 / wide) (ordered s))
   unfolding planning
-  at-none = e ∙ ap (λ k. plan-answer (plan-of k (ordered s))) few
+  at-none = e ∙ ap (λ k. plan-answer (plan-of (λ wide. k / wide) (ordered s))) few
 
-  at-space : (k : ℕ) → Found (ordered s) p at-none (words / line-size) k →
-      Refuses (record { number = k; count = p .count }) (plan-answer (planning s space))
-  unfolding planning
-  at-space k = subst (λ w. Refuses (record { number = k; count = p .count }) (plan-answer (plan-of (w / line-size) (ordered s)))) (sym same)
+  pub wide-known : 0 < p .count → 0 < p .width
+  wide-known = divisor (ordered s) p at-none 0
 
-  pub refused-enough : 0 < p .count → p .count ≤ words / line-size → Refuses (record { number = 0; count = p .count }) (plan-answer (planning s space))
-  refused-enough h f = at-space 0 (found-enough (ordered s) p at-none (words / line-size) h f)
+  module _ (words : ℕ) (space : List ℤ) (same : length space ≡ words) where
+    at-space : (k : ℕ) → Found (ordered s) p at-none words k → Refuses (record { number = k; count = p .count }) (plan-answer (planning s space))
+    unfolding planning
+    at-space k =
+        subst (λ w. Refuses (record { number = k; count = p .count }) (plan-answer (plan-of (λ wide. w / wide) (ordered s)))) (sym same)
 
-  pub refused-short : (0 < p .count → words / line-size < p .count) →
-      Refuses (record { number = p .refusal; count = p .count }) (plan-answer (planning s space))
-  refused-short f = at-space (p .refusal) (found-short (ordered s) p at-none (words / line-size) f)
+    pub refused-enough : 0 < p .count → p .count ≤ words / p .width →
+        Refuses (record { number = 0; count = p .count }) (plan-answer (planning s space))
+    refused-enough h f = at-space 0 (found-enough (ordered s) p at-none words h f)
+
+    pub refused-short : (0 < p .count → words / p .width < p .count) →
+        Refuses (record { number = p .refusal; count = p .count }) (plan-answer (planning s space))
+    refused-short f = at-space (p .refusal) (found-short (ordered s) p at-none words f)
 
 -- ---- equal bytes are of the same triggers
 same-bits : (n m : ℕ) (a b : ℕ → Bool) → n ≤ 6 → n ≡ m → byte-of n a ≡ byte-of m b → (j : ℕ) → j < n → a j ≡ b j
 same-bits n m a b h e f j q = sym (bit-at n a j h q) ∙ ap (λ c. bit c j) f ∙ bit-at m b j (omega arith) (omega arith)
+
+abbrev room-in : List ℤ → ℕ → ℕ
+room-in space wide = length space / wide
 
 -- ---- two sheets of which each is planned
 pub planned-read : (s : List ℕ) (space : List ℤ) → Planned (planning s space) → (t : Sheet) × (r : List ℕ) × (read s ≡ got t r)
@@ -147,25 +171,30 @@ planned-read s space h = go (read s) refl
     go (got t r) e = (t, r, e)
     go (sheet.refused k) e = absurd (subst Planned (planning-refused s space k e) h)
 
-pub front-fits : (s : List ℕ) (space : List ℤ) → Planned (planning s space) → line-size * plan-answer (planning s space) .count ≤ length space
+-- the list's words are within the space, seven or more a line
+abbrev pub Within : CuePlan → List ℤ → Type 0
+Within p space = (line-size ≤ p .width) × (p .width * p .count ≤ length space)
+
+pub front-fits : (s : List ℕ) (space : List ℤ) → Planned (planning s space) → Within (plan-answer (planning s space)) space
 unfolding planning
 front-fits s space = go (ordered s)
   where
-    whole : (n : ℕ) (spare : ℕ → Bool) (D : ℤ) (k l : ℕ) (L : List (Line n)) (b : Bool) → (b ≡ true → length L ≤ length space / line-size) →
-        Planned (cond b (planned n spare D k l L) (full (length L))) →
-        line-size * plan-answer (cond b (planned n spare D k l L) (full (length L))) .count ≤ length space
-    whole n spare D k l L true f h = let q = f refl in omega arith
-    whole n spare D k l L false f h = absurd h
+    seven : {A : Type 0} (o : Option A) → line-size ≤ width o
+    seven none = omega arith
+    seven (some a) = omega arith
 
-    go : (g : Got Sheet) → Planned (plan-of (length space / line-size) g) →
-        line-size * plan-answer (plan-of (length space / line-size) g) .count ≤ length space
+    whole : (t : Sheet) (b : Bool) → (b ≡ true → many t ≤ room-in space (wide t)) → Planned (outcome t b) →
+        Within (plan-answer (outcome t b)) space
+    whole t true f h = (seven (sheet-caps t), width-room (sheet-caps t) (many t) (length space) (f refl))
+    whole t false f h = absurd h
+
+    go : (g : Got Sheet) → Planned (plan-of (room-in space) g) → Within (plan-answer (plan-of (room-in space) g)) space
     go (sheet.refused k) h = absurd h
-    go (got t r) h = whole _ _ _ _ _ (sheet-lines t) (leb (length (sheet-lines t)) (length space / line-size))
-        (leb-true (length (sheet-lines t)) (length space / line-size)) h
+    go (got t r) h = whole t (leb (many t) (room-in space (wide t))) (leb-true (many t) (room-in space (wide t))) h
 
 accepted : (o : PlanOutcome) → Planned o → plan-answer o .refusal ≡ 0
-accepted (planned n spare D k l L) h = refl
-accepted (full k) h = absurd h
+accepted (planned n spare D k l caps L) h = refl
+accepted (full w k) h = absurd h
 accepted (refused k) h = absurd h
 
 -- P and Q are what the two plannings answered, `front` and `back` what they left
@@ -196,14 +225,23 @@ module _ (s₁ s₂ : List ℕ) (left right : List ℤ) (h₁ : Planned (plannin
 
   module _ (front back : List ℤ) (w₁ : front ≡ space-after (planning s₁ left) left) (w₂ : back ≡ space-after (planning s₂ right) right)
       (k : P .triggers ≡ Q .triggers) (b : P .spares ≡ Q .spares) where
+    abbrev SameLines : Type 0
+    SameLines = uncapped (P .width) (P .count) front ≡ uncapped (Q .width) (P .count) back
+
     abbrev Equal : Type 0
-    Equal = (P .count ≡ Q .count) × (take (line-size * P .count) front ≡ take (line-size * P .count) back)
+    Equal = (P .count ≡ Q .count) × SameLines
 
     c₁ : P .count ≡ count-of (planning s₁ left)
     c₁ = ap (λ (p : CuePlan). p .count) p
 
     c₂ : Q .count ≡ count-of (planning s₂ right)
     c₂ = ap (λ (p : CuePlan). p .count) q
+
+    l₁ : uncapped (P .width) (P .count) front ≡ lines-written (planning s₁ left) left
+    l₁ = cc
+
+    l₂ : uncapped (Q .width) (Q .count) back ≡ lines-written (planning s₂ right) right
+    l₂ = cc
 
     -- the two lists are equal exactly when the same timings are tightest
     alike-by : Equal ↔ Alike (read s₁) (read s₂)
@@ -223,15 +261,14 @@ module _ (s₁ s₂ : List ℕ) (left right : List ℤ) (h₁ : Planned (plannin
             record { rest₁ = m; rest₂ = w; read₁ = e; read₂ = f; same-size = size; planned₁ = h₁; planned₂ = h₂ } in
             let d = demand-3 s₁ s₂ t u left right two same in
             rw (e, f) (
-              λ q. (size, same, d .0 (sym c₁ ∙ q .0 ∙ c₂, cc (c₁, c₂))),
-              λ a. let l = d .1 (a .2) in (c₁ ∙ l .0 ∙ sym c₂, cc (c₁)),
+              λ q. (size, same, d .0 (sym c₁ ∙ q .0 ∙ c₂, sym l₁ ∙ q .1 ∙ cc (l₂))),
+              λ a. let l = d .1 (a .2) in (c₁ ∙ l .0 ∙ sym c₂, l₁ ∙ l .1 ∙ cc (l₂)),
             )
 
     alike-answer : (a : Bool) → asked ≡ a → answer a (P .count) (Q .count) ≡ comparing s₁ s₂ left right
     alike-answer a e = compared _ (rw (equal (P .triggers) (Q .triggers) k, equal (P .spares) (Q .spares) b, e) refl)
 
-    pub same-answer : P .count ≡ Q .count → take (line-size * P .count) front ≡ take (line-size * P .count) back →
-        answer true (P .count) (P .count) ≡ comparing s₁ s₂ left right
+    pub same-answer : P .count ≡ Q .count → SameLines → answer true (P .count) (P .count) ≡ comparing s₁ s₂ left right
     same-answer c e = ap (answer true (P .count)) c ∙ alike-answer true (decided-yes (alike? s₁ s₂) (alike-by .0 (c, e)))
 
     pub different-answer : ¬ Equal → answer false (P .count) (Q .count) ≡ comparing s₁ s₂ left right
@@ -253,16 +290,13 @@ pub none-refused : (s : List ℕ) (space : List ℤ) → plan-answer (planning s
 unfolding planning
 none-refused s space = go (ordered s) refl
   where
-    whole : (n : ℕ) (spare : ℕ → Bool) (D : ℤ) (k l : ℕ) (L : List (Line n)) (b : Bool) →
-        plan-answer (cond b (planned n spare D k l L) (full (length L))) .refusal ≡ 0 →
-        Planned (cond b (planned n spare D k l L) (full (length L)))
-    whole n spare D k l L true h = tt
-    whole n spare D k l L false h = let x : ⊥ = omega arith in absurd x
+    whole : (t : Sheet) (b : Bool) → plan-answer (outcome t b) .refusal ≡ 0 → Planned (outcome t b)
+    whole t true h = tt
+    whole t false h = let x : ⊥ = omega arith in absurd x
 
-    go : (g : Got Sheet) → ordered s ≡ g → plan-answer (plan-of (length space / line-size) g) .refusal ≡ 0 →
-        Planned (plan-of (length space / line-size) g)
+    go : (g : Got Sheet) → ordered s ≡ g → plan-answer (plan-of (room-in space) g) .refusal ≡ 0 → Planned (plan-of (room-in space) g)
     go (sheet.refused k) e h = let x : ⊥ = omega (arith, orderly-numbered s k e) in absurd x
-    go (got t r) e h = whole _ _ _ _ _ (sheet-lines t) (leb (length (sheet-lines t)) (length space / line-size)) h
+    go (got t r) e h = whole t (leb (many t) (room-in space (wide t))) h
 
 module _ (o p : PlanOutcome) (space : List ℤ) where
   -- the space of a refused sheet, and the one beside it
@@ -271,12 +305,12 @@ module _ (o p : PlanOutcome) (space : List ℤ) where
   own-kept f = go o p f
     where
       go : (o p : PlanOutcome) → ¬ (plan-answer o .refusal ≡ 0) → space ≡ compared-space o p space
-      go (planned n spare D k l L) p f = absurd (f refl)
-      go (full c) (planned n spare D k l L) f = refl
-      go (full c) (full k) f = refl
-      go (full c) (refused k) f = refl
-      go (refused c) (planned n spare D k l L) f = refl
-      go (refused c) (full k) f = refl
+      go (planned n spare D k l caps L) p f = absurd (f refl)
+      go (full w c) (planned n spare D k l caps L) f = refl
+      go (full w c) (full u k) f = refl
+      go (full w c) (refused k) f = refl
+      go (refused c) (planned n spare D k l caps L) f = refl
+      go (refused c) (full w k) f = refl
       go (refused c) (refused k) f = refl
 
   other-kept : ¬ (plan-answer p .refusal ≡ 0) → space ≡ compared-space o p space
@@ -284,8 +318,8 @@ module _ (o p : PlanOutcome) (space : List ℤ) where
   other-kept f = go p f
     where
       go : (p : PlanOutcome) → ¬ (plan-answer p .refusal ≡ 0) → space ≡ compared-space o p space
-      go (planned n spare D k l L) f = absurd (f refl)
-      go (full k) f = refl
+      go (planned n spare D k l caps L) f = absurd (f refl)
+      go (full w k) f = refl
       go (refused k) f = refl
 
   pub both-written : Planned p → space-after o space ≡ compared-space o p space
@@ -293,8 +327,8 @@ module _ (o p : PlanOutcome) (space : List ℤ) where
   both-written = go p
     where
       go : (p : PlanOutcome) → Planned p → space-after o space ≡ compared-space o p space
-      go (planned n spare D k l L) h = refl
-      go (full k) h = absurd h
+      go (planned n spare D k l caps L) h = refl
+      go (full w k) h = absurd h
       go (refused k) h = absurd h
 
 -- ---- a refusal's answer, and the two spaces as they were

@@ -1,6 +1,6 @@
 -- Comparing two sheets: what is answered, and what is left in the two spaces. Demand 3 is "one claim about two plannings, from the bytes of
 -- each sheet to the list written, whatever the space held before"; its other side is "that every timing is tightest on both sheets or on
--- neither". The answer says this other side; that the code finds it by the two lists is demand 3.
+-- neither". The answer says this other side, caps and last moments left out; that the code finds it by the two lists is demand 3.
 use mathlib.Core.List.{List}
 use mathlib.Core.Bool.{Bool, true, false, cond, not, _||_, decide}
 use Prim.Native.Nat.{ℕ}
@@ -43,6 +43,6 @@ comparing s₁ s₂ left right = compares (plan-answer (planning s₁ left)) (pl
 
 -- a space afterwards: as planning leaves it, and as it was where the other sheet is refused, since "a refusal … changes no lent byte or word"
 unfoldable pub compared-space : (own other : PlanOutcome) → List ℤ → List ℤ
-compared-space o (planned n s D k l L) space = space-after o space
-compared-space o (full k) space = space
+compared-space o (planned n s D k l caps L) space = space-after o space
+compared-space o (full w k) space = space
 compared-space o (refused k) space = space

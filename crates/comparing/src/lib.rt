@@ -1,9 +1,10 @@
 // Comparing two sheets: whether the same timings are tightest on both.
 ghost use mathlib.Core.Path.{_≡_};
 ghost use mathlib.Core.List.{List};
-ghost use Prim.Native.Nat.{_≤_};
+ghost use Prim.Native.Nat.{_+_, _*_, _≤_};
 ghost use lib.IntN.{ℤ};
-ghost use lib.ListN.{length, take};
+ghost use lib.ListN.{length, take, drop};
+ghost use Rattle.cue.specs.Written.{line-size, uncapped};
 ghost use Rattle.tables.specs.Held.{Says};
 ghost use Rattle.planning.specs.Planning.{planning, space-after, plan-answer};
 ghost use Rattle.planning.specs.Demands.{Planned};
@@ -28,8 +29,8 @@ struct Refusal {
     count: usize,
 }
 
-// Whether the same timings are tightest on two sheets; their lists are written at the front of the two spaces. Each sheet is first planned
-// with no room, so that a refusal leaves both spaces as they were.
+// Whether the same timings are tightest on two sheets; their lists, caps left out, are compared where they are written, at the front of the two
+// spaces. Each sheet is first planned with no room, so that a refusal leaves both spaces as they were.
 pub fn same_timings(first: &[u8], second: &[u8], left: &mut [i32], right: &mut [i32]) -> Compared
     ensures answer { λ r. ⌜ compare-answer r ≡ comparing (now (first .entry)) (now (second .entry)) (now (left .entry)) (now (right .entry)) ⌝ }
     ensures left { λ r. ⌜ now (left .exit) ≡ compared-space (planning (now (first .entry)) (now (left .entry)))
@@ -55,7 +56,7 @@ fn refused(bytes: &[u8], words: usize) -> Refusal
     let mut none = [0i32; 1];
     let r = plan(bytes, &mut none);
     let count = r.count;
-    if 0 < count && count <= words / LINE_SIZE {
+    if 0 < count && count <= words / r.width {
         return Refusal {
             number: 0,
             count: count,
@@ -79,20 +80,35 @@ fn likened(first: &[u8], second: &[u8], left: &mut [i32], right: &mut [i32]) -> 
     if p.triggers != q.triggers || p.spares != q.spares {
         return Compared::Unlike(p.count, q.count);
     }
-    if p.count == q.count && same_words(left, right, LINE_SIZE * p.count) {
+    if p.count == q.count && same_lines(left, p.width, right, q.width, p.count) {
         return Compared::Same(p.count);
     }
     Compared::Different(p.count, q.count)
 }
 
-// Whether the first `k` words of two spaces are the same.
-fn same_words(left: &[i32], right: &[i32], k: usize) -> bool
-    requires { ⌜ (k ≤ length (now left)) × (k ≤ length (now right)) ⌝ }
-    ensures { λ r. ⌜ Says (take k (now (left .entry)) ≡ take k (now (right .entry))) r ⌝ }
+// Whether the first lines of two spaces are the same, their caps left out: a line takes `wide` words on the left and `broad` on the right.
+fn same_lines(left: &[i32], wide: usize, right: &[i32], broad: usize, count: usize) -> bool
+    requires { ⌜ (line-size ≤ wide) × (line-size ≤ broad) × (wide * count ≤ length (now left)) × (broad * count ≤ length (now right)) ⌝ }
+    ensures { λ r. ⌜ Says (uncapped wide count (now (left .entry)) ≡ uncapped broad count (now (right .entry))) r ⌝ }
+{
+    let mut k: usize = 0;
+    while k < count {
+        if !same_words(left, wide * k, right, broad * k) {
+            return false;
+        }
+        k += 1;
+    }
+    true
+}
+
+// Whether the seven words from two places on are the same.
+fn same_words(left: &[i32], from: usize, right: &[i32], at: usize) -> bool
+    requires { ⌜ (from + line-size ≤ length (now left)) × (at + line-size ≤ length (now right)) ⌝ }
+    ensures { λ r. ⌜ Says (take line-size (drop from (now (left .entry))) ≡ take line-size (drop at (now (right .entry)))) r ⌝ }
 {
     let mut i: usize = 0;
-    while i < k {
-        if left[i] != right[i] {
+    while i < LINE_SIZE {
+        if left[from + i] != right[at + i] {
             return false;
         }
         i += 1;

@@ -48,10 +48,12 @@ pub mod Closure
 pub mod Covering
 pub mod Room
 pub mod Weights
+pub mod Reaches
 pub mod Latest
 pub mod Bounds
 pub mod Few
 pub mod WrittenLaws
+pub mod LentLaws
 pub mod StandingLaws
 pub mod TwoSheets
 pub mod Demands

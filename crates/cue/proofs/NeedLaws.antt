@@ -1,6 +1,6 @@
 -- Step 6's w, fixing by fixing: one more changes it at its trigger alone, to the larger of what it was and what the panel asks.
 use mathlib.Core.Path.{_≡_, refl, ap, _∙_}
-use mathlib.Core.List.{List, [], _∷_, _++_}
+use mathlib.Core.List.{[], _∷_, _++_}
 use Prim.Native.Nat.{ℕ}
 use lib.IntN.{ℤ}
 use Rattle.maxplus.specs.Entry.{E, absent, _⊗_, _⊕_, inv}

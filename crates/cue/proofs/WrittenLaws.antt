@@ -9,7 +9,6 @@ use lib.ListN.{length, take, drop, getD, length-append}
 use lib.Seq.{take-at, drop-at}
 use Rattle.maxplus.specs.Whole.{dn}
 use Rattle.maxplus.specs.Entry.{E, absent, num}
-use Rattle.maxplus.specs.Finite.{In}
 use Rattle.maxplus.specs.Line.{Line, at}
 use Rattle.maxplus.proofs.EachLaws.{length-each, each-at}
 use Rattle.maxplus.proofs.LineLaws.{line-ext}
@@ -37,7 +36,7 @@ list-words-length n [] = refl
 list-words-length n (c ∷ L) = length-append (line-words n c) (list-words n L) ∙
     (let a = line-words-length n c in let b = list-words-length n L in omega arith)
 
-line-words-at : (n : ℕ) (c : Line n) (i : ℕ) → i < 6 → getD (line-words n c) (suc i) (pos 0) ≡ signed (at n c i)
+pub line-words-at : (n : ℕ) (c : Line n) (i : ℕ) → i < 6 → getD (line-words n c) (suc i) (pos 0) ≡ signed (at n c i)
 unfolding line-words
 line-words-at n c i h = each-at 6 i (λ i. signed (at n c i)) (pos 0) h
 

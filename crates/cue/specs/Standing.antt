@@ -2,6 +2,7 @@
 use mathlib.Core.Path.{_≡_}
 use mathlib.Core.List.{List, [], _∷_}
 use mathlib.Core.Bool.{cond}
+use mathlib.Core.Option.{Option}
 use Prim.Native.Nat.{ℕ, _+_, _*_}
 use lib.Dec.{eqb}
 use lib.IntN.{ℤ, pos, negsuc}
@@ -9,7 +10,7 @@ use lib.ListN.{length, take, getD}
 use Rattle.maxplus.specs.Entry.{E, absent, num}
 use Rattle.maxplus.specs.Finite.{each}
 use Rattle.maxplus.specs.Line.{Line, line}
-use Rattle.cue.specs.Written.{line-size, list-words}
+use Rattle.cue.specs.Written.{line-size, list-words, width, lent-words}
 use Rattle.cue.specs.Results.{Fitting}
 
 -- the entry of a signed word
@@ -29,4 +30,10 @@ lines-of n count ws = each count (λ k. line-at n ws (line-size * k) ∷ [])
 pub record Stands (n count : ℕ) (ws : List ℤ) (L : List (Line n)) : Type 0 where
   pub many : length L ≡ count
   pub words : take (line-size * count) ws ≡ list-words n L
+  pub fitting : Fitting n L
+
+-- and a list with its caps
+pub record StandsWith (n count : ℕ) (ws : List ℤ) (caps : Option (Line n → ℤ)) (L : List (Line n)) : Type 0 where
+  pub many : length L ≡ count
+  pub words : take (width caps * count) ws ≡ lent-words n caps L
   pub fitting : Fitting n L

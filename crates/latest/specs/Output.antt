@@ -10,18 +10,18 @@ use Rattle.advice.specs.Advice.{advice}
 use Rattle.reaching.specs.Reaching.{ReachOutcome, reached, full, refused, reach-of}
 
 abbrev pub reached-text : ReachOutcome → List ℕ
-reached-text (reached n X L) = latest-text n X
-reached-text (full k) = full-text k
+reached-text (reached n X caps L) = latest-text n X
+reached-text (full w k) = full-text k
 reached-text (refused k) = refusal-text k
 
 abbrev pub reached-complaint : ReachOutcome → List ℕ
-reached-complaint (reached n X L) = []
-reached-complaint (full k) = advice 9
+reached-complaint (reached n X caps L) = []
+reached-complaint (full w k) = advice 9
 reached-complaint (refused k) = advice k
 
 -- "The program lends space for 2,000 lines", as document 01 has it of `plan`
 abbrev pub program-reach : List ℕ → ℕ → Timing → ReachOutcome
-program-reach s count G = reach-of s count G 2000 (admitted s count G) refl
+program-reach s count G = reach-of s count G (λ wide. 2000) (admitted s count G) refl
 
 unfoldable pub program-text : List ℕ → ℕ → Timing → List ℕ
 program-text s count G = reached-text (program-reach s count G)

@@ -8,12 +8,14 @@ ghost use Rattle.latest.specs.Output.{program-text, program-complaint};
 use text::Ends;
 use timing::Timing;
 
-// What the program writes for a sheet and the times given; the places behind the two texts. The space is that of `plan`: 2,000 lines, seven words
-// each. Only 9 is a refusal with a count.
+// "The program lends space for 2,000 lines", as `plan` does: of eight words each. A sheet whose lines take seven gets no more of them.
+const LINES: usize = 2000;
+
+// What the program writes for a sheet and the times given; the places behind the two texts. Only 9 is a refusal with a count.
 fn answers(
     bytes: &[u8],
     wish: Timing,
-    space: &mut [i32; 14000],
+    space: &mut [i32; 16000],
     out: &mut [u8; 200],
     errors: &mut [u8; 300],
 ) -> Ends
@@ -24,15 +26,16 @@ fn answers(
         program-complaint (now (bytes .entry)) (wish .count) (component (wish .at)) ⌝ }
 {
     let reached = reaching::latest_timing(bytes, wish, space);
+    if LINES < reached.count {
+        let full = text::full_text(out, reached.count as u64);
+        let complaint = advice::advice_text(errors, 9);
+        return Ends {
+            text: full,
+            complaint: complaint,
+        };
+    }
     let complaint = advice::advice_text(errors, reached.refusal);
     if reached.refusal != 0 {
-        if reached.count != 0 {
-            let full = text::full_text(out, reached.count as u64);
-            return Ends {
-                text: full,
-                complaint: complaint,
-            };
-        }
         let refused = text::refusal_text(out, reached.refusal);
         return Ends {
             text: refused,
@@ -52,7 +55,7 @@ fn answers(
 fn reach_input(wish: Timing) {
     let mut sheet = [0u8; 2049];
     let length = io::read_full(0, &mut sheet);
-    let mut space = [0i32; 14000];
+    let mut space = [0i32; 16000];
     let mut out = [0u8; 200];
     let mut errors = [0u8; 300];
     let ends = answers(&sheet[..length], wish, &mut space, &mut out, &mut errors);

@@ -46,26 +46,30 @@ unfolding each
 six-read w from p q r s t u = rw (p, q, r, s, t, u) (simp unary-clauses refl)
 
 -- of a line they are its components
-six-components : (w : List ℤ) (from m : ℕ) (c : Line m) → take line-size (drop from w) ≡ line-words m c → (k : ℕ) → k < 6 →
-    getD (six (λ j. getD w (from + 1 + j) (pos 0))) k (pos 0) ≡ signed (at m c k)
+pub component-word : (w : List ℤ) (from m : ℕ) (c : Line m) → take line-size (drop from w) ≡ line-words m c → (k : ℕ) → k < 6 →
+    getD w (from + 1 + k) (pos 0) ≡ signed (at m c k)
 unfolding line-words
-six-components w from m c e k h =
-    each-at 6 k (λ j. getD w (from + 1 + j) (pos 0)) (pos 0) h ∙
+component-word w from m c e k h =
     ap (λ i. getD w i (pos 0)) (let f : from + 1 + k ≡ from + suc k = omega arith in f) ∙
     sym (getD-take line-size (drop from w) (suc k) (pos 0) (omega arith) ∙ getD-drop from w (suc k) (pos 0)) ∙
     ap (λ l. getD l (suc k) (pos 0)) e ∙ each-at 6 k (λ i. signed (at m c i)) (pos 0) h
 
--- one more of them written
+six-components : (w : List ℤ) (from m : ℕ) (c : Line m) → take line-size (drop from w) ≡ line-words m c → (k : ℕ) → k < 6 →
+    getD (six (λ j. getD w (from + 1 + j) (pos 0))) k (pos 0) ≡ signed (at m c k)
+six-components w from m c e k h = each-at 6 k (λ j. getD w (from + 1 + j) (pos 0)) (pos 0) h ∙ component-word w from m c e k h
+
+-- ---- one more of the words W written behind those before it
+pub word-set : (first : List ℤ) (from : ℕ) (W : List ℤ) (j : ℕ) {z : ℤ} → from + length W ≤ length first → j < length W →
+    z ≡ getD W j (pos 0) → set (paste first from W j) (from + j) z ≡ paste first from W (j + 1)
+word-set first from W j h k e = ap (set (paste first from W j) (from + j)) e ∙ paste-suc first from W j (pos 0) (omega arith) k ∙
+    ap (paste first from W) (sym (add-one j))
+
 component-set : (first : List ℤ) (from n : ℕ) (c : Line n) (j : ℕ) {z : ℤ} → from + line-size ≤ length first → j < 6 →
     z ≡ signed (at n c j) →
     set (paste first (from + 1) (component-words n c) j) (from + 1 + j) z ≡ paste first (from + 1) (component-words n c) (j + 1)
 component-set first from n c j h k e =
-    ap (set (paste first (from + 1) W j) (from + 1 + j)) (e ∙ sym (each-at 6 j (λ i. signed (at n c i)) (pos 0) k)) ∙
-    paste-suc first (from + 1) W j (pos 0) (omega arith) (let l = length-each 6 (λ i. signed (at n c i)) in omega arith) ∙
-    ap (paste first (from + 1) W) (sym (add-one j))
-  where
-    W : List ℤ
-    W = component-words n c
+    let l = length-each 6 (λ i. signed (at n c i)) in
+    word-set first (from + 1) (component-words n c) j (omega arith) (omega arith) (e ∙ sym (each-at 6 j (λ i. signed (at n c i)) (pos 0) k))
 
 -- ---- one line: j triggers have been looked at, k of them are in use, and out has the words of the j
 pub record Laying (p : Places) (packed first : List ℤ) (from : ℕ) (out : List ℤ) (k j : ℕ) : Type 0 where

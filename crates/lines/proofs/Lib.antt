@@ -2,4 +2,6 @@
 pub mod ListingLaws
 pub mod TurnLaws
 pub mod LayLaws
+pub mod CapLaws
+pub mod FinishLaws
 pub mod SheetLaws

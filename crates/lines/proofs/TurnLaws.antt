@@ -1,14 +1,14 @@
 -- Laws of counting and writing the list one buffer-full after the other.
 use mathlib.Core.Path.{_≡_, refl, ap, ap₂, sym, _∙_}
 use mathlib.Core.List.{List, [], _++_, append-assoc}
-use Prim.Native.Nat.{ℕ, _+_, _*_, _/_, _≤_, _<_}
+use Prim.Native.Nat.{ℕ, _+_, _*_, _≤_, _<_}
 use native.Mathlib.Omega.{arith}
 use lib.IntN.{ℤ}
 use lib.ListN.{length, drop, length-append}
 use Rattle.maxplus.specs.Line.{Line}
 use Rattle.cue.specs.Cue.{Cue}
 use Rattle.cue.specs.Method.{lines}
-use Rattle.cue.specs.Written.{line-size, list-words, with-list}
+use Rattle.cue.specs.Written.{line-size, list-words}
 use Rattle.cue.proofs.WrittenLaws.{list-words-length}
 use Rattle.tables.specs.Lines.{line-of, Sized}
 use Rattle.candidates.specs.declared.Marks.{Marks}
@@ -25,15 +25,15 @@ use Rattle.lines.proofs.ListingLaws.{above-blank, filled-few, filled-al
 use Rattle.cue.specs.Sizes.{most-lines}
 
 -- words at the front
-laid-front : (before : List ℤ) (n : ℕ) (L : List (Line n)) → laid before 0 (list-words n L) ≡ with-list n L before
+laid-front : (before : List ℤ) (n : ℕ) (L : List (Line n)) → laid before 0 (list-words n L) ≡ list-words n L ++ drop (line-size * length L) before
 unfolding laid
 laid-front before n L = let e : 0 + length (list-words n L) ≡ line-size * length L = omega (arith, list-words-length n L) in
     ap (λ k. list-words n L ++ drop k before) e
 
 -- a whole list at the front
-pub answers-lines : (n : ℕ) (L : List (Line n)) (before after : List ℤ) (k : ℕ) → k ≡ length L → k ≤ length before / line-size →
-    after ≡ laid before 0 (list-words n L) → Answers n L before after (Lines k)
-answers-lines n L before after k e h o = (e, omega arith, o ∙ laid-front before n L)
+pub answers-lines : (n : ℕ) (L : List (Line n)) (most : ℕ) (before after : List ℤ) (k : ℕ) → k ≡ length L → k ≤ most →
+    after ≡ laid before 0 (list-words n L) → Answers n L most before after (Lines k)
+answers-lines n L most before after k e h o = (e, omega arith, o ∙ laid-front before n L)
 
 -- ---- counting: so many lines are not above last
 pub record Counted (M : Marks) (stars lags needs : List (List ℕ)) (last : List ℕ) (count : ℕ) : Type 0 where
@@ -175,8 +175,8 @@ module _ {M : Marks} {stars lags needs : List (List ℕ)} where
     pub whole-count : len ≡ length (lines (M .triggers) P)
     whole-count = sym (many-held s g) ∙ ap length whole-held
 
-    pub answers-held : (before after : List ℤ) → len ≤ length before / line-size →
+    pub answers-held : (most : ℕ) (before after : List ℤ) → len ≤ most →
         after ≡ laid before 0 (list-words (M .triggers) (held (M .triggers) len buf)) →
-        Answers (M .triggers) (lines (M .triggers) P) before after (Lines len)
-    answers-held before after k e = answers-lines (M .triggers) (lines (M .triggers) P) before after len whole-count k
+        Answers (M .triggers) (lines (M .triggers) P) most before after (Lines len)
+    answers-held most before after k e = answers-lines (M .triggers) (lines (M .triggers) P) most before after len whole-count k
         (e ∙ ap (λ L. laid before 0 (list-words (M .triggers) L)) whole-held)

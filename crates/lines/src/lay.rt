@@ -18,7 +18,7 @@ use trigger_sets::has;
 use words::LINE_SIZE;
 
 // The six components of the line that begins at a place.
-fn components(space: &[i32], from: usize) -> [i32; 6]
+pub fn components(space: &[i32], from: usize) -> [i32; 6]
     requires { ⌜ from + line-size ≤ length (now space) ⌝ }
     ensures { λ r. ⌜ r ≡ six (λ j. getD (now (space .entry)) (from + 1 + j) (pos 0)) ⌝ }
 {

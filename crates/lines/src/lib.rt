@@ -2,18 +2,32 @@
 ghost use Rattle.cue.specs.Cue.{Cue};
 ghost use Rattle.cue.specs.Method.{lines};
 ghost use Rattle.candidates.specs.Drawable.{Drawable};
-ghost use Rattle.lines.specs.Listing.{Answers};
+ghost use mathlib.Core.Path.{_≡_};
+ghost use mathlib.Core.List.{List};
+ghost use Prim.Native.Nat.{_*_, _≤_};
+ghost use lib.IntN.{ℤ};
+ghost use lib.ListN.{length};
+ghost use Rattle.cue.specs.Written.{line-size, width, with-list};
+ghost use Rattle.sheet.specs.Sheet.{Sheet, given};
+ghost use Rattle.sheet.specs.Cue.{sheet-lines, sheet-caps};
+ghost use Rattle.lines.specs.Listing.{Answers, Listing};
+use crate::cap::add_caps;
 use crate::count::count_lines;
+use crate::lay::lay_out;
 use crate::write::write_held;
 use crate::write::write_lines;
 use buffer::ROOM;
 use candidates::Marks;
 use gather::gather;
+use moments::Moments;
+use spares::Places;
+use words::CAPPED_SIZE;
 use words::LINE_SIZE;
 use words::LineWords;
 
+pub mod cap;
 mod count;
-pub mod lay;
+mod lay;
 mod write;
 
 // The count of lines written, or of those that do not fit.
@@ -22,21 +36,29 @@ pub enum Listed {
     NoRoom(usize),
 }
 
-// The list at the front of the lent space, or its count and no change.
+// The words that a line takes: with a cap where the sheet has a last line.
+pub fn width(capped: bool) -> usize
+    ensures { λ r. ⌜ ((t : Sheet) → capped ≡ given (t .last) → r ≡ width (sheet-caps t)) ⌝ }
+{
+    if capped { CAPPED_SIZE } else { LINE_SIZE }
+}
+
+// The list at the front of the lent space, seven words a line, or its count and no change, where there is room for so many lines.
 pub fn list(
     out: &mut [i32],
+    room: usize,
     marks: Marks,
     star: &[[u64; 6]; 6],
     lag: &[[u64; 6]; 6],
     needs: &[[u64; 6]; 6],
 ) -> Listed
-    requires { ⌜ ((P : Cue) × Drawable (marks .triggers) P marks (now star) (now lag) (now needs)) ⌝ }
+    requires { ⌜ (line-size * room ≤ length (now out)) ×
+        ((P : Cue) × Drawable (marks .triggers) P marks (now star) (now lag) (now needs)) ⌝ }
     ensures { λ r. ⌜ ((P : Cue) → Drawable (marks .triggers) P marks (now (star .entry)) (now (lag .entry)) (now (needs .entry)) →
-        Answers (marks .triggers) (lines (marks .triggers) P) (now (out .entry)) (now (out .exit)) r) ⌝ }
+        Answers (marks .triggers) (lines (marks .triggers) P) room (now (out .entry)) (now (out .exit)) r) ⌝ }
 {
     let mut buf = [[0u64; 6]; 128];
     let n = marks.triggers;
-    let room = out.len() / LINE_SIZE;
     let none = LineWords {
         count: n,
         at: [0u64; 6],
@@ -56,4 +78,17 @@ pub fn list(
     }
     write_lines(out, marks, star, lag, needs);
     Listed::Lines(count)
+}
+
+// From the list of a cue to the sheet's: each line laid out over the sheet's triggers, and with its cap if the sheet has a last line.
+pub fn finish(space: &mut [i32], count: usize, p: Places, moments: Moments)
+    requires { ⌜ ((t : Sheet) × (before : List ℤ) × Listing t before count (now space) p moments) ⌝ }
+    ensures { λ _. ⌜ ((t : Sheet) (before : List ℤ) → Listing t before count (now (space .entry)) p moments →
+        now (space .exit) ≡ with-list (t .triggers) (sheet-caps t) (sheet-lines t) before) ⌝ }
+{
+    lay_out(space, count, p);
+    let overruns = moments.overruns;
+    if moments.given {
+        add_caps(space, count, p.triggers, overruns);
+    }
 }

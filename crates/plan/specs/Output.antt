@@ -8,18 +8,18 @@ use Rattle.advice.specs.Advice.{advice}
 use Rattle.planning.specs.Planning.{PlanOutcome, planned, full, refused, plan-of}
 
 unfoldable pub text : PlanOutcome → List ℕ
-text (planned n s D k l L) = plan-text n s D k l L
-text (full k) = full-text k
+text (planned n s D k l caps L) = plan-text n s D k l caps L
+text (full w k) = full-text k
 text (refused k) = refusal-text k
 
 abbrev pub complaint : PlanOutcome → List ℕ
-complaint (planned n s D k l L) = []
-complaint (full k) = advice 9
+complaint (planned n s D k l caps L) = []
+complaint (full w k) = advice 9
 complaint (refused k) = advice k
 
--- "The program lends space for 2,000 lines."
+-- "The program lends space for 2,000 lines", of seven words or of eight.
 abbrev pub program-plan : List ℕ → PlanOutcome
-program-plan s = plan-of 2000 (ordered s)
+program-plan s = plan-of (λ wide. 2000) (ordered s)
 
 unfoldable pub program-text : List ℕ → List ℕ
 program-text s = text (program-plan s)

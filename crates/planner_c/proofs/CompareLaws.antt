@@ -15,7 +15,7 @@ use Rattle.comparing.specs.declared.Compared.{Compared}
 use Rattle.planner_c.specs.Words.{compare-number, compare-words}
 use Rattle.cue.specs.Sizes.{most-lines}
 use Rattle.planner_c.specs.Inner.{Counted}
-use Rattle.planner_c.proofs.Few.{count-few}
+use Rattle.planner_c.proofs.Few.{plan-few}
 
 -- ---- the counts
 compares-counted : (p q : CuePlan) (same : Bool) → p .count ≤ most-lines → q .count ≤ most-lines → Counted (compares p q same)
@@ -32,7 +32,7 @@ compares-counted p q same c d = go (not (eqb (p .refusal) 0)) (not (eqb (q .refu
 pub counted : (s₁ s₂ : List ℕ) (left right : List ℤ) {o : Comparison} → o ≡ comparing s₁ s₂ left right → Counted o
 unfolding comparing
 counted s₁ s₂ left right e = subst Counted (sym e) (compares-counted (plan-answer (planning s₁ left)) (plan-answer (planning s₂ right))
-    (decide (alike? s₁ s₂)) (count-few s₁ left) (count-few s₂ right))
+    (decide (alike? s₁ s₂)) (plan-few s₁ left .0) (plan-few s₂ right .0))
 
 -- ---- the words
 pub two-stored : (lent : List ℤ) {a b : List ℤ} {v w : ℤ} (c d : ℕ) → v ≡ pos c → a ≡ set lent 0 v → w ≡ pos d → b ≡ set a 1 w →

@@ -15,7 +15,7 @@ use Rattle.timing.specs.Times.{component}
 use Rattle.reaching.specs.Reaching.{refused, reaching, reached-space, reach-answer}
 use Rattle.reaching.proofs.ReachLaws.{reaching-of}
 use Rattle.reaching.specs.declared.Reached.{Reached}
-use Rattle.planner_c.specs.Words.{needed-words, reach-words}
+use Rattle.planner_c.specs.Words.{room-words, reach-words}
 use Rattle.planner_c.proofs.Storing.{sets-append}
 use Rattle.planner_c.proofs.TimesLaws.{as-lent}
 
@@ -28,12 +28,14 @@ time-more lent at j el ev ez = ez ∙ rw (el, ev, add-one)
     (sym (sets-append (each j (λ i. component at i ∷ [])) (component at j ∷ []) lent 1 (1 + j) (omega (arith, length-each j (component at)))))
 
 module _ (r : Reached) (lent : List ℤ) where
-  pub reached-words : {a b : List ℤ} {n : ℤ} → r .refusal ≡ 0 → n ≡ pos (r .count) → a ≡ set lent 0 n →
-      b ≡ sets a 1 (six (component (r .timing .at))) → b ≡ reach-words r lent
+  pub reached-words : {a b c : List ℤ} {n w : ℤ} → r .refusal ≡ 0 → n ≡ pos (r .count) → a ≡ set lent 0 n →
+      b ≡ sets a 1 (six (component (r .timing .at))) → w ≡ pos (r .width) → c ≡ set b 7 w → c ≡ reach-words r lent
   unfolding reach-words
-  reached-words h en ea eb = eb ∙ rw (ea, en, eq-eqb (r .refusal) 0 h) refl
+  reached-words h en ea eb ew ec = ec ∙ rw (eb, ea, en, ew, eq-eqb (r .refusal) 0 h)
+      (sym (sets-append (six (component (r .timing .at))) (pos (r .width) ∷ []) (set lent 0 (pos (r .count))) 1 7
+      (omega (arith, length-each 6 (component (r .timing .at))))))
 
-  pub unreached-words : {a : List ℤ} → ¬ (r .refusal ≡ 0) → a ≡ needed-words 0 (r .refusal) (r .count) lent → a ≡ reach-words r lent
+  pub unreached-words : {a : List ℤ} → ¬ (r .refusal ≡ 0) → a ≡ room-words 0 7 (r .refusal) (r .count) (r .width) lent → a ≡ reach-words r lent
   unfolding reach-words
   unreached-words f ea = ea ∙ rw (ne-eqb (r .refusal) 0 f) refl
 

@@ -15,7 +15,7 @@ use Rattle.maxplus.specs.Finite.{each}
 use borrow.Author.Tests.{eq-eqb, ne-eqb}
 use Rattle.keeping.specs.declared.KeptTable.{KeptTable}
 use Rattle.planning.specs.declared.CuePlan.{CuePlan}
-use Rattle.planner_c.specs.Words.{pairs, plan-words, kept-words, needed-words}
+use Rattle.planner_c.specs.Words.{pairs, plan-words, kept-words, needed-words, room-words}
 
 -- a word comes back as it was
 pub back : {z t : ℤ} → mag z < 2 ^ hbits w64 → z ≡ t → toZ w64 (ofZ w64 z) ≡ t
@@ -53,22 +53,28 @@ module _ (lent : List ℤ) where
   unfolding needed-words
   none-needed at k c f = rw (ne-eqb k 9 f) refl
 
+  -- with the words of a line
+  pub room-stored : {a b : List ℤ} {v u : ℤ} (at wide-at k c w : ℕ) → k ≡ 9 → v ≡ pos c → a ≡ set lent at v → u ≡ pos w →
+      b ≡ set a wide-at u → b ≡ room-words at wide-at k c w lent
+  unfolding room-words
+  room-stored at wide-at k c w h ev ea eu eb = eb ∙ rw (ea, ev, eu, eq-eqb k 9 h) refl
+
+  pub no-room : (at wide-at k c w : ℕ) → ¬ (k ≡ 9) → lent ≡ room-words at wide-at k c w lent
+  unfolding room-words
+  no-room at wide-at k c w f = rw (ne-eqb k 9 f) refl
+
 -- ---- planning's answer
 module _ (r : CuePlan) (lent : List ℤ) where
-  pub planned-words : {a b c d e : List ℤ} {D k l n s : ℤ} → r .refusal ≡ 0 → D ≡ r .deviation → a ≡ set lent 0 D → k ≡ pos (r .steps) →
-      b ≡ set a 1 k → l ≡ pos (r .selections) → c ≡ set b 2 l → n ≡ pos (r .count) → d ≡ set c 3 n →
-      s ≡ pos (r .spares) → e ≡ set d 4 s → e ≡ plan-words r lent
+  pub planned-words : {a b c d e f : List ℤ} {D k l n s w : ℤ} → r .refusal ≡ 0 → D ≡ r .deviation → a ≡ set lent 0 D →
+      k ≡ pos (r .steps) → b ≡ set a 1 k → l ≡ pos (r .selections) → c ≡ set b 2 l → n ≡ pos (r .count) → d ≡ set c 3 n →
+      s ≡ pos (r .spares) → e ≡ set d 4 s → w ≡ pos (r .width) → f ≡ set e 5 w → f ≡ plan-words r lent
   unfolding plan-words
-  planned-words h eD ea ek eb el ec en ed es ee = ee ∙ rw (ed, ec, eb, ea, eD, ek, el, en, es, eq-eqb (r .refusal) 0 h) refl
+  planned-words h eD ea ek eb el ec en ed es ee ew ef =
+      ef ∙ rw (ee, ed, ec, eb, ea, eD, ek, el, en, es, ew, eq-eqb (r .refusal) 0 h) refl
 
-  pub full-words : {d : List ℤ} {n : ℤ} → ¬ (r .refusal ≡ 0) → r .refusal ≡ 9 → n ≡ pos (r .count) → d ≡ set lent 3 n →
-      d ≡ plan-words r lent
+  pub full-words : {d : List ℤ} → ¬ (r .refusal ≡ 0) → d ≡ room-words 3 5 (r .refusal) (r .count) (r .width) lent → d ≡ plan-words r lent
   unfolding plan-words
-  full-words f h en ed = ed ∙ rw (en, ne-eqb (r .refusal) 0 f, eq-eqb (r .refusal) 9 h) refl
-
-  pub no-words : ¬ (r .refusal ≡ 0) → ¬ (r .refusal ≡ 9) → lent ≡ plan-words r lent
-  unfolding plan-words
-  no-words f g = rw (ne-eqb (r .refusal) 0 f, ne-eqb (r .refusal) 9 g) refl
+  full-words f e = e ∙ rw (ne-eqb (r .refusal) 0 f) refl
 
 -- ---- the kept table's
 module _ (r : KeptTable) (lent : List ℤ) where

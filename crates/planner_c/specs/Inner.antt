@@ -1,5 +1,5 @@
 -- What inner functions ask. Nothing public is stated here.
-use Prim.Native.Nat.{ℕ, _≤_}
+use Prim.Native.Nat.{_≤_}
 use Rattle.cue.specs.Sizes.{most-lines}
 use Rattle.comparing.specs.Comparing.{Comparison, answer, unlike, first-refused, second-refused}
 

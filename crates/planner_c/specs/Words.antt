@@ -1,5 +1,5 @@
 -- The words that C is given: each answer at the front of the words that the caller has for it, and the number returned.
-use mathlib.Core.List.{List, [], _∷_}
+use mathlib.Core.List.{List, [], _∷_, _++_}
 use mathlib.Core.Bool.{true, false, cond}
 use Prim.Native.Nat.{ℕ, _+_}
 use lib.Dec.{eqb}
@@ -19,11 +19,16 @@ use Rattle.reaching.specs.declared.Reached.{Reached}
 -- Words are stored from a place on; one that is past the end is dropped, and the rest stays (`sets`). The words of an answer are results,
 -- which C can return by a pointer only, and not lent space: document 01's "leaves the rest" and "changes no lent byte or word" are about that.
 
--- deviation, steps, selections, count and the byte of spares; for 9 "the count needed" in its place; for any other refusal nothing
+-- for 9 "the count needed" and how many words a line takes, each at its place; for any other refusal nothing
+unfoldable pub room-words : (at wide-at number count wide : ℕ) → List ℤ → List ℤ
+room-words at wide-at k c w lent = cond (eqb k 9) (sets (sets lent at (pos c ∷ [])) wide-at (pos w ∷ [])) lent
+
+-- deviation, steps, selections, count, the byte of spares and how many words a line takes; for 9 count and words in their places
 unfoldable pub plan-words : CuePlan → List ℤ → List ℤ
 plan-words r lent =
-    cond (eqb (r .refusal) 0) (sets lent 0 (r .deviation ∷ pos (r .steps) ∷ pos (r .selections) ∷ pos (r .count) ∷ pos (r .spares) ∷ []))
-    (cond (eqb (r .refusal) 9) (sets lent 3 (pos (r .count) ∷ [])) lent)
+    cond (eqb (r .refusal) 0)
+    (sets lent 0 (r .deviation ∷ pos (r .steps) ∷ pos (r .selections) ∷ pos (r .count) ∷ pos (r .spares) ∷ pos (r .width) ∷ []))
+    (room-words 3 5 (r .refusal) (r .count) (r .width) lent)
 
 -- byte and count for each of the first panels
 unfoldable pub pairs : ℕ → List ℕ → List ℕ → List ℤ
@@ -61,7 +66,9 @@ compare-words (unlike c d) lent = sets lent 0 (pos c ∷ pos d ∷ [])
 compare-words (first-refused k c) lent = needed-words 0 k c lent
 compare-words (second-refused k c) lent = needed-words 1 k c lent
 
--- the number of lines and the timing's six components, 0 for the unused ones; for 9 the count needed in the first place
+-- the number of lines, the timing's six components, 0 for the unused ones, and how many words a line takes; for 9 count and words in their
+-- places
 unfoldable pub reach-words : Reached → List ℤ → List ℤ
 reach-words r lent =
-    cond (eqb (r .refusal) 0) (sets lent 0 (pos (r .count) ∷ six (component (r .timing .at)))) (needed-words 0 (r .refusal) (r .count) lent)
+    cond (eqb (r .refusal) 0) (sets lent 0 (pos (r .count) ∷ six (component (r .timing .at)) ++ (pos (r .width) ∷ [])))
+    (room-words 0 7 (r .refusal) (r .count) (r .width) lent)

@@ -4,7 +4,7 @@ ghost use Prim.Native.Nat.{_≤_};
 ghost use lib.IntN.{pos};
 ghost use lib.ListN.{set};
 ghost use lib.Seq.{sets};
-ghost use Rattle.planner_c.specs.Words.{pairs, plan-words, kept-words, needed-words};
+ghost use Rattle.planner_c.specs.Words.{pairs, plan-words, kept-words, needed-words, room-words};
 ghost use Rattle.cue.specs.Sizes.{size-limit, most-lines};
 use keeping::KeptTable;
 use planning::CuePlan;
@@ -21,7 +21,7 @@ fn word(k: u32) -> i64
     k as i64
 }
 
-// There are at most 6 · 6⁶ lines, so that their count is a word of 64 bits with a sign.
+// There are at most 6 · 6⁶ lines, so that their count is a word of 64 bits with a sign; and so are the words of a line, which are fewer.
 pub fn count_word(count: usize) -> i64
     requires { ⌜ count ≤ most-lines ⌝ }
     ensures { λ r. ⌜ r ≡ pos count ⌝ }
@@ -48,8 +48,19 @@ pub fn put_needed(lent: &mut [i64], at: usize, number: u8, count: usize)
     }
 }
 
+// For 9 the count needed and how many words a line takes, each at its place.
+pub fn put_room(lent: &mut [i64], at: usize, behind: usize, number: u8, count: usize, wide: usize)
+    requires { ⌜ (count ≤ most-lines) × (wide ≤ most-lines) ⌝ }
+    ensures { λ _. ⌜ now (lent .exit) ≡ room-words at behind number count wide (now (lent .entry)) ⌝ }
+{
+    if number == 9 {
+        put(lent, at, count_word(count));
+        put(lent, behind, count_word(wide));
+    }
+}
+
 pub fn write_plan(lent: &mut [i64], r: CuePlan)
-    requires { ⌜ r .count ≤ most-lines ⌝ }
+    requires { ⌜ (r .count ≤ most-lines) × (r .width ≤ most-lines) ⌝ }
     ensures { λ _. ⌜ now (lent .exit) ≡ plan-words r (now (lent .entry)) ⌝ }
 {
     let count = count_word(r.count);
@@ -59,8 +70,9 @@ pub fn write_plan(lent: &mut [i64], r: CuePlan)
         put(lent, 2, word(r.selections));
         put(lent, 3, count);
         put(lent, 4, byte_word(r.spares));
-    } else if r.refusal == 9 {
-        put(lent, 3, count);
+        put(lent, 5, count_word(r.width));
+    } else {
+        put_room(lent, 3, 5, r.refusal, r.count, r.width);
     }
 }
 

@@ -21,8 +21,8 @@ mod compared;
 mod reached;
 mod times;
 
-// 0 or the refusal. The list goes to the front of the space; deviation, steps, selections, count and the spare triggers, bit 0 for trigger 1,
-// to the answer; for 9 the count alone.
+// 0 or the refusal. The list goes to the front of the space; deviation, steps, selections, count, the spare triggers, bit 0 for trigger 1, and how
+// many words a line takes to the answer; for 9 count and words alone.
 #[no_mangle]
 pub extern "C" fn tuzhelar_plan(sheet: &[u8], space: &mut [i32], answer: &mut [i64]) -> u32
     ensures returned { λ r. ⌜ r ≡ plan-answer (planning (now (sheet .entry)) (now (space .entry))) .refusal ⌝ }
@@ -46,7 +46,7 @@ pub extern "C" fn tuzhelar_kept(sheet: &[u8], answer: &mut [i64]) -> u32
     r.refusal as u32
 }
 
-// 100 if the times are tightest, 101 if they are not, or the refusal.
+// 100 if the times are tightest and in time, 101 if they are not, or the refusal.
 #[no_mangle]
 pub extern "C" fn tuzhelar_test(sheet: &[u8], times: &[i64]) -> u32
     ensures { λ r. ⌜ r ≡ test-number (testing (now (sheet .entry)) (length (now (times .entry))) (component (now (times .entry)))) ⌝ }
@@ -58,8 +58,8 @@ pub extern "C" fn tuzhelar_test(sheet: &[u8], times: &[i64]) -> u32
     }
 }
 
-// 0 or the refusal. The list goes to the front of the space, its number of lines and the six components of the latest tightest timing
-// that is no later than the times to the answer; for 9 the count needed alone.
+// 0 or the refusal. The list goes to the front of the space, its number of lines, the six components of the latest tightest timing in time
+// that is no later than the times, and how many words a line takes to the answer; for 9 count and words alone.
 #[no_mangle]
 pub extern "C" fn tuzhelar_latest(
     sheet: &[u8],

@@ -7,12 +7,12 @@ ghost use Rattle.cue.specs.Sizes.{six, most-lines};
 ghost use Rattle.planner_c.specs.Words.{reach-words};
 use crate::answers::count_word;
 use crate::answers::put;
-use crate::answers::put_needed;
+use crate::answers::put_room;
 use reaching::Reached;
 
-// The number of lines and the six components, or for 9 the count needed.
+// The number of lines, the six components and how many words a line takes, or for 9 the count needed and these words.
 pub fn write_reached(lent: &mut [i64], r: Reached)
-    requires { ⌜ r .count ≤ most-lines ⌝ }
+    requires { ⌜ (r .count ≤ most-lines) × (r .width ≤ most-lines) ⌝ }
     ensures { λ _. ⌜ now (lent .exit) ≡ reach-words r (now (lent .entry)) ⌝ }
 {
     if r.refusal == 0 {
@@ -20,8 +20,9 @@ pub fn write_reached(lent: &mut [i64], r: Reached)
         let timing = r.timing;
         let at = timing.at;
         put_times(lent, at);
+        put(lent, 7, count_word(r.width));
     } else {
-        put_needed(lent, 0, r.refusal, r.count);
+        put_room(lent, 0, 7, r.refusal, r.count, r.width);
     }
 }
 

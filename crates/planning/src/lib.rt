@@ -3,17 +3,20 @@ ghost use mathlib.Core.Path.{_≡_};
 ghost use mathlib.Core.List.{List};
 ghost use Prim.Native.Nat.{ℕ};
 ghost use Rattle.sheet.specs.Sheet.{Sheet};
-ghost use Rattle.sheet.specs.Cue.{sheet-lines};
 ghost use Rattle.preparing.specs.Prepared.{Made};
-ghost use Rattle.lines.specs.Listing.{Answers};
+ghost use Rattle.lines.specs.Listing.{Lists};
+ghost use Rattle.cue.specs.Written.{width};
+ghost use Rattle.sheet.specs.Cue.{sheet-caps};
 ghost use Rattle.planning.specs.Planning as outcome;
 ghost use Rattle.planning.specs.Planning.{planning, space-after, plan-answer};
 use lines::Listed;
-use lines::lay::lay_out;
+use lines::finish;
+use lines::width;
 use preparing::Prepared;
 
 // Document 01's refusal, 1 to 8, and nothing else; 9 and the count needed; or 0, the sheet's number of triggers, those of them that are spare
-// (bit 0 for trigger 1), Δ, the walk's fixings, its selections and the number of lines.
+// (bit 0 for trigger 1), Δ, the walk's fixings, its selections, how many words a line takes and the number of lines. These two go with 9 as
+// well.
 pub struct CuePlan {
     pub refusal: u8,
     pub triggers: usize,
@@ -21,6 +24,7 @@ pub struct CuePlan {
     pub deviation: i64,
     pub steps: u32,
     pub selections: u32,
+    pub width: usize,
     pub count: usize,
 }
 
@@ -29,15 +33,13 @@ pub fn plan(bytes: &[u8], space: &mut [i32]) -> CuePlan
     ensures answer { λ r. ⌜ r ≡ plan-answer (planning (now (bytes .entry)) (now (space .entry))) ⌝ }
     ensures written { λ r. ⌜ now (space .exit) ≡ space-after (planning (now (bytes .entry)) (now (space .entry))) (now (space .entry)) ⌝ }
 {
-    let blank = [0u64; 6];
-    let mut order = [blank; 6];
-    let mut lag = [blank; 6];
-    let mut star = [blank; 6];
-    let mut gains = [blank; 6];
-    let mut needs = [blank; 6];
-    let reading = reading::read_sheet(bytes);
+    let mut order = [[0u64; 6]; 6];
+    let mut lag = [[0u64; 6]; 6];
+    let mut star = [[0u64; 6]; 6];
+    let mut gains = [[0u64; 6]; 6];
+    let mut needs = [[0u64; 6]; 6];
     let prepared = preparing::prepare(
-        reading,
+        reading::read_sheet(bytes),
         &mut order,
         &mut lag,
         &mut star,
@@ -51,8 +53,9 @@ pub fn plan(bytes: &[u8], space: &mut [i32]) -> CuePlan
     let masks = marks.kept;
     let counts = tally::tally(marks.levels, &masks, &gains);
     let deviation = words::number(prepared.marked.least);
-    match list_sheet(space, prepared, &star, &lag, &needs) {
-        Listed::NoRoom(k) => no_room(k),
+    let words = width(prepared.moments.given);
+    match list_sheet(space, prepared, words, &star, &lag, &needs) {
+        Listed::NoRoom(k) => no_room(words, k),
         Listed::Lines(k) => CuePlan {
             refusal: 0,
             triggers: prepared.cue.places.triggers,
@@ -60,31 +63,35 @@ pub fn plan(bytes: &[u8], space: &mut [i32]) -> CuePlan
             deviation: deviation,
             steps: counts.steps,
             selections: counts.selections,
+            width: words,
             count: k,
         },
     }
 }
 
-// The list of the cue in the space, laid out over the sheet's triggers; or its count and no change.
+// The sheet's list in the space, so many words a line; or its count and no change.
 fn list_sheet(
     space: &mut [i32],
     prepared: Prepared,
+    words: usize,
     star: &[[u64; 6]; 6],
     lag: &[[u64; 6]; 6],
     needs: &[[u64; 6]; 6],
 ) -> Listed
     requires { ⌜ ((s : Sheet) × (orders : List (List ℕ)) × (gains : List (List ℕ)) ×
-        Made s orders (now lag) (now star) gains (now needs) prepared) ⌝ }
+        Made s orders (now lag) (now star) gains (now needs) prepared × (words ≡ width (sheet-caps s))) ⌝ }
     ensures { λ r. ⌜ ((s : Sheet) (orders gains : List (List ℕ)) →
-        Made s orders (now (lag .entry)) (now (star .entry)) gains (now (needs .entry)) prepared →
-        Answers (s .triggers) (sheet-lines s) (now (space .entry)) (now (space .exit)) r) ⌝ }
+        Made s orders (now (lag .entry)) (now (star .entry)) gains (now (needs .entry)) prepared → words ≡ width (sheet-caps s) →
+        Lists s (now (space .entry)) (now (space .exit)) r) ⌝ }
 {
     let marks = prepared.marked.marks;
     let places = prepared.cue.places;
-    match lines::list(space, marks, star, lag, needs) {
+    let moments = prepared.moments;
+    let room = space.len() / words;
+    match lines::list(space, room, marks, star, lag, needs) {
         Listed::NoRoom(k) => Listed::NoRoom(k),
         Listed::Lines(k) => {
-            lay_out(space, k, places);
+            finish(space, k, places, moments);
             Listed::Lines(k)
         }
     }
@@ -101,13 +108,14 @@ fn no_plan(refusal: u8) -> CuePlan
         deviation: 0,
         steps: 0,
         selections: 0,
+        width: 0,
         count: 0,
     }
 }
 
-// "it also returns the count needed"
-fn no_room(count: usize) -> CuePlan
-    ensures { λ r. ⌜ r ≡ plan-answer (outcome.full count) ⌝ }
+// "it also returns the count needed", and how many words a line takes.
+fn no_room(words: usize, count: usize) -> CuePlan
+    ensures { λ r. ⌜ r ≡ plan-answer (outcome.full words count) ⌝ }
 {
     CuePlan {
         refusal: 9,
@@ -116,6 +124,7 @@ fn no_room(count: usize) -> CuePlan
         deviation: 0,
         steps: 0,
         selections: 0,
+        width: words,
         count: count,
     }
 }

@@ -3,3 +3,4 @@ pub mod Results
 pub mod LevelLaws
 pub mod Laws
 pub mod Preparing
+pub mod MomentLaws

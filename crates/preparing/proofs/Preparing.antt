@@ -18,6 +18,7 @@ use Rattle.sheet.specs.Sheet.{Got, got, refused, read, given, given-table}
 use Rattle.sheet.specs.Sheet as spec
 use Rattle.sheet.specs.Sizes.{order-limit}
 use Rattle.sheet.specs.Cue.{used, cue-size, trigger-at, order-table, cue-of}
+use Rattle.sheet.specs.Good.{Good}
 use Rattle.sheet.proofs.Good.{read-good}
 use Rattle.sheet.proofs.Spares.{used-not-spare, used-order}
 use Rattle.sheet.proofs.Seam.{order-of-after}
@@ -31,13 +32,15 @@ use Rattle.tables.proofs.SquareLaws.{closely-within, closely-more}
 use Rattle.spares.specs.Using.{tied, PlacesOf, Picked, PickedTables}
 use Rattle.spares.specs.declared.Places.{Places}
 use Rattle.spares.proofs.PickedLaws.{picked-at}
+use Rattle.moments.specs.declared.Moments.{Moments}
+use Rattle.moments.specs.Moments.{MomentsOf}
 use Rattle.order.proofs.OrderLaws.{mm-held}
 use Rattle.order.specs.Closed.{Closed}
 use Rattle.preparing.specs.declared.CueWords.{CueWords}
 use Rattle.preparing.specs.declared.Marked.{Marked}
 use Rattle.preparing.specs.declared.Prepared.{Prepared}
 use Rattle.preparing.specs.Prepared.{Worded, HoldsCue, CueFrom, Tabled, MarkedAs, PreparedAs}
-use Rattle.preparing.proofs.Results.{strip-held, grid-held, dues-held, lags-close, orders-close, star-held, star-close, through-held, order-says}
+use Rattle.preparing.proofs.Results.{strip-held, grid-held, numbers-held, lags-close, orders-close, star-held, star-close, through-held, order-says}
 use Rattle.cue.specs.Sizes.{size-limit}
 
 -- ---- what reading answers
@@ -65,7 +68,7 @@ module _ {s : spec.Sheet} {t : SheetWords} (W : Worded s t) where
   pub triggers-of : t .triggers ≡ s .triggers
   triggers-of = rw (W .words)
 
-  panels-of : t .panels ≡ s .panels
+  pub panels-of : t .panels ≡ s .panels
   panels-of = rw (W .words)
 
   pub triggers-few : t .triggers ≤ size-limit
@@ -156,7 +159,7 @@ module _ {s : spec.Sheet} {t : SheetWords} (W : Worded s t) where
     unfolding meantV
     dues-picked h = record {
       at = λ k q. ap entry (picked-at U h k q) ∙ ap (λ t. meantV (t .due) (trigger-at s k)) (W .words) ∙
-          dues-held s (W .good) .at (trigger-at s k) (below k q);
+          numbers-held (s .triggers) (s .due) (W .good .triggers-few) (W .good .dues) .at (trigger-at s k) (below k q);
     }
 
     floors-of : HoldsV (s .panels) (s .floor) (t .floor)
@@ -219,9 +222,9 @@ module _ {g : Got spec.Sheet} {orders lags stars gains needs : List (List ℕ)} 
   unready k e h q = record { refusal = λ _. q ∙ ap refused (sym e); made = λ z. absurd (h (sym e ∙ z)) }
 
   pub readied : {c : CueWords} {r : Marked} (s : spec.Sheet) (x : List ℕ) → g ≡ got s x → CueFrom s orders lags c →
-      NoGain (c .triggers) (cue-of s .order) → MarkedAs (c .triggers) (cue-of s) lags stars gains needs r →
-      PreparedAs g orders lags stars gains needs (record { refusal = 0; cue = c; marked = r })
-  readied {c} {r} s x e F np M =
+      NoGain (c .triggers) (cue-of s .order) → MarkedAs (c .triggers) (cue-of s) lags stars gains needs r → {q : Moments} → MomentsOf s q → Good s →
+      PreparedAs g orders lags stars gains needs (record { refusal = 0; cue = c; marked = r; moments = q })
+  readied {c} {r} s x e F np M Q G =
       record {
         refusal = λ h. absurd (h refl);
         made = λ _. (
@@ -234,6 +237,8 @@ module _ {g : Got spec.Sheet} {orders lags stars gains needs : List (List ℕ)} 
             held = F .held;
             order = subst (λ n. NoGain n (cue-of s .order)) (F .sized) np;
             marked = subst (λ n. MarkedAs n (cue-of s) lags stars gains needs r) (F .sized) M;
+            moments = Q;
+            good = G;
           },
         );
       }

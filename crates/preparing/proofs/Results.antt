@@ -19,8 +19,9 @@ use Rattle.maxplus.proofs.EachLaws.{each-same}
 use Rattle.maxplus.proofs.SupLaws.{sup-ext}
 use Rattle.words.specs.Words.{word, entry, Close}
 use Rattle.words.proofs.Laws.{entry-word}
-use Rattle.sheet.specs.Sheet.{limit, Sheet}
+use Rattle.sheet.specs.Sheet.{limit}
 use Rattle.sheet.specs.Sizes.{order-limit, star-size, through-size, mark-down, least-up}
+use Rattle.reading.specs.Reading.{numbers}
 use Rattle.rows.specs.Grid.{strip, grid}
 use Rattle.rows.proofs.PlaceLaws.{strip-at, grid-at}
 use Rattle.cue.specs.Cue.{Cue, timing, overdue, shortfall}
@@ -35,7 +36,6 @@ use Rattle.trigger_sets.proofs.ByteLaws.{byte-ext, byte-small, byte-bit}
 use Rattle.thresholds.specs.Thresholds.{reaches, kept-of, KeptBytes, floored}
 use Rattle.tables.proofs.SquareLaws.{close-within, closely-within, closely-withinV}
 use Rattle.order.proofs.OrderLaws.{mm-held}
-use Rattle.sheet.specs.Good.{Good}
 use Rattle.preparing.specs.declared.CueWords.{CueWords}
 use Rattle.preparing.specs.Prepared.{HoldsCue}
 use Rattle.cue.specs.Sizes.{size-limit}
@@ -59,15 +59,16 @@ grid-held A r six few w h = record {
       ap entry (strip-at (A i) j (omega arith)) ∙ word-held (A i j) (w i j hi hj);
 }
 
-pub dues-held : (t : Sheet) → Good t → HoldsV (t .triggers) (timing (t .due)) (strip (λ j. cond (ltb j (t .triggers)) (num (t .due j)) absent))
-dues-held t G = record { at = λ j h. held .at j h ∙ there j h }
+-- the first numbers of due marks or last moments
+pub numbers-held : (k : ℕ) (f : ℕ → ℤ) → k ≤ size-limit → ((j : ℕ) → j < k → Within limit limit (num (f j))) →
+    HoldsV k (timing f) (strip (numbers k f))
+numbers-held k f few w = record { at = λ j h. held .at j h ∙ there j h }
   where
-    there : (j : ℕ) → j < t .triggers → cond (ltb j (t .triggers)) (num (t .due j)) absent ≡ num (t .due j)
-    there j h = rw (lt-ltb j (t .triggers) h)
+    there : (j : ℕ) → j < k → numbers k f j ≡ num (f j)
+    there j h = rw (lt-ltb j k h)
 
-    held : HoldsV (t .triggers) (λ j. cond (ltb j (t .triggers)) (num (t .due j)) absent)
-        (strip (λ j. cond (ltb j (t .triggers)) (num (t .due j)) absent))
-    held = strip-held _ (G .triggers-few) (λ j h. subst (Within limit limit) (sym (there j h)) (G .dues j h))
+    held : HoldsV k (numbers k f) (strip (numbers k f))
+    held = strip-held _ few (λ j h. subst (Within limit limit) (sym (there j h)) (w j h))
 
 -- ---- tables that agree
 power-ext : (n : ℕ) (A B : Mat) → ((i j : ℕ) → i < n → j < n → A i j ≡ B i j) → (k i j : ℕ) → i < n → j < n →

@@ -1,9 +1,9 @@
 -- What is known on the way from a sheet's words to what the operations are made from. The tables P are those that the words hold.
 use mathlib.Core.Path.{_≡_}
-use mathlib.Core.Bool.{Bool}
+use mathlib.Core.Bool.{Bool, false}
 use mathlib.Core.List.{List, []}
 use Prim.Native.Nat.{ℕ, _≤_, _<_}
-use lib.ListN.{length, getD}
+use lib.ListN.{length, getD, replicate}
 use Rattle.maxplus.specs.Entry.{num}
 use Rattle.maxplus.specs.Tables.{star, NoGain}
 use Rattle.cue.specs.Cue as theory
@@ -21,6 +21,8 @@ use Rattle.reading.specs.Reading.{answer}
 use Rattle.reading.specs.declared.SheetWords.{SheetWords}
 use Rattle.tables.specs.Held.{Holds, HoldsV, Says}
 use Rattle.spares.specs.Using.{PlacesOf}
+use Rattle.moments.specs.Moments.{MomentsOf}
+use Rattle.moments.specs.declared.Moments.{Moments}
 use Rattle.walk.specs.Follows.{Follows}
 use Rattle.candidates.specs.Drawable.{Drawable}
 use Rattle.preparing.specs.declared.CueWords.{CueWords}
@@ -79,6 +81,10 @@ pub record MarkedAs (n : ℕ) (P : theory.Cue) (lags stars gains needs : List (L
   pub follows : Follows n P (least n P) (r .marks .levels) (r .marks .kept) gains (floor-panels n P)
   pub prepared : Drawable (r .marks .triggers) P (r .marks) stars lags needs
 
+-- no last line, and no overrun
+abbrev pub nothing-late : Moments
+nothing-late = record { given = false; overruns = replicate 6 0 }
+
 -- a sheet whose order can be kept, with all that is made from it
 pub record Made (s : spec.Sheet) (orders lags stars gains needs : List (List ℕ)) (r : Prepared) : Type 0 where
   pub sized : r .cue .triggers ≡ cue-size s
@@ -86,6 +92,8 @@ pub record Made (s : spec.Sheet) (orders lags stars gains needs : List (List ℕ
   pub held : HoldsCue (cue-of s) orders lags (r .cue)
   pub order : NoGain (cue-size s) (cue-of s .order)
   pub marked : MarkedAs (cue-size s) (cue-of s) lags stars gains needs (r .marked)
+  pub moments : MomentsOf s (r .moments)
+  pub good : Good s
 
 -- what reading and the order check came to: a refusal, or a sheet with all that is made from it
 pub record PreparedAs (g : Got spec.Sheet) (orders lags stars gains needs : List (List ℕ)) (r : Prepared) : Type 0 where

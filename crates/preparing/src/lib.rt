@@ -10,8 +10,11 @@ ghost use Rattle.sheet.specs.Ordered.{ordered};
 ghost use Rattle.reading.specs.Reading.{answer};
 ghost use Rattle.cue.specs.Cue as theory;
 ghost use Rattle.tables.specs.Held.{Holds};
-ghost use Rattle.preparing.specs.Prepared.{Worded, HoldsCue, CueFrom, Tabled, PreparedAs};
+ghost use Rattle.moments.specs.Moments.{MomentsOf};
+ghost use Rattle.preparing.specs.Prepared.{Worded, HoldsCue, CueFrom, Tabled, PreparedAs, nothing-late};
 use candidates::Marks;
+use moments::Moments;
+use moments::overruns;
 use reading::Reading;
 use reading::SheetWords;
 use spares::Places;
@@ -45,11 +48,12 @@ pub struct Marked {
     pub marks: Marks,
 }
 
-// Document 01's refusal, 1 to 8; or 0, the cue and what steps 3 and 4 give.
+// Document 01's refusal, 1 to 8; or 0, the cue, what steps 3 and 4 give, and the last moments.
 pub struct Prepared {
     pub refusal: u8,
     pub cue: CueWords,
     pub marked: Marked,
+    pub moments: Moments,
 }
 
 // The one place where the words of a sheet become those of its cue: the lent tables are its order and its lags.
@@ -141,6 +145,36 @@ pub fn prepare(
         refusal: 0,
         cue: cue,
         marked: marked,
+        moments: moments_of(sheet),
+    }
+}
+
+// A sheet without a last line has nothing to be late for.
+fn no_moments() -> Moments
+    ensures { λ r. ⌜ r ≡ nothing-late ⌝ }
+{
+    Moments {
+        given: false,
+        overruns: [0u64; 6],
+    }
+}
+
+// How late each trigger of the sheet lands.
+fn moments_of(t: SheetWords) -> Moments
+    requires { ⌜ ((s : spec.Sheet) × Worded s t) ⌝ }
+    ensures { λ r. ⌜ ((s : spec.Sheet) → Worded s t → MomentsOf s r) ⌝ }
+{
+    let last = t.last;
+    if !last.given {
+        return no_moments();
+    }
+    let rows = t.lag;
+    let lags = tables::table(rows);
+    let at = last.at;
+    let late = overruns(&lags, at, t.panels, t.triggers);
+    Moments {
+        given: true,
+        overruns: late,
     }
 }
 
@@ -180,5 +214,6 @@ pub fn not_prepared(refusal: u8) -> Prepared
         refusal: refusal,
         cue: cue,
         marked: marked,
+        moments: no_moments(),
     }
 }

@@ -2,5 +2,6 @@
 pub mod WeighedLaws
 pub mod HandLaws
 pub mod WordsLaws
+pub mod EarlyLaws
 pub mod ReachLaws
 pub mod Promise

@@ -19,6 +19,7 @@ use Rattle.words.specs.declared.LineWords.{LineWords}
 use Rattle.sheet.specs.Sheet.{got, Sheet}
 use Rattle.sheet.specs.Meaning.{Timing}
 use Rattle.sheet.specs.Cue.{used, cue-size, cue-of}
+use Rattle.sheet.specs.Overruns.{lowered}
 use Rattle.sheet.specs.Good.{Good}
 use Rattle.sheet.specs.Times.{some-beyond}
 use Rattle.sheet.specs.Admitted.{admitted}
@@ -46,13 +47,17 @@ module _ (s : List ℕ) (count : ℕ) (G : Timing) (t : Sheet) (x : List ℕ) (e
   pub near : some-beyond (t .triggers) G ≡ false
   near = admits .near
 
-  module _ (m : ℕ) (same : m ≡ cue-size t) (before : List ℤ) {between : List ℤ} {k : ℕ}
-      (a : Answers m (lines m (cue-of t)) before between (Lines k)) where
+  -- the given times at the triggers in use, made early enough
+  abbrev within : Timing
+  within = at-used t (lowered t G)
+
+  module _ (m : ℕ) (same : m ≡ cue-size t) (room : ℕ) (before : List ℤ) {between : List ℤ} {k : ℕ}
+      (a : Answers m (lines m (cue-of t)) room before between (Lines k)) where
     -- the list stands at the front
     stands : Stands (cue-size t) k between (lines (cue-size t) (cue-of t))
     stands =
         let L = lines (cue-size t) (cue-of t) in
-        let (c, fits, w) = subst (λ n. Answers n (lines n (cue-of t)) before between (Lines k)) same a in
+        let (c, fits, w) = subst (λ n. Answers n (lines n (cue-of t)) room before between (Lines k)) same a in
         record {
           many = sym c;
           words = rw (w, c) (take-at (list-words (cue-size t) L) _ _ (list-words-length (cue-size t) L));
@@ -60,11 +65,11 @@ module _ (s : List ℕ) (count : ℕ) (G : Timing) (t : Sheet) (x : List ℕ) (e
         }
 
     -- all that the latest timing is made from, by the wish's own count
-    pub weighable : {wish : LineWords} → TimingWords (cue-size t) (at-used t G) wish →
-        Weighable (wish .count) (cue-of t) (at-used t G) k between (wish .at)
-    weighable {wish} w = subst (λ n. Weighable n (cue-of t) (at-used t G) k between (wish .at)) (sym (w .count)) (record {
+    pub weighable : {wish : LineWords} → TimingWords (cue-size t) within wish →
+        Weighable (wish .count) (cue-of t) within k between (wish .at)
+    weighable {wish} w = subst (λ n. Weighable n (cue-of t) within k between (wish .at)) (sym (w .count)) (record {
       few = good .few;
-      holds = listed-room m (lines m (cue-of t)) before a;
+      holds = listed-room m (lines m (cue-of t)) room before a;
       stands = stands;
       wished = w .words .is;
       close = w .words .close;
@@ -74,18 +79,18 @@ module _ (s : List ℕ) (count : ℕ) (G : Timing) (t : Sheet) (x : List ℕ) (e
     })
 
   -- the times that the lines make, each at its own trigger, with the wish's at the spare ones
-  pub handed : {n : ℕ} {times : words.Timing} → n ≡ cue-size t → times ≡ timing-of n (latest n (cue-of t) (at-used t G)) → (R : words.Timing) →
+  pub handed : {n : ℕ} {times : words.Timing} → n ≡ cue-size t → times ≡ timing-of n (latest n (cue-of t) within) → (R : words.Timing) →
       R ≡ timing-of (t .triggers) (filled (used t) G (component (times .at))) → R ≡ timing-of (t .triggers) (latest-on t G)
   unfolding latest-on
   handed {n} {times} same q R f = f ∙ timing-same (t .triggers) _ _ (λ j h. go j h (test (used t j)))
     where
-      made : times ≡ timing-of (cue-size t) (latest (cue-size t) (cue-of t) (at-used t G))
-      made = subst (λ n. times ≡ timing-of n (latest n (cue-of t) (at-used t G))) same q
+      made : times ≡ timing-of (cue-size t) (latest (cue-size t) (cue-of t) within)
+      made = subst (λ n. times ≡ timing-of n (latest n (cue-of t) within)) same q
 
-      at : (k : ℕ) → k < cue-size t → component (times .at) k ≡ latest (cue-size t) (cue-of t) (at-used t G) k
+      at : (k : ℕ) → k < cue-size t → component (times .at) k ≡ latest (cue-size t) (cue-of t) within k
       at k h = ap (λ T. component (T .at) k) made ∙ component-of (cue-size t) _ k (good .few) h
 
       go : (j : ℕ) → j < t .triggers → T (used t j) ⊎ T (not (used t j)) →
-          filled (used t) G (component (times .at)) j ≡ filled (used t) G (latest (cue-size t) (cue-of t) (at-used t G)) j
+          filled (used t) G (component (times .at)) j ≡ filled (used t) G (latest (cue-size t) (cue-of t) within) j
       go j h (inl u) = filled-rank (used t) _ _ j u ∙ at (rank (used t) j) (rank-more (used t) j (t .triggers) h u) ∙ sym (filled-rank (used t) _ _ j u)
       go j h (inr u) = filled-other (used t) _ _ j u ∙ sym (filled-other (used t) _ _ j u)

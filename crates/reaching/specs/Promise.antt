@@ -17,8 +17,8 @@ use Rattle.reaching.specs.Reaching.{ReachOutcome, reached, full, refused
 
 -- a timing was reached; the one that is returned
 abbrev pub Succeeds : ReachOutcome → Type 0
-Succeeds (reached n X L) = Unit {0}
-Succeeds (full k) = ⊥
+Succeeds (reached n X caps L) = Unit {0}
+Succeeds (full w k) = ⊥
 Succeeds (refused k) = ⊥
 
 abbrev pub timing-reached : ReachOutcome → Timing
@@ -29,6 +29,7 @@ pub record Reaches (s : List ℕ) (t : Sheet) (G : Timing) (space : List ℤ) (o
   pub latest : Latest t G (timing-reached o)
   pub only : (X : Timing) → Latest t G X → (j : ℕ) → j < t .triggers → X j ≡ timing-reached o j
   pub planned : Planned (planning s space)
+  pub width : reach-answer o .width ≡ plan-answer (planning s space) .width
   pub count : reach-answer o .count ≡ plan-answer (planning s space) .count
   pub list : reached-space o space ≡ space-after (planning s space) space
 
@@ -44,8 +45,8 @@ Request-1 = (s : List ℕ) (t : Sheet) (r : List ℕ) (count : ℕ) (G : Timing)
 -- number; 9 exactly where testing answers and planning has no room, with the same count
 pub record Refusals (s : List ℕ) (count : ℕ) (G : Timing) (space : List ℤ) : Type 0 where
   pub of-testing : (k : ℕ) → (reaching s count G space ≡ refused k) ↔ (testing s count G ≡ tested.refused k)
-  pub then-nine : (k : ℕ) → (reaching s count G space ≡ full k) ↔
-      (((b : Bool) × (testing s count G ≡ tested.answer b)) × (planning s space ≡ planned.full k))
+  pub then-nine : (w k : ℕ) → (reaching s count G space ≡ full w k) ↔
+      (((b : Bool) × (testing s count G ≡ tested.answer b)) × (planning s space ≡ planned.full w k))
 
 abbrev pub Those-of-testing : Type 0
 Those-of-testing = (s : List ℕ) (count : ℕ) (G : Timing) (space : List ℤ) → Refusals s count G space

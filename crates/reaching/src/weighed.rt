@@ -8,34 +8,20 @@ ghost use Rattle.maxplus.specs.Line.{at};
 ghost use Rattle.cue.specs.Cue.{Cue, overdue};
 ghost use Rattle.cue.specs.Latest.{latest};
 ghost use Rattle.cue.specs.Sizes.{size-limit};
-ghost use Rattle.cue.specs.Standing.{line-at, lines-of};
+ghost use Rattle.cue.specs.Standing.{lines-of};
 ghost use Rattle.cue.specs.Written.{line-size};
 ghost use Rattle.sheet.specs.Times.{far-limit};
 ghost use Rattle.words.specs.Words.{entry, signed-far, Near};
 ghost use Rattle.tables.specs.Held.{meantV, HoldsV, CloselyV};
-ghost use Rattle.tables.specs.Lines.{Carries};
 ghost use Rattle.timing.specs.Times.{timing-of};
 ghost use Rattle.reaching.specs.Inner.{most-within, Weighable};
+use lines::cap::line_at;
 use tables::largest::overdue;
 use tables::raise;
 use timing::Timing;
 use timing::times::numbers_of;
 use words::LINE_SIZE;
 use words::LineWords;
-
-// The line whose seven words begin at a place.
-fn line_at(space: &[i32], from: usize, n: usize) -> LineWords
-    requires { ⌜ (n ≤ size-limit) × (from + line-size ≤ length (now space)) ⌝ }
-    ensures { λ r. ⌜ Carries n signed-far (at n (line-at n (now (space .entry)) from)) r ⌝ }
-{
-    let mut r = [0u64; 6];
-    let mut j: usize = 0;
-    while j < n {
-        r[j] = words::of_signed(space[from + 1 + j]);
-        j += 1;
-    }
-    LineWords { count: n, at: r }
-}
 
 // The least g(j) − l(j), which is minus the largest l(j) − g(j).
 fn weight(wish: [u64; 6], line: [u64; 6], n: usize) -> u64

@@ -14,7 +14,7 @@ use Rattle.maxplus.specs.Tables.{Mat}
 use Rattle.sheet.specs.Sheet.{Got, got, refused, got?, _>>=_, literal, leading, value, behind, signed, item}
 use Rattle.sheet.specs.Sheet.{ending, ended, items, Rule, size, entry, mark, out-of-range, no-size, absent?, any, all, checked}
 use Rattle.sheet.specs.Sheet.{line, rows, Section, section, sections, sizes, tables, part, count, panels-line, triggers-line, lag-lines, floor-line}
-use Rattle.sheet.specs.Sheet.{optional, sheet-of, finished, lines, read}
+use Rattle.sheet.specs.Sheet.{optional, land-kind, last-kind, sheet-of, finished, lines, read}
 
 abbrev Numbered : {A : Type 0} → Got A → Type 0
 Numbered (got a s) = Unit {0}
@@ -91,16 +91,17 @@ unfolding optional
 optional-numbered k s = if-numbered (got? (literal (k .key) s)) _ (got none s)
     (then-numbered (section k s) _ (rows-numbered (k .key) (k .rule) (k .lines) (k .items) s) (λ t s. tt)) tt
 
-finished-numbered : (m n : ℕ) (ts : List (List (List E))) (land : Option Mat) (s : List ℕ) → Numbered (finished m n ts land s)
-finished-numbered m n ts land (b ∷ s) = (omega arith, omega arith)
-finished-numbered m n ts land [] = if-numbered (any (all absent?) (part ts lag-lines)) (refused 6) _ (omega arith, omega arith)
-    (if-numbered (any (all absent?) (part ts floor-line)) (refused 7) (got (sheet-of m n ts land) []) (omega arith, omega arith) tt)
+finished-numbered : (m n : ℕ) (ts : List (List (List E))) (land last : Option Mat) (s : List ℕ) → Numbered (finished m n ts land last s)
+finished-numbered m n ts land last (b ∷ s) = (omega arith, omega arith)
+finished-numbered m n ts land last [] = if-numbered (any (all absent?) (part ts lag-lines)) (refused 6) _ (omega arith, omega arith)
+    (if-numbered (any (all absent?) (part ts floor-line)) (refused 7) (got (sheet-of m n ts land last) []) (omega arith, omega arith) tt)
 
 lines-numbered : (s : List ℕ) → Numbered (lines s)
 unfolding lines
 lines-numbered s = then-numbered (sections sizes s) _ (sections-numbered sizes s) (λ ps s.
     then-numbered (sections (tables (count (part ps panels-line)) (count (part ps triggers-line))) s) _ (sections-numbered _ s) (λ ts s.
-    then-numbered (optional _ s) _ (optional-numbered _ s) (λ land s. finished-numbered _ _ ts land s)))
+    then-numbered (optional (land-kind _ _) s) _ (optional-numbered _ s) (λ land s.
+    then-numbered (optional (last-kind _) s) _ (optional-numbered _ s) (λ last s. finished-numbered _ _ ts land last s))))
 
 pub refusal-known : (s : List ℕ) (k : ℕ) → read s ≡ refused k → (1 ≤ k) × (k ≤ 7)
 unfolding read

@@ -9,7 +9,7 @@ use Rattle.maxplus.specs.Entry.{E, present?}
 use Rattle.maxplus.specs.Tables.{Mat}
 use Rattle.words.specs.Words.{entry}
 use Rattle.sheet.specs.Sheet as sheet
-use Rattle.sheet.specs.Sheet.{Got, got, any, all, absent?, table, Section, section, sections, optional, land-kind, part, sizes, tables}
+use Rattle.sheet.specs.Sheet.{Got, got, any, all, absent?, table, Section, section, sections, optional, last-kind, part, sizes, tables}
 use Rattle.sheet.specs.Good.{RowsOf}
 use Rattle.rows.specs.Grid.{strips}
 use Rattle.rows.specs.Inner.{RowsAre, Reads, GivenAs}
@@ -17,6 +17,7 @@ use Rattle.rows.specs.declared.Row.{Row}
 use Rattle.rows.specs.declared.Place.{Place}
 use Rattle.rows.specs.declared.Optional.{Optional}
 use Rattle.reading.specs.Reading.{answer}
+use Rattle.reading.specs.declared.Last.{Last}
 use Rattle.reading.specs.declared.Reading.{Reading}
 use Rattle.reading.specs.declared.Group.{Group}
 use Rattle.reading.specs.declared.Group.the-variants as group
@@ -46,19 +47,39 @@ SectionsAre g s r held = Reads Stacked g s (r .refusal) (r .next) held
 abbrev pub each-row : List (List ℕ) → List Row
 each-row ws = six (λ i. record { at = getD ws i [] })
 
--- the land lines, where they are
-abbrev pub LandIs : ℕ → ℕ → List ℕ → ℕ → Optional → List (List ℕ) → Type 0
-LandIs m n s from r held = Reads (GivenAs (r .given)) (optional (land-kind m n) (drop from s)) s (r .refusal) (r .next) held
+-- the lines of a kind that may be missing
+abbrev pub MaybeIs : Section → List ℕ → ℕ → Optional → List (List ℕ) → Type 0
+MaybeIs k s from r held = Reads (GivenAs (r .given)) (optional k (drop from s)) s (r .refusal) (r .next) held
+
+-- the answer to a sheet's lines behind the sizes, once those of its tables are read, up to a place
+abbrev pub FurtherIs : List (List (List ℕ)) → ℕ → ℕ → List ℕ → ℕ → Reading → Type 0
+FurtherIs ps m n s from r = (z : List ℕ) (ts : List (List (List E))) → sections (tables m n) z ≡ got ts (drop from s) → Stacked ts ps →
+    r ≡ answer (sheet.sized m n z)
 
 -- the answer to what was read of each kind, and to the bytes left behind it; the answer where nothing is wrong with it
-module _ (ps : List (List (List ℕ))) (there : Bool) (lands : List (List ℕ)) (m n : ℕ) where
+module _ (ps : List (List (List ℕ))) (landed : Bool) (lands : List (List ℕ)) (timed : Bool) (lasts : List (List ℕ)) (m n : ℕ) where
+  -- the rows of all kinds
+  pub record Kinds (ts : List (List (List E))) (land last : Option Mat) : Type 0 where
+    pub start : List ℕ
+    pub behind : List ℕ
+    pub of-tables : sections (tables m n) start ≡ got ts behind
+    pub tables-are : Stacked ts ps
+    pub lands-are : GivenAs landed land lands
+    pub from-last : List ℕ
+    pub past-last : List ℕ
+    pub of-last : optional (last-kind m) from-last ≡ got last past-last
+    pub lasts-are : GivenAs timed last lasts
+
   abbrev pub FinishedIs : ℕ → Reading → Type 0
-  FinishedIs left r = (s x y : List ℕ) (ts : List (List (List E))) (land : Option Mat) → sections (tables m n) s ≡ got ts x → Stacked ts ps →
-      GivenAs there land lands → length y ≡ left → r ≡ answer (sheet.finished m n ts land y)
+  FinishedIs left r = (ts : List (List (List E))) (land last : Option Mat) (y : List ℕ) → Kinds ts land last → length y ≡ left →
+      r ≡ answer (sheet.finished m n ts land last y)
 
   abbrev pub GoodIs : Reading → Type 0
-  GoodIs r = (s x : List ℕ) (ts : List (List (List E))) (land : Option Mat) → sections (tables m n) s ≡ got ts x → Stacked ts ps →
-      GivenAs there land lands → r ≡ answer (got (sheet.sheet-of m n ts land) [])
+  GoodIs r = (ts : List (List (List E))) (land last : Option Mat) → Kinds ts land last → r ≡ answer (got (sheet.sheet-of m n ts land last) [])
+
+-- the last line, from the rows that it was read into
+abbrev pub LastIs : Bool → List (List ℕ) → Last → Type 0
+LastIs timed ws r = r ≡ record { given = timed; at = getD ws 0 [] }
 
 -- some of the rows that were read has no entry
 abbrev pub EmptyRow : List (List ℕ) → ℕ → Bool → Type 0

@@ -1,6 +1,9 @@
 -- What reading answers: the tables of a good sheet as words, or the refusal's number and nothing else.
 use mathlib.Core.Bool.{false, cond}
+use mathlib.Core.Option.{Option, none, some}
+use Prim.Native.Nat.{ℕ}
 use lib.Dec.{ltb}
+use lib.IntN.{ℤ}
 use Rattle.maxplus.specs.Entry.{absent, num}
 use Rattle.maxplus.specs.Tables.{Vec}
 use Rattle.sheet.specs.Sheet.{Got, got, refused, Sheet, given, given-table}
@@ -9,6 +12,14 @@ use Rattle.reading.specs.declared.Reading.{Reading}
 
 abbrev pub blank : Vec
 blank j = absent
+
+-- the first k numbers as entries, absent past them; of last moments, where there are any
+abbrev pub numbers : ℕ → (ℕ → ℤ) → Vec
+numbers k f j = cond (ltb j k) (num (f j)) absent
+
+abbrev pub moments-row : ℕ → Option (ℕ → ℤ) → Vec
+moments-row m none = blank
+moments-row m (some b) = numbers m b
 
 -- "A refusal returns its number and no other result": every other field is 0.
 abbrev pub answer : Got Sheet → Reading
@@ -20,9 +31,10 @@ answer (got t s) =
         triggers = t .triggers;
         lag = grid (t .lag);
         floor = strip (t .floor);
-        due = strip (λ j. cond (ltb j (t .triggers)) (num (t .due j)) absent);
+        due = strip (numbers (t .triggers) (t .due));
         after = grid (t .after);
         land = record { given = given (t .land); rows = grid (given-table (t .land)) };
+        last = record { given = given (t .last); at = strip (moments-row (t .panels) (t .last)) };
       };
     }
 answer (refused k) =
@@ -36,5 +48,6 @@ answer (refused k) =
         due = strip blank;
         after = grid (λ i. blank);
         land = record { given = false; rows = grid (λ i. blank) };
+        last = record { given = false; at = strip blank };
       };
     }

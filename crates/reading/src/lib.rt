@@ -7,9 +7,10 @@ ghost use Rattle.maxplus.specs.Whole.{up};
 ghost use Rattle.maxplus.specs.Entry.{val};
 ghost use Rattle.words.specs.Words.{entry};
 ghost use Rattle.sheet.specs.Sheet as sheet;
-ghost use Rattle.sheet.specs.Sheet.{read, sections};
+ghost use Rattle.sheet.specs.Sheet.{read, sections, land-kind, last-kind};
 ghost use Rattle.reading.specs.Reading.{answer};
-ghost use Rattle.reading.specs.Inner.{kinds, most, SectionIs, SectionsAre, LandIs, FinishedIs, GoodIs, EmptyRow, EmptyWords, each-row};
+ghost use Rattle.reading.specs.Inner.{kinds, most, SectionIs, SectionsAre, MaybeIs, FurtherIs, FinishedIs, GoodIs, LastIs, EmptyRow};
+ghost use Rattle.reading.specs.Inner.{EmptyWords, each-row};
 ghost use Rattle.cue.specs.Sizes.{size-limit};
 use rows::Items;
 use rows::Optional;
@@ -45,6 +46,12 @@ pub struct Land {
     pub rows: [Row; 6],
 }
 
+// The last line: whether the sheet has one, and its numbers, absent throughout where it has none.
+pub struct Last {
+    pub given: bool,
+    pub at: [u64; 6],
+}
+
 // A good sheet. A struct can't hold an array of arrays, so a table in it is an array of rows.
 pub struct SheetWords {
     pub panels: usize,
@@ -54,6 +61,7 @@ pub struct SheetWords {
     pub due: [u64; 6],
     pub after: [Row; 6],
     pub land: Land,
+    pub last: Last,
 }
 
 // Document 01's refusal, 1 to 7, and no sheet; or 0 and the sheet.
@@ -94,13 +102,7 @@ pub fn read_sheet(s: &[u8]) -> Reading
     if tables.refusal != 0 {
         return refused(tables.refusal);
     }
-    let mut land = [[0u64; 6]; 6];
-    let lands = read_land(s, tables.next, panels, triggers, &mut land);
-    if lands.refusal != 0 {
-        return refused(lands.refusal);
-    }
-    let left = s.len() - lands.next;
-    finished(&parts, lands.given, &land, panels, triggers, left)
+    read_further(s, tables.next, &parts, panels, triggers)
 }
 
 // Reads the lines of the `k`-th kind of a group: this is the list of the kinds, each with its key, what its items may be, how many lines it
@@ -163,6 +165,40 @@ fn read_sections(
     }
 }
 
+// Reads the lines that a sheet may have behind its tables, and answers.
+fn read_further(
+    s: &[u8],
+    from: usize,
+    parts: &[[[u64; 6]; 6]; TABLES],
+    panels: usize,
+    triggers: usize,
+) -> Reading
+    requires { ⌜ (from ≤ length (now s)) × (panels ≤ size-limit) × (triggers ≤ size-limit) ⌝ }
+    ensures { λ r. ⌜ FurtherIs (now (parts .entry)) panels triggers (now (s .entry)) from r ⌝ }
+{
+    let mut land = [[0u64; 6]; 6];
+    let lands = read_land(s, from, panels, triggers, &mut land);
+    if lands.refusal != 0 {
+        return refused(lands.refusal);
+    }
+    let mut last = [[0u64; 6]; 6];
+    let lasts = read_last(s, lands.next, panels, &mut last);
+    if lasts.refusal != 0 {
+        return refused(lasts.refusal);
+    }
+    let left = s.len() - lasts.next;
+    finished(
+        parts,
+        lands.given,
+        &land,
+        lasts.given,
+        &last,
+        panels,
+        triggers,
+        left,
+    )
+}
+
 // Reads the land lines, where the sheet has them.
 fn read_land(
     s: &[u8],
@@ -172,9 +208,17 @@ fn read_land(
     rows: &mut [[u64; 6]; 6],
 ) -> Optional
     requires { ⌜ (from ≤ length (now s)) × (panels ≤ size-limit) × (triggers ≤ size-limit) ⌝ }
-    ensures { λ r. ⌜ LandIs panels triggers (now (s .entry)) from r (now (rows .exit)) ⌝ }
+    ensures { λ r. ⌜ MaybeIs (land-kind panels triggers) (now (s .entry)) from r (now (rows .exit)) ⌝ }
 {
     read_optional(s, from, b"land=", Items::Entry, triggers, panels, rows)
+}
+
+// Reads the last line, where the sheet has one.
+fn read_last(s: &[u8], from: usize, panels: usize, rows: &mut [[u64; 6]; 6]) -> Optional
+    requires { ⌜ (from ≤ length (now s)) × (panels ≤ size-limit) ⌝ }
+    ensures { λ r. ⌜ MaybeIs (last-kind panels) (now (s .entry)) from r (now (rows .exit)) ⌝ }
+{
+    read_optional(s, from, b"last=", Items::Mark, 1, panels, rows)
 }
 
 // The number of a size line.
@@ -188,14 +232,16 @@ fn size(line: [[u64; 6]; 6]) -> usize
 // The answer once all lines are read, with `left` bytes behind them.
 fn finished(
     parts: &[[[u64; 6]; 6]; TABLES],
-    given: bool,
+    landed: bool,
     land: &[[u64; 6]; 6],
+    timed: bool,
+    last: &[[u64; 6]; 6],
     panels: usize,
     triggers: usize,
     left: usize,
 ) -> Reading
     requires { ⌜ (panels ≤ size-limit) × (triggers ≤ size-limit) ⌝ }
-    ensures { λ r. ⌜ FinishedIs (now (parts .entry)) given (now (land .entry)) panels triggers left r ⌝ }
+    ensures { λ r. ⌜ FinishedIs (now (parts .entry)) landed (now (land .entry)) timed (now (last .entry)) panels triggers left r ⌝ }
 {
     let lag = parts[LAG];
     let floor = parts[FLOOR];
@@ -210,18 +256,20 @@ fn finished(
     if no_floor {
         return refused(7);
     }
-    good(parts, given, land, panels, triggers)
+    good(parts, landed, land, timed, last, panels, triggers)
 }
 
 // The answer of a good sheet: what was read of each kind, as its tables and marks.
 fn good(
     parts: &[[[u64; 6]; 6]; TABLES],
-    given: bool,
+    landed: bool,
     land: &[[u64; 6]; 6],
+    timed: bool,
+    last: &[[u64; 6]; 6],
     panels: usize,
     triggers: usize,
 ) -> Reading
-    ensures { λ r. ⌜ GoodIs (now (parts .entry)) given (now (land .entry)) panels triggers r ⌝ }
+    ensures { λ r. ⌜ GoodIs (now (parts .entry)) landed (now (land .entry)) timed (now (last .entry)) panels triggers r ⌝ }
 {
     let lag = parts[LAG];
     let floor = parts[FLOOR];
@@ -232,6 +280,7 @@ fn good(
     let lands = table(*land);
     let floors = floor[0];
     let dues = due[0];
+    let lasts = last_of(timed, last);
     let sheet = SheetWords {
         panels: panels,
         triggers: triggers,
@@ -240,13 +289,25 @@ fn good(
         due: dues,
         after: afters,
         land: Land {
-            given: given,
+            given: landed,
             rows: lands,
         },
+        last: lasts,
     };
     Reading {
         refusal: 0,
         sheet: sheet,
+    }
+}
+
+// The last line: the first of the rows that it was read into.
+fn last_of(given: bool, rows: &[[u64; 6]; 6]) -> Last
+    ensures { λ r. ⌜ LastIs given (now (rows .entry)) r ⌝ }
+{
+    let at = rows[0];
+    Last {
+        given: given,
+        at: at,
     }
 }
 
@@ -287,6 +348,10 @@ fn refused(refusal: u8) -> Reading
         land: Land {
             given: false,
             rows: table,
+        },
+        last: Last {
+            given: false,
+            at: marks,
         },
     };
     Reading {

@@ -10,7 +10,7 @@ use Rattle.maxplus.specs.Entry.{E}
 use Rattle.maxplus.specs.Finite.{mapL}
 use Rattle.sheet.specs.Sheet as sheet
 use Rattle.maxplus.specs.Tables.{Mat}
-use Rattle.sheet.specs.Sheet.{Got, got, refused, limit, literal, absent?, no-size, out-of-range, checked, row, table, Section, optional, given, given-table}
+use Rattle.sheet.specs.Sheet.{Got, got, refused, limit, literal, absent?, no-size, out-of-range, checked, row, table, optional, given, given-table}
 use Rattle.rows.specs.Grid.{strip, strips}
 use Rattle.rows.specs.declared.Items.{Items}
 use Rattle.rows.specs.declared.Items.the-variants as rule

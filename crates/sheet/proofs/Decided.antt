@@ -1,4 +1,5 @@
--- What is asked about the bytes of sheets is decided: being tightest by the least deviation, being alike by the two lists (demand 3).
+-- What is asked about the bytes of sheets is decided: being tightest and in time by the least deviation and the overruns, being alike by the
+-- two lists (demand 3).
 use mathlib.Core.Path.{_≡_, refl}
 use mathlib.Core.List.{List}
 use Prim.Native.Nat.{ℕ}
@@ -9,11 +10,12 @@ use Rattle.maxplus.proofs.FiniteLaws.{dec-×, all-dec, same-test?, same-list?}
 use Rattle.cue.specs.Written.{list-words}
 use Rattle.cue.proofs.Deviation as theory
 use Rattle.sheet.specs.Sheet.{Got, got, refused, Sheet, read}
-use Rattle.sheet.specs.Meaning.{Timing, spare, Tightest, SameSpares, SameTimings}
+use Rattle.sheet.specs.Meaning.{Timing, spare, Tightest, TightestInTime, SameSpares, SameTimings}
 use Rattle.sheet.specs.Asked.{TightestOn, Alike}
 use Rattle.sheet.specs.Cue.{cue-size, cue-of, Orderly, orderly?, sheet-lines}
 use Rattle.sheet.specs.Good.{Good}
 use Rattle.sheet.proofs.Good.{read-good}
+use Rattle.sheet.proofs.Overruns.{in-time?}
 use Rattle.sheet.proofs.Seam.{at-used, tightest-cue}
 use Rattle.sheet.proofs.Demands.{order-kept, deviation-reached, tightest-test, demand-3}
 
@@ -29,11 +31,15 @@ tightest-on? t G X = go (orderly? t)
     go (yes o) = map-dec (tightest-cue t X .1) (tightest-cue t X .0) (theory.tightest? (cue-size t) (cue-of t) (G .readable) o (at-used t X))
     go (no f) = no (none-tightest t f X)
 
+in-time-on? : (t : Sheet) → Good t → (X : Timing) → Dec (TightestInTime t X)
+in-time-on? t G X = map-dec (λ p. record { tightest = p .0; in-time = p .1 }) (λ h. (h .tightest, h .in-time))
+    (dec-× (tightest-on? t G X) (in-time? t X))
+
 pub tightest? : (s : List ℕ) (X : Timing) → Dec (TightestOn (read s) X)
 tightest? s X = go (read s) refl
   where
     go : (g : Got Sheet) → read s ≡ g → Dec (TightestOn g X)
-    go (got t r) e = tightest-on? t (read-good s t r e) X
+    go (got t r) e = in-time-on? t (read-good s t r e) X
     go (refused k) e = no (λ x. x)
 
 -- ---- two sheets

@@ -3,6 +3,7 @@
 use mathlib.Core.Path.{_≡_, refl}
 use mathlib.Core.Bool.{Bool, true, false, cond}
 use mathlib.Core.List.{[], _∷_}
+use mathlib.Core.Option.{some}
 use Prim.Native.Nat.{ℕ, _+_, _*_, _≤_, _<_}
 use native.Mathlib.Omega.{arith}
 use native.Mathlib.Nat.{le-trans}
@@ -11,31 +12,35 @@ use lib.Dec.{ltb}
 use lib.IntN.{ℤ, pos}
 use Rattle.maxplus.specs.Whole.{up, dn, neg}
 use Rattle.maxplus.specs.Entry.{absent, num, _⊗_, inv}
-use Rattle.maxplus.specs.Finite.{each}
-use Rattle.maxplus.specs.Tables.{mv}
+use Rattle.maxplus.specs.Finite.{In, each}
+use Rattle.maxplus.specs.Line.{Line, at}
+use Rattle.maxplus.specs.Tables.{sup, mv}
 use Rattle.maxplus.proofs.EntryLaws.{num-inj}
 use Rattle.maxplus.proofs.PackingLaws.{rank-few}
 use Rattle.maxplus.proofs.EachLaws.{each-at, length-each}
-use Rattle.cue.specs.Results.{Within, Signed32}
-use Rattle.cue.proofs.Bounds.{power-within, times-le, signed32, results-six, results-32}
+use Rattle.cue.specs.Results.{Above, Below, Within, Signed32}
+use Rattle.cue.proofs.Bounds.{above-⊗, below-⊗, above-sup, below-sup, above-inv, below-inv, power-within, times-le, signed32, results-six, results-32}
 use Rattle.cue.proofs.Walk.{steps-bound}
 use Rattle.cue.proofs.Few.{geometric-mono, selections-few, steps-few, lines-few}
 use Rattle.sheet.specs.Sheet.{Sheet, limit}
-use Rattle.sheet.specs.Sizes.{order-limit, star-size, through-size, mark-down, least-up, need-down, line-down}
+use Rattle.sheet.specs.Sizes.{order-limit, star-size, through-size, mark-down, least-up, need-down, line-down, cap-down, cap-up}
 use Rattle.sheet.specs.Meaning.{Timing, landing, spare, overdue, shortfall, deviation}
 use Rattle.sheet.specs.Times.{far-limit, beyond, some-beyond}
-use Rattle.sheet.specs.Cue.{used, cue-size, cue-of}
+use Rattle.sheet.specs.Cue.{used, cue-size, cue-of, Orderly, sheet-lines, cap}
+use Rattle.sheet.specs.Overruns.{overrun}
 use Rattle.sheet.specs.Good.{Good}
 use Rattle.sheet.specs.Fits.{Fits, All-fit}
 use Rattle.sheet.proofs.LineLaws.{none-or, none-at}
 use Rattle.sheet.proofs.WithinLaws.{within-absent, within-⊗, within-inv, within-sup}
 use Rattle.sheet.proofs.Good.{read-good}
-use Rattle.sheet.proofs.ListLaws.{lines-many}
+use Rattle.sheet.proofs.ListLaws.{lines-many, components-within}
+use Rattle.sheet.proofs.Overruns.{overrun-within}
+use Rattle.sheet.proofs.Caps.{cap-overruns}
 
--- ---- the sizes as multiples of the limit: an order entry, M*, d and r, Δ, w, a line
+-- ---- the sizes as multiples of the limit: an order entry, M*, d and r, Δ, w, a line, a cap
 pub values : (order-limit ≡ 2 * limit) × (star-size ≡ 10 * limit) × (through-size ≡ 11 * limit) × (mark-down ≡ 11 * limit) ×
-    (least-up ≡ 13 * limit) × (need-down ≡ 25 * limit) × (line-down ≡ 48 * limit)
-values = (refl, refl, refl, refl, refl, refl, refl)
+    (least-up ≡ 13 * limit) × (need-down ≡ 25 * limit) × (line-down ≡ 48 * limit) × (cap-down ≡ 2 * limit) × (cap-up ≡ 50 * limit)
+values = (refl, refl, refl, refl, refl, refl, refl, refl, refl)
 
 -- ---- a timing that is tested
 pub not-beyond : (x : ℤ) → beyond x ≡ false → (up x ≤ far-limit) × (dn x ≤ far-limit)
@@ -69,6 +74,18 @@ module _ (t : Sheet) (G : Good t) (X : Timing) (e : some-beyond (t .triggers) X 
   unfolding deviation
   deviation-fits = signed32 (omega arith) (omega arith) (within-⊗ overdue-within shortfall-within)
 
+-- ---- caps
+module _ (t : Sheet) (G : Good t) (o : Orderly t) (b : ℕ → ℤ) (e : t .last ≡ some b) (c : Line (t .triggers)) (h : In c (sheet-lines t)) where
+  -- a component is at most 0
+  late-low : Above cap-up (sup (t .triggers) (λ j. overrun t b j ⊗ at (t .triggers) c j))
+  late-low = above-sup (t .triggers) _ (λ j q. above-⊗ _ _ (overrun-within t G b e j q .low) (components-within t G o c h j q .low))
+
+  late-high : Below cap-down (sup (t .triggers) (λ j. overrun t b j ⊗ at (t .triggers) c j))
+  late-high = below-sup (t .triggers) _ (λ j q. below-⊗ _ _ (overrun-within t G b e j q .high) (components-within t G o c h j q .high))
+
+  pub cap-within : Within cap-down cap-up (num (cap t b c))
+  cap-within = rw (cap-overruns t G o b c h) (record { low = above-inv _ late-high; high = below-inv _ late-low })
+
 -- ---- all of it
 fits : (t : Sheet) → Good t → Fits t
 fits t G =
@@ -85,6 +102,8 @@ fits t G =
       steps = let h = steps-few n P (G .few) (G .panels-few) in omega arith;
       selections = let h = selections-few n P (G .few) (G .panels-few) in omega arith;
       count = let h = lines-few n P (G .few) (G .panels-few) in let e = lines-many t in omega arith;
+      caps = λ o b e c h. signed32 (omega arith) (omega arith) (cap-within t G o b e c h);
+      cap-sizes = λ o b e c h. cap-within t G o b e c h;
       landings = λ X e i h. signed32 (omega arith) (omega arith) (landing-within t G X e i h);
       deviation = λ X e. deviation-fits t G X e;
     }

@@ -1,11 +1,12 @@
 -- Every sheet that reading gives is good: by one law about sections, used once for each kind of line.
-use mathlib.Core.Path.{_≡_, refl, sym}
+use mathlib.Core.Path.{_≡_, refl, ap, sym}
 use mathlib.Core.List.{List, [], _∷_}
 use mathlib.Core.Bool.{Bool, true, false, cond, not}
-use mathlib.Core.Option.{Option, none, some}
+use mathlib.Core.Option.{Option, none, some, Option·some-injective, Option·none-ne-some}
 use Prim.Native.Nat.{ℕ, _≤_, _<_}
 use native.Mathlib.Omega.{arith}
 use lib.Dec.{ltb}
+use lib.IntN.{ℤ}
 use lib.ListN.{length, getD}
 use borrow.Author.Tests.{ltb-false}
 use Rattle.maxplus.specs.Whole.{up, dn}
@@ -16,7 +17,8 @@ use Rattle.maxplus.proofs.PackingLaws.{rank-few}
 use Rattle.cue.specs.Results.{Within}
 use Rattle.sheet.specs.Sheet.{got, refused, Rule, size, entry, mark, limit, out-of-range, absent?, any, all, table, Sheet, sections}
 use Rattle.sheet.specs.Sheet.{sizes, tables, part}
-use Rattle.sheet.specs.Sheet.{count, panels-line, triggers-line, lag-lines, floor-line, due-line, after-lines, optional, land-kind, given-table}
+use Rattle.sheet.specs.Sheet.{count, panels-line, triggers-line, lag-lines, floor-line, due-line, after-lines, optional, land-kind, last-kind}
+use Rattle.sheet.specs.Sheet.{given-table, moments}
 use Rattle.sheet.specs.Sheet.{sheet-of, finished, lines, read}
 use Rattle.sheet.specs.Cue.{used}
 use Rattle.sheet.specs.Good.{RowsOf, Good}
@@ -74,12 +76,20 @@ land-within m n s (some c) e i j h q =
     let (t, R, same) = optional-of (land-kind m n) s e in
     rw (← same) (table-within R i j h q)
 
+-- ---- the last line
+last-within : (m : ℕ) (s : List ℕ) (last : Option Mat) {x : List ℕ} → optional (last-kind m) s ≡ got last x → (b : ℕ → ℤ) →
+    moments last ≡ some b → (i : ℕ) → i < m → Within limit limit (num (b i))
+last-within m s none e b f i h = absurd (Option·none-ne-some b f)
+last-within m s (some c) e b f i h =
+    let (t, R, same) = optional-of (last-kind m) s e in
+    rw (← ap (λ g. g i) (Option·some-injective _ b f)) (rw (← same) (dues-within R i h))
+
 -- ---- the sheet
 module _ (m n : ℕ) (few-m : m ≤ size-limit) (some-n : 1 ≤ n) (few-n : n ≤ size-limit) (s : List ℕ) {ts : List (List (List E))} {x : List ℕ}
     (e : sections (tables m n) s ≡ got ts x) where
-  parts-good : (land : Option Mat) {y : List ℕ} → optional (land-kind m n) x ≡ got land y → any (all absent?) (part ts lag-lines) ≡ false →
-      any (all absent?) (part ts floor-line) ≡ false → Good (sheet-of m n ts land)
-  parts-good land f no-lag no-floor =
+  parts-good : (land last : Option Mat) {y z : List ℕ} → optional (land-kind m n) x ≡ got land y → optional (last-kind m) y ≡ got last z →
+      any (all absent?) (part ts lag-lines) ≡ false → any (all absent?) (part ts floor-line) ≡ false → Good (sheet-of m n ts land last)
+  parts-good land last {y} f g no-lag no-floor =
       let lags = sections-of (tables m n) s e lag-lines refl in
       let floors = sections-of (tables m n) s e floor-line refl in
       let dues = sections-of (tables m n) s e due-line refl in
@@ -88,24 +98,26 @@ module _ (m n : ℕ) (few-m : m ≤ size-limit) (some-n : 1 ≤ n) (few-n : n �
         panels-few = few-m;
         triggers-some = some-n;
         triggers-few = few-n;
-        few = let h = rank-few (used (sheet-of m n ts land)) n in omega arith;
-        readable = cue-readable (sheet-of m n ts land) (some-there floors 0 (omega arith) no-floor) (λ i h. some-there lags i h no-lag);
+        few = let h = rank-few (used (sheet-of m n ts land last)) n in omega arith;
+        readable = cue-readable (sheet-of m n ts land last) (some-there floors 0 (omega arith) no-floor) (λ i h. some-there lags i h no-lag);
         lags = table-within lags;
         dues = dues-within dues;
         afters = table-within afters;
         lands = land-within m n x land f;
-        limited = cue-limited (sheet-of m n ts land) (table-within lags) (λ i q. table-within floors 0 i (omega arith) q) (dues-within dues)
+        lasts = last-within m y last g;
+        limited = cue-limited (sheet-of m n ts land last) (table-within lags) (λ i q. table-within floors 0 i (omega arith) q) (dues-within dues)
             (table-within afters) (land-within m n x land f);
       }
 
-finished-got : (m n : ℕ) (ts : List (List (List E))) (l : Option Mat) (y : List ℕ) {t : Sheet} {x : List ℕ} → finished m n ts l y ≡ got t x →
-    (any (all absent?) (part ts lag-lines) ≡ false) × (any (all absent?) (part ts floor-line) ≡ false) × (sheet-of m n ts l ≡ t)
-finished-got m n ts l (b ∷ y) e = absurd (not-got e)
-finished-got m n ts l [] {t} e =
-    let last = got (sheet-of m n ts l) [] in
-    let (f, g) = passed (any (all absent?) (part ts lag-lines)) 6 (cond (any (all absent?) (part ts floor-line)) (refused 7) last) e in
-    let (h, k) = passed (any (all absent?) (part ts floor-line)) 7 last g in
-    let c : sheet-of m n ts l ≡ t = cc in
+finished-got : (m n : ℕ) (ts : List (List (List E))) (l d : Option Mat) (y : List ℕ) {t : Sheet} {x : List ℕ} →
+    finished m n ts l d y ≡ got t x →
+    (any (all absent?) (part ts lag-lines) ≡ false) × (any (all absent?) (part ts floor-line) ≡ false) × (sheet-of m n ts l d ≡ t)
+finished-got m n ts l d (b ∷ y) e = absurd (not-got e)
+finished-got m n ts l d [] {t} e =
+    let end = got (sheet-of m n ts l d) [] in
+    let (f, g) = passed (any (all absent?) (part ts lag-lines)) 6 (cond (any (all absent?) (part ts floor-line)) (refused 7) end) e in
+    let (h, k) = passed (any (all absent?) (part ts floor-line)) 7 end g in
+    let c : sheet-of m n ts l d ≡ t = cc in
     (f, h, c)
 
 pub size-good : {t : List (List E)} → RowsOf size 1 1 t → (1 ≤ count t) × (count t ≤ size-limit)
@@ -121,6 +133,7 @@ read-good s t x e =
     let m = size-good (sections-of sizes s a panels-line refl) in
     let n = size-good (sections-of sizes s a triggers-line refl) in
     let (ts, z, b, h) = bind-got (sections (tables (count (part ps panels-line)) (count (part ps triggers-line))) y) g in
-    let (l, v, d, k) = bind-got (optional (land-kind (count (part ps panels-line)) (count (part ps triggers-line))) z) h in
-    let (p, q, c) = finished-got (count (part ps panels-line)) (count (part ps triggers-line)) ts l v k in
-    rw (← c) (parts-good (count (part ps panels-line)) (count (part ps triggers-line)) (m .1) (n .0) (n .1) y b l d p q)
+    let (l, v, d, i) = bind-got (optional (land-kind (count (part ps panels-line)) (count (part ps triggers-line))) z) h in
+    let (o, w, j, k) = bind-got (optional (last-kind (count (part ps panels-line))) v) i in
+    let (p, q, c) = finished-got (count (part ps panels-line)) (count (part ps triggers-line)) ts l o w k in
+    rw (← c) (parts-good (count (part ps panels-line)) (count (part ps triggers-line)) (m .1) (n .0) (n .1) y b l o d j p q)

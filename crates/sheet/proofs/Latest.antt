@@ -1,5 +1,5 @@
 -- The latest timing of a sheet (document 02, No. 1): the formula over the sheet's lines gives one, there is no other, and how far from 0 it is.
-use mathlib.Core.Path.{_≡_, ap}
+use mathlib.Core.Path.{_≡_, ap, sym, _∙_}
 use mathlib.Core.Logic.{_⊎_, inl, inr}
 use mathlib.Core.Bool.{not}
 use mathlib.Core.List.{List}
@@ -20,19 +20,23 @@ use Rattle.cue.proofs.Latest.{latest-is}
 use Rattle.cue.proofs.Bounds.{latest-within}
 use Rattle.sheet.specs.Sheet.{got, Sheet, limit}
 use Rattle.sheet.specs.Sizes.{order-limit, line-down}
-use Rattle.sheet.specs.Meaning.{Timing, Tightest, Latest}
+use Rattle.sheet.specs.Meaning.{Timing, Tightest, InTime, Latest}
 use Rattle.sheet.specs.Cue.{used, cue-size, trigger-at, cue-of, Orderly}
+use Rattle.sheet.specs.Overruns.{lowered}
 use Rattle.sheet.specs.Good.{Good}
 use Rattle.sheet.specs.Times.{far-limit}
 use Rattle.sheet.specs.Admitted.{admitted}
 use Rattle.sheet.proofs.Good.{read-good}
+use Rattle.sheet.proofs.Spares.{spare-idle, unused-idle}
+use Rattle.sheet.proofs.Overruns.{in-time-early, no-later-lowered, lowered-spare, lowered-within}
 use Rattle.sheet.proofs.AdmittedLaws.{Admits, admitted-as}
 use Rattle.sheet.proofs.Seam.{at-used, over, over-tightest, tightest-ext, tightest-cue}
 use Rattle.sheet.proofs.Fits.{near}
 
--- the times that the formula gives for the triggers in use, and the given ones at the spare triggers: "No. 1 hands that number back"
+-- the times that the formula gives for the triggers in use, where the given ones are made early enough, and the given ones at the spare
+-- triggers: "No. 1 hands that number back"
 unfoldable pub latest-on : Sheet → Timing → Timing
-latest-on t G = over t G (latest (cue-size t) (cue-of t) (at-used t G))
+latest-on t G = over t G (latest (cue-size t) (cue-of t) (at-used t (lowered t G)))
 
 module _ (t : Sheet) (good : Good t) (o : Orderly t) (G : Timing) where
   abbrev best : Timing
@@ -58,9 +62,8 @@ module _ (t : Sheet) (good : Good t) (o : Orderly t) (G : Timing) where
         (rank (used t) j) q))
     later Y y k (inr u) = rw (filled-other (used t) G best j u) (k j h)
 
-  pub latest-formula : Latest t G (latest-on t G)
-  unfolding latest-on
-  latest-formula = record {
+  latest-tightest : LatestOf (t .triggers) (Tightest t) G (over t G best)
+  latest-tightest = record {
     such = over-tightest t G best (best-is .such);
     no-later = λ j h. no-later j h (test (used t j));
     latest = λ Y y k j h. later j h Y y k (test (used t j));
@@ -70,14 +73,41 @@ pub latest-one : {t : Sheet} {G X Y : Timing} → Latest t G X → Latest t G Y 
 latest-one h k = laws.latest-one h k
 
 -- only the first n components count
+tightest-same : (t : Sheet) → {X Y : Timing} → ((j : ℕ) → j < t .triggers → X j ≡ Y j) → Tightest t X → Tightest t Y
+tightest-same t {X} {Y} e h = tightest-cue t Y .1 (tightest-ext (cue-size t) (cue-of t)
+    (λ k q. e (trigger-at t k) (placed (used t) (t .triggers) k q .below)) (tightest-cue t X .0 h))
+
+in-time-same : (t : Sheet) → {X Y : Timing} → ((j : ℕ) → j < t .triggers → X j ≡ Y j) → InTime t X → InTime t Y
+in-time-same t {X} {Y} e h = in-time-early t Y .1 (λ j q. rw (← e j q) (in-time-early t X .0 h j q))
+
 pub latest-same : (t : Sheet) → {G X Y : Timing} → ((j : ℕ) → j < t .triggers → X j ≡ Y j) →
     Latest t G X → Latest t G Y
 latest-same t {G} {X} {Y} e h = record {
-  such = tightest-cue t Y .1 (tightest-ext (cue-size t) (cue-of t) (λ k q. e (trigger-at t k) (placed (used t) (t .triggers) k q .below))
-      (tightest-cue t X .0 (h .such)));
+  such = record { tightest = tightest-same t e (h .such .tightest); in-time = in-time-same t e (h .such .in-time) };
   no-later = λ j q. rw (← e j q) (h .no-later j q);
   latest = λ Z u k j q. rw (← e j q) (h .latest Z u k j q);
 }
+
+-- the latest of those no later than times made early enough is the latest of those in time
+latest-in-time : (t : Sheet) {G X : Timing} → LatestOf (t .triggers) (Tightest t) (lowered t G) X → Latest t G X
+latest-in-time t {G} {X} h = let (early, timely) = no-later-lowered t X G .0 (h .no-later) in record {
+  such = record { tightest = h .such; in-time = timely };
+  no-later = early;
+  latest = λ Y y k. h .latest Y (y .tightest) (no-later-lowered t Y G .1 (k, y .in-time));
+}
+
+-- at the spare triggers nothing is lowered
+over-lowered : (t : Sheet) (G Y : Timing) (j : ℕ) → j < t .triggers → over t (lowered t G) Y j ≡ over t G Y j
+over-lowered t G Y j h = go (test (used t j))
+  where
+    go : T (used t j) ⊎ T (not (used t j)) → over t (lowered t G) Y j ≡ over t G Y j
+    go (inl u) = filled-rank (used t) (lowered t G) Y j u ∙ sym (filled-rank (used t) G Y j u)
+    go (inr u) = filled-other (used t) (lowered t G) Y j u ∙ lowered-spare t G j (spare-idle t j .1 (unused-idle t j h u)) ∙
+        sym (filled-other (used t) G Y j u)
+
+pub latest-formula : (t : Sheet) → Good t → Orderly t → (G : Timing) → Latest t G (latest-on t G)
+unfolding latest-on
+latest-formula t good o G = latest-same t (over-lowered t G _) (latest-in-time t (latest-tightest t good o (lowered t G)))
 
 module _ (s : List ℕ) (count : ℕ) (G : Timing) (t : Sheet) (r : List ℕ) (e : admitted s count G ≡ got t r) where
   abbrev admits : Admits s count G t r
@@ -95,6 +125,7 @@ module _ (s : List ℕ) (count : ℕ) (G : Timing) (t : Sheet) (r : List ℕ) (e
 
   -- it is as far from 0 as a given timing may be, and a line's size lower at most: at the triggers in use, and the given one at the others
   pub latest-fits : (k : ℕ) → k < cue-size t →
-      Within (far-limit + line-down) far-limit (num (latest (cue-size t) (cue-of t) (at-used t G) k))
-  latest-fits = latest-within (cue-size t) (cue-of t) (at-used t G) far-limit far-limit
-      (λ k q. given (trigger-at t k) (placed (used t) (t .triggers) k q .below)) limit order-limit (admits .orderly) (good .limited) (good .few)
+      Within (far-limit + line-down) far-limit (num (latest (cue-size t) (cue-of t) (at-used t (lowered t G)) k))
+  latest-fits = latest-within (cue-size t) (cue-of t) (at-used t (lowered t G)) far-limit far-limit
+      (λ k q. lowered-within t good G given (trigger-at t k) (placed (used t) (t .triggers) k q .below)) limit order-limit (admits .orderly)
+      (good .limited) (good .few)

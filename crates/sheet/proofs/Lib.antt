@@ -5,11 +5,13 @@ pub mod WithinLaws
 pub mod Spares
 pub mod Seam
 pub mod Good
+pub mod Overruns
 pub mod ListLaws
 pub mod OrderedLaws
 pub mod AdmittedLaws
 pub mod TwoSheets
 pub mod Demands
+pub mod Caps
 pub mod Decided
 pub mod Fits
 pub mod Latest

@@ -8,7 +8,7 @@ use Prim.Native.Nat.{ℕ, _<_}
 use native.Mathlib.Omega.{arith}
 use lib.Dec.{T}
 use lib.ListN.{length}
-use Rattle.maxplus.specs.Entry.{absent, num, _⊗_, Present}
+use Rattle.maxplus.specs.Entry.{E, absent, num, _⊗_, Present}
 use Rattle.maxplus.specs.Finite.{In}
 use Rattle.maxplus.specs.Tables.{supL}
 use Rattle.maxplus.specs.Line.{Line, at}
@@ -21,15 +21,16 @@ use Rattle.maxplus.proofs.PackingLaws.{rank-more, placed, place-rank, filled-ra
 use Rattle.maxplus.proofs.LayoutLaws.{supL-map, layout-at, layout-place, unlay, unlay-layout}
 use Rattle.cue.specs.Cue.{timing}
 use Rattle.cue.specs.Method.{mark, lines}
-use Rattle.cue.specs.Results.{Signed32, Fitting}
-use Rattle.cue.proofs.Bounds.{results-32}
+use Rattle.cue.specs.Results.{Within, Signed32, Fitting}
+use Rattle.cue.proofs.Bounds.{results-six, results-32}
 use Rattle.cue.proofs.Cone.{mark-cone}
 use Rattle.cue.proofs.Extreme.{lines-meet}
 use Rattle.sheet.specs.Sheet.{Sheet, limit}
-use Rattle.sheet.specs.Sizes.{order-limit}
+use Rattle.sheet.specs.Sizes.{order-limit, line-down}
 use Rattle.sheet.specs.Meaning.{Timing, spare, Weighed}
 use Rattle.sheet.specs.Cue.{used, cue-size, trigger-at, cue-of, Orderly, sheet-lines}
 use Rattle.sheet.specs.Good.{Good}
+use Rattle.sheet.proofs.WithinLaws.{within-absent}
 use Rattle.sheet.proofs.Spares.{used-not-spare, spare-unused}
 use Rattle.sheet.proofs.Seam.{at-used}
 
@@ -94,6 +95,19 @@ module _ (t : Sheet) where
       go (inl u) = u
       go (inr u) = absurd (absent-not (sym (spare-absent l h j hj u) ∙ e))
 
+  -- what is so of every component of the cue's lines, and of absent, is so of those of the sheet's
+  pub laid-out : (K : E → Type 0) → K absent →
+      ((c : Line (cue-size t)) → In c cue-lines → (i : ℕ) → i < cue-size t → K (at (cue-size t) c i)) →
+      (l : Line triggers) → In l (sheet-lines t) → (j : ℕ) → j < triggers → K (at triggers l j)
+  unfolding sheet-lines
+  laid-out K none f l h j hj = let (c, hc, e) = map-in lay cue-lines l h in
+      rw (e, layout-at (used t) triggers triggers (omega arith) c j hj) (go c hc (test (used t j)))
+    where
+      go : (c : Line (cue-size t)) → In c cue-lines → T (used t j) ⊎ T (not (used t j)) → K (filled (used t) (λ j. absent) (at (cue-size t) c) j)
+      go c hc (inl u) = rw (filled-rank (used t) (λ j. absent) (at (cue-size t) c) j u)
+          (f c hc (rank (used t) j) (rank-more (used t) j triggers hj u))
+      go c hc (inr u) = rw (filled-other (used t) (λ j. absent) (at (cue-size t) c) j u) none
+
   module _ (G : Good t) (o : Orderly t) where
     used-shown : (j : ℕ) → j < triggers → T (used t j) → Shows j
     unfolding sheet-lines
@@ -127,12 +141,9 @@ module _ (t : Sheet) where
     fitting-cue c h i q = results-32 (cue-size t) limit order-limit (cue-of t) o (G .limited) (G .few) (omega arith) .components c h i q
 
     pub fitting : Fitting triggers (sheet-lines t)
-    unfolding sheet-lines
-    fitting l h j hj = let (c, hc, e) = map-in lay cue-lines l h in
-        rw (e, layout-at (used t) triggers triggers (omega arith) c j hj) (go c hc (test (used t j)))
-      where
-        go : (c : Line (cue-size t)) → In c cue-lines → T (used t j) ⊎ T (not (used t j)) →
-            Signed32 (filled (used t) (λ j. absent) (at (cue-size t) c) j)
-        go c hc (inl u) = rw (filled-rank (used t) (λ j. absent) (at (cue-size t) c) j u)
-            (fitting-cue c hc (rank (used t) j) (rank-more (used t) j triggers hj u))
-        go c hc (inr u) = rw (filled-other (used t) (λ j. absent) (at (cue-size t) c) j u) (record { fits = λ z q. absurd (absent-not q) })
+    fitting = laid-out Signed32 (record { fits = λ z q. absurd (absent-not q) }) fitting-cue
+
+    -- how far from 0 they are
+    pub components-within : (l : Line triggers) → In l (sheet-lines t) → (j : ℕ) → j < triggers → Within line-down 0 (at triggers l j)
+    components-within = laid-out (Within line-down 0) within-absent
+        (results-six (cue-size t) limit order-limit (cue-of t) o (G .limited) (G .few) .components)

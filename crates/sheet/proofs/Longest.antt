@@ -21,7 +21,8 @@ use Rattle.sheet.specs.Text.{bytes}
 use Rattle.sheet.specs.Good.{Passes}
 use Rattle.sheet.specs.Sheet.{Got, got, refused, got?, _>>=_, literal, digit, leading, value, behind, signed, item, ending, ended, items, line, rows}
 use Rattle.sheet.specs.Sheet.{Rule, size, entry, mark, limit, out-of-range, absent?, no-size, any, checked, table, Section, kind, sizes, tables}
-use Rattle.sheet.specs.Sheet.{panels-line, triggers-line, section, sections, optional, land-kind, part, count, Sheet, finished, lines, read}
+use Rattle.sheet.specs.Sheet.{panels-line, triggers-line, section, sections, optional, land-kind, last-kind, part, count, Sheet, finished}
+use Rattle.sheet.specs.Sheet.{lines, read}
 use Rattle.sheet.proofs.LineLaws.{none-or, not-got, bind-got, passed, checked-passes, size-there}
 use Rattle.sheet.proofs.SectionLaws.{sections-of}
 use Rattle.sheet.proofs.Good.{size-good}
@@ -47,11 +48,12 @@ abbrev pub sections-most : List Section → ℕ
 sections-most [] = 0
 sections-most (k ∷ ks) = section-most k + sections-most ks
 
--- a sheet with six panels, six triggers and land lines
+-- a sheet with six panels, six triggers, land lines and a last line
 abbrev pub longest : ℕ
-longest = sections-most sizes + sections-most (tables size-limit size-limit) + section-most (land-kind size-limit size-limit)
+longest = sections-most sizes + sections-most (tables size-limit size-limit) + section-most (land-kind size-limit size-limit) +
+    section-most (last-kind size-limit)
 
-pub longest-is : longest ≡ 1080
+pub longest-is : longest ≡ 1133
 unfolding bytes
 longest-is = refl
 
@@ -229,10 +231,10 @@ tables-most : (m n : ℕ) → m ≤ size-limit → n ≤ size-limit → sections
 tables-most m n h g =
     omega (arith, kind-most "lag=" entry h g, kind-most "floor=" entry (le-refl 1) h, kind-most "due=" mark (le-refl 1) g, kind-most "after=" entry g g)
 
-finished-none : (m n : ℕ) (ts : List (List (List E))) (l : Option Mat) (x : List ℕ) {t : Sheet} {y : List ℕ} → finished m n ts l x ≡ got t y →
-    length x ≡ 0
-finished-none m n ts l [] e = refl
-finished-none m n ts l (b ∷ x) e = absurd (not-got e)
+finished-none : (m n : ℕ) (ts : List (List (List E))) (l d : Option Mat) (x : List ℕ) {t : Sheet} {y : List ℕ} →
+    finished m n ts l d x ≡ got t y → length x ≡ 0
+finished-none m n ts l d [] e = refl
+finished-none m n ts l d (b ∷ x) e = absurd (not-got e)
 
 -- no good sheet has more bytes
 pub longest-good : (s : List ℕ) (t : Sheet) (r : List ℕ) → read s ≡ got t r → length s ≤ longest
@@ -245,8 +247,20 @@ longest-good s t r e =
     let few-m = size-good (sections-of sizes s a panels-line refl) .1 in
     let few-n = size-good (sections-of sizes s a triggers-line refl) .1 in
     let (ts, y, b, h) = bind-got (sections (tables m n) x) g in
-    let (l, z, c, k) = bind-got (optional (land-kind m n) y) h in
+    let (l, z, c, i) = bind-got (optional (land-kind m n) y) h in
+    let (o, u, d, k) = bind-got (optional (last-kind m) z) i in
     let first = sections-take sizes s .took ps x a tt in
     let next = sections-take (tables m n) x .took ts y b tt in
-    let last = optional-takes (land-kind m n) y .took l z c tt in
-    omega (arith, first, next, tables-most m n few-m few-n, last, kind-most "land=" entry few-n few-m, finished-none m n ts l z k)
+    let lands = optional-takes (land-kind m n) y .took l z c tt in
+    let lasts = optional-takes (last-kind m) z .took o u d tt in
+    omega (
+      arith,
+      first,
+      next,
+      tables-most m n few-m few-n,
+      lands,
+      kind-most "land=" entry few-n few-m,
+      lasts,
+      kind-most "last=" mark (le-refl 1) few-m,
+      finished-none m n ts l o u k,
+    )

@@ -16,7 +16,8 @@ use Rattle.maxplus.specs.Tables.{Mat}
 use Rattle.maxplus.proofs.FiniteLaws.{in-at}
 use Rattle.sheet.specs.Good.{Passes, RowsOf}
 use Rattle.sheet.specs.Sheet.{got, refused, got?, _>>=_, literal, ended, items, Rule, size, absent?, no-size, any, all, line, rows, table}
-use Rattle.sheet.specs.Sheet.{Section, section, sections, optional, land-kind, part, sizes, tables, count, panels-line, triggers-line}
+use Rattle.sheet.specs.Sheet.{Section, section, sections, optional, land-kind, last-kind, part, sizes, tables, count, panels-line}
+use Rattle.sheet.specs.Sheet.{triggers-line}
 use Rattle.sheet.specs.Sheet.{lag-lines, floor-line, sheet-of, finished, sized, lines, read}
 use Rattle.sheet.proofs.LineLaws.{bind-got, onto, front, none-at, checked-passes, size-there}
 use Rattle.cue.specs.Sizes.{size-limit}
@@ -160,27 +161,31 @@ module _ (m n : ℕ) (x : List ℕ) where
     pub sized-land : (f : ℕ) → optional (land-kind m n) y ≡ refused f → sized m n x ≡ refused f
     sized-land f p = rw (e, p)
 
-    pub sized-read : (land : Option Mat) (z : List ℕ) → optional (land-kind m n) y ≡ got land z → sized m n x ≡ finished m n ts land z
-    sized-read land z p = rw (e, p)
+    module _ (land : Option Mat) (z : List ℕ) (p : optional (land-kind m n) y ≡ got land z) where
+      pub sized-last : (f : ℕ) → optional (last-kind m) z ≡ refused f → sized m n x ≡ refused f
+      sized-last f q = rw (e, p, q)
 
-module _ (m n : ℕ) (ts : List (List (List E))) (land : Option Mat) where
-  pub finished-left : (x : List ℕ) → ¬ (length x ≡ 0) → finished m n ts land x ≡ refused 2
+      pub sized-read : (last : Option Mat) (u : List ℕ) → optional (last-kind m) z ≡ got last u → sized m n x ≡ finished m n ts land last u
+      sized-read last u q = rw (e, p, q)
+
+module _ (m n : ℕ) (ts : List (List (List E))) (land last : Option Mat) where
+  pub finished-left : (x : List ℕ) → ¬ (length x ≡ 0) → finished m n ts land last x ≡ refused 2
   finished-left [] h = absurd (h refl)
   finished-left (b ∷ x) h = refl
 
-  finished-all : (x : List ℕ) → length x ≡ 0 → finished m n ts land x ≡ finished m n ts land []
+  finished-all : (x : List ℕ) → length x ≡ 0 → finished m n ts land last x ≡ finished m n ts land last []
   finished-all [] h = refl
   finished-all (b ∷ x) h = absurd (let y : ⊥ = omega arith in y)
 
   module _ (x : List ℕ) (none : length x ≡ 0) where
-    pub finished-no-lag : any (all absent?) (part ts lag-lines) ≡ true → finished m n ts land x ≡ refused 6
+    pub finished-no-lag : any (all absent?) (part ts lag-lines) ≡ true → finished m n ts land last x ≡ refused 6
     finished-no-lag e = finished-all x none ∙ rw e
 
     module _ (e : any (all absent?) (part ts lag-lines) ≡ false) where
-      pub finished-no-floor : any (all absent?) (part ts floor-line) ≡ true → finished m n ts land x ≡ refused 7
+      pub finished-no-floor : any (all absent?) (part ts floor-line) ≡ true → finished m n ts land last x ≡ refused 7
       finished-no-floor f = finished-all x none ∙ rw (e, f)
 
-      pub finished-good : any (all absent?) (part ts floor-line) ≡ false → finished m n ts land x ≡ got (sheet-of m n ts land) []
+      pub finished-good : any (all absent?) (part ts floor-line) ≡ false → finished m n ts land last x ≡ got (sheet-of m n ts land last) []
       finished-good f = finished-all x none ∙ rw (e, f)
 
 module _ (s : List ℕ) where

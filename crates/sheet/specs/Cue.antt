@@ -1,6 +1,7 @@
 -- The one place where what a sheet says becomes the tables of the method (cue/specs/Method).
 use mathlib.Core.Bool.{Bool, false, not, _&&_}
 use mathlib.Core.List.{List}
+use mathlib.Core.Option.{Option, none, some}
 use Prim.Native.Nat.{ℕ}
 use lib.Dec.{ltb}
 use lib.IntN.{ℤ}
@@ -8,14 +9,15 @@ use lib.ListN.{length}
 use Rattle.maxplus.specs.Finite.{sum, countIf, byte-of, mapL}
 use Rattle.maxplus.specs.Line.{Line}
 use Rattle.maxplus.specs.Packing.{rank, place, filled, layout}
-use Rattle.maxplus.specs.Entry.{_⊕_}
-use Rattle.maxplus.specs.Tables.{Mat, mm, NoGain}
+use Rattle.maxplus.specs.Whole.{neg}
+use Rattle.maxplus.specs.Entry.{num, _⊗_, _⊕_, val}
+use Rattle.maxplus.specs.Tables.{sup, Mat, mm, NoGain}
 use Rattle.maxplus.proofs.StarLaws.{no-gain?}
 use Rattle.cue.specs.Cue.{Cue}
 use Rattle.cue.specs.Method.{least, floor-panels, kept, steps, selections, lines}
 use Rattle.cue.specs.Sizes.{geometric}
 use Rattle.sheet.specs.Sheet.{Sheet, given-table}
-use Rattle.sheet.specs.Meaning.{spare}
+use Rattle.sheet.specs.Meaning.{spare, line-landing}
 
 -- "Plans are worked out over the others" (document 02, No. 4): the triggers of the sheet that are not spare, in sheet order
 unfoldable pub used : Sheet → ℕ → Bool
@@ -80,6 +82,19 @@ sheet-selections t = length (selections (cue-size t) (cue-of t) (sheet-least t))
 -- each component at its own trigger: "In the lent space a spare component is absent"
 unfoldable pub sheet-lines : (t : Sheet) → List (Line (t .triggers))
 sheet-lines t = mapL (layout (used t) (cue-size t) (t .triggers)) (lines (cue-size t) (cue-of t))
+
+-- a line's cap (document 02, No. 5), where b are the last moments: the least b(i) − y(i) over the panels that it reaches, which is minus the
+-- largest y(i) − b(i)
+unfoldable pub cap : (t : Sheet) → (ℕ → ℤ) → Line (t .triggers) → ℤ
+cap t b c = neg (val (sup (t .panels) (λ i. line-landing t c i ⊗ num (neg (b i)))))
+
+-- "Each line of the plan then gains its own": where the sheet has a last line
+abbrev pub caps-by : (t : Sheet) → Option (ℕ → ℤ) → Option (Line (t .triggers) → ℤ)
+caps-by t none = none
+caps-by t (some b) = some (cap t b)
+
+abbrev pub sheet-caps : (t : Sheet) → Option (Line (t .triggers) → ℤ)
+sheet-caps t = caps-by t (t .last)
 
 -- "n + n² + ... + n to the power f", for the f panels that have a floor
 abbrev pub most-steps : Sheet → ℕ

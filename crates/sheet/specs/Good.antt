@@ -3,8 +3,10 @@
 use mathlib.Core.Path.{_≡_}
 use mathlib.Core.Bool.{false}
 use mathlib.Core.List.{List}
+use mathlib.Core.Option.{some}
 use Prim.Native.Nat.{ℕ, _≤_, _<_}
 use lib.ListN.{length}
+use lib.IntN.{ℤ}
 use Rattle.maxplus.specs.Entry.{E, num}
 use Rattle.maxplus.specs.Finite.{In}
 use Rattle.cue.specs.Vectors.{Readable}
@@ -36,4 +38,5 @@ pub record Good (t : Sheet) : Type 0 where
   pub dues : (j : ℕ) → j < t .triggers → Within limit limit (num (t .due j))
   pub afters : (i j : ℕ) → i < t .triggers → j < t .triggers → Within limit limit (t .after i j)
   pub lands : (i j : ℕ) → i < t .triggers → j < t .panels → Within limit limit (given-table (t .land) i j)
+  pub lasts : (b : ℕ → ℤ) → t .last ≡ some b → (i : ℕ) → i < t .panels → Within limit limit (num (b i))
   pub limited : Limited (cue-size t) limit order-limit (cue-of t)

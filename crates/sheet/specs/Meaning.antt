@@ -3,11 +3,13 @@ use mathlib.Core.Logic.{_↔_}
 use mathlib.Core.Path.{_≡_}
 use mathlib.Core.Bool.{Bool, cond, not, _&&_}
 use mathlib.Core.List.{List}
+use mathlib.Core.Option.{some}
 use Prim.Native.Nat.{ℕ, _<_}
 use lib.Dec.{T}
 use lib.IntN.{ℤ}
-use Rattle.maxplus.specs.Whole.{neg}
+use Rattle.maxplus.specs.Whole.{_≤z_, neg}
 use Rattle.maxplus.specs.Entry.{E, absent, num, _≼_, _⊗_, inv, present?}
+use Rattle.maxplus.specs.Finite.{In}
 use Rattle.maxplus.specs.Tables.{sup, supL, Vec, mv}
 use Rattle.maxplus.specs.Line.{Line, at}
 use Rattle.maxplus.specs.Latest.{LatestOf}
@@ -22,7 +24,7 @@ abbrev pub none-present : ℕ → Vec → Bool
 none-present n f = not (present? (sup n f))
 
 module _ (S : Sheet) where
-  open Sheet S using (panels, triggers, lag, floor, due, after, land)
+  open Sheet S using (panels, triggers, lag, floor, due, after, land, last)
 
   -- "Landing y(i) is the largest a(i,j) + x(j)."
   unfoldable pub landing : Timing → Vec
@@ -58,10 +60,19 @@ module _ (S : Sheet) where
     pub keeps : Keeps X
     pub least : (Y : Timing) → Keeps Y → deviation X ≼ deviation Y
 
+  -- "meets every last moment" (document 02, No. 5): no landing is later than the sheet allows, if it has a last line
+  abbrev pub InTime : Timing → Type 0
+  InTime X = (b : ℕ → ℤ) → last ≡ some b → (i : ℕ) → i < panels → landing X i ≼ num (b i)
+
+  -- "testing and No. 1 include them"
+  pub record TightestInTime (X : Timing) : Type 0 where
+    pub tightest : Tightest X
+    pub in-time : InTime X
+
   -- "the tightest timing none of whose components exceeds the given one and which is at least as late, component by component, as every
   -- other such timing" (document 02, No. 1): X, where G is given
   abbrev pub Latest : Timing → Timing → Type 0
-  Latest G X = LatestOf triggers Tightest G X
+  Latest G X = LatestOf triggers TightestInTime G X
 
   -- "A max-plus combination of lines adds a weight to each line and takes the largest, component by component", with whole-number weights, one
   -- for each line; "Every statement on combinations … is about the components that are not spare"
@@ -69,10 +80,28 @@ module _ (S : Sheet) where
     pub weight : Line triggers → ℤ
     pub is : (j : ℕ) → j < triggers → T (not (spare j)) → num (X j) ≡ supL L (λ c. num (weight c) ⊗ at triggers c j)
 
+  -- the landings of a line: absent at a panel that it does not reach
+  unfoldable pub line-landing : Line triggers → Vec
+  line-landing c = mv triggers lag (at triggers c)
+
+  -- "the largest weight for which no landing of that line is later than allowed", where b are the last moments
+  module _ (b : ℕ → ℤ) (c : Line triggers) where
+    abbrev pub Allowed : ℤ → Type 0
+    Allowed w = (i : ℕ) → i < panels → num w ⊗ line-landing c i ≼ num (b i)
+
+    pub record Cap (w : ℤ) : Type 0 where
+      pub allowed : Allowed w
+      pub largest : (v : ℤ) → Allowed v → v ≤z w
+
+  -- "combines all the lines with whole-number weights no greater than their caps"
+  pub record Capped (L : List (Line triggers)) (X : Timing) : Type 0 where
+    pub weighed : Weighed L X
+    pub within : (b : ℕ → ℤ) → last ≡ some b → (c : Line triggers) → In c L → (w : ℤ) → Cap b c w → weighed .weight c ≤z w
+
 -- "the same triggers are spare"
 abbrev pub SameSpares : Sheet → Sheet → Type 0
 SameSpares t u = (j : ℕ) → j < t .triggers → spare t j ≡ spare u j
 
--- "every timing is tightest on both sheets or on neither" (demand 3)
+-- "every timing is tightest on both sheets or on neither" (demand 3), "with the last moments left out"
 abbrev pub SameTimings : Sheet → Sheet → Type 0
 SameTimings t u = (X : Timing) → Tightest t X ↔ Tightest u X

@@ -180,6 +180,10 @@ optional k s = cond (got? (literal (k .key) s)) (section k s >>= λ t s. got (so
 abbrev pub land-kind : ℕ → ℕ → Section
 land-kind m n = kind "land=" entry n m
 
+-- "A sheet may end with a line last= of m present numbers, after any land lines; an absent one is 5" (document 02, No. 5)
+abbrev pub last-kind : ℕ → Section
+last-kind m = kind "last=" mark 1 m
+
 -- the rows of the k-th kind, none past the last
 abbrev pub part : List (List (List E)) → ℕ → List (List E)
 part ts k = getD ts k []
@@ -192,9 +196,10 @@ pub record Sheet : Type 0 where
   pub due : ℕ → ℤ
   pub after : Mat
   pub land : Option Mat
+  pub last : Option (ℕ → ℤ)
 
 -- whether such lines are there; their table: "or none, which reads as all absent"
-abbrev pub given : Option Mat → Bool
+abbrev pub given : {A : Type 0} → Option A → Bool
 given none = false
 given (some c) = true
 
@@ -205,9 +210,14 @@ given-table c = Option·getD c (λ i j. absent)
 abbrev pub count : List (List E) → ℕ
 count t = up (val (table t 0 0))
 
+-- the numbers of one line, where it is there
+abbrev pub moments : Option Mat → Option (ℕ → ℤ)
+moments none = none
+moments (some c) = some (λ i. val (c 0 i))
+
 -- The tables of a sheet. The rows of a kind are used here and in the refusals below, nowhere else.
-abbrev pub sheet-of : ℕ → ℕ → List (List (List E)) → Option Mat → Sheet
-sheet-of m n ts land =
+abbrev pub sheet-of : ℕ → ℕ → List (List (List E)) → (land last : Option Mat) → Sheet
+sheet-of m n ts land last =
     record {
       panels = m;
       triggers = n;
@@ -216,19 +226,21 @@ sheet-of m n ts land =
       due = λ j. val (table (part ts due-line) 0 j);
       after = table (part ts after-lines);
       land = land;
+      last = moments last;
     }
 
 -- "After the lines: bytes left over are 2; then 6: a panel with no lag; then 7: no floor at all."
-abbrev pub finished : ℕ → ℕ → List (List (List E)) → Option Mat → List ℕ → Got Sheet
-finished m n ts land (b ∷ s) = refused 2
-finished m n ts land [] =
+abbrev pub finished : ℕ → ℕ → List (List (List E)) → (land last : Option Mat) → List ℕ → Got Sheet
+finished m n ts land last (b ∷ s) = refused 2
+finished m n ts land last [] =
     cond (any (all absent?) (part ts lag-lines)) (refused 6)
     (cond (any (all absent?) (part ts floor-line)) (refused 7)
-    (got (sheet-of m n ts land) []))
+    (got (sheet-of m n ts land last) []))
 
 -- the rest of a sheet with m panels and n triggers
 abbrev pub sized : ℕ → ℕ → List ℕ → Got Sheet
-sized m n s = sections (tables m n) s >>= λ ts s. optional (land-kind m n) s >>= λ land s. finished m n ts land s
+sized m n s = sections (tables m n) s >>= λ ts s. optional (land-kind m n) s >>= λ land s. optional (last-kind m) s >>= λ last s.
+    finished m n ts land last s
 
 unfoldable pub lines : List ℕ → Got Sheet
 lines s = sections sizes s >>= λ ps s. sized (count (part ps panels-line)) (count (part ps triggers-line)) s

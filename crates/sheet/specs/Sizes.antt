@@ -1,5 +1,5 @@
 -- How large each result is for the sheets that are read: cue's sizes at the limits on a sheet's entries.
-use Prim.Native.Nat.{ℕ, _*_}
+use Prim.Native.Nat.{ℕ, _+_, _*_}
 use Rattle.cue.specs.Sizes as sizes
 use Rattle.sheet.specs.Sheet.{limit}
 
@@ -26,6 +26,13 @@ need-down = sizes.need-down limit order-limit
 
 abbrev pub line-down : ℕ
 line-down = sizes.line-down limit order-limit
+
+-- a cap: a landing is at most a lag, so that it is two limits below 0 at the least; a line's landing is at least its lowest component and a lag
+abbrev pub cap-down : ℕ
+cap-down = 2 * limit
+
+abbrev pub cap-up : ℕ
+cap-up = line-down + 2 * limit
 
 -- words on the way: p(i) − Δ; M* w; a candidate drawn from it, before and after the shift; its lateness
 abbrev pub ask-size : ℕ

@@ -63,6 +63,12 @@ fn put_reading(s: &[u8]) {
         let lands = land.rows;
         put_rows(b" land", lands, t.triggers, t.panels);
     }
+    let last = t.last;
+    if last.given {
+        let moments = last.at;
+        io::write_all(1, b" last");
+        put_row(moments, t.panels);
+    }
 }
 
 // One case: its label, and what its sheet gives.

@@ -1,26 +1,30 @@
--- What the measuring of a timing asks of a cue's words, and is told.
+-- What the measuring of a timing asks of a cue's words and of the overruns, and is told.
 use mathlib.Core.Path.{_≡_, ap, sym, subst, _∙_}
 use mathlib.Core.Bool.{Bool, true, false}
 use mathlib.Core.List.{List}
-use Prim.Native.Nat.{ℕ}
-use Rattle.maxplus.specs.Entry.{num}
+use Prim.Native.Nat.{ℕ, _≤_, _<_}
+use Rattle.maxplus.specs.Entry.{num, _≼_, _⊗_, unit}
+use Rattle.maxplus.proofs.EntryLaws.{_▸_, ≼-of, ≼-back}
 use Rattle.maxplus.specs.Tables.{NoGain}
 use Rattle.cue.specs.Cue as theory
 use Rattle.cue.specs.Cue.{timing}
 use Rattle.cue.specs.Vectors as vectors
 use Rattle.cue.specs.Method.{least}
+use Rattle.cue.specs.Sizes.{size-limit}
 use Rattle.words.specs.Words.{entry}
 use Rattle.words.specs.declared.LineWords.{LineWords}
 use Rattle.timing.specs.Times.{TimingWords}
 use Rattle.timing.specs.Deviation.{SheetClose}
 use Rattle.timing.specs.Test.{MeasuredWords, TestSays}
 use Rattle.sheet.specs.Sheet.{Sheet}
-use Rattle.sheet.specs.Sizes.{order-limit}
-use Rattle.sheet.specs.Meaning.{Timing, Tightest}
+use Rattle.sheet.specs.Sizes.{order-limit, cap-down}
+use Rattle.sheet.specs.Overruns.{overruns}
+use Rattle.sheet.specs.Meaning.{Timing, Tightest, InTime, TightestInTime}
 use Rattle.sheet.specs.Times.{far-limit}
 use Rattle.sheet.specs.Cue.{cue-size, cue-of}
 use Rattle.sheet.proofs.Seam.{at-used, tightest-cue}
-use Rattle.tables.specs.Held.{HoldsV, Closely, CloselyV, Says}
+use Rattle.sheet.proofs.Overruns.{in-time-early}
+use Rattle.tables.specs.Held.{meantV, HoldsV, Closely, CloselyV, Says}
 use Rattle.preparing.specs.declared.CueWords.{CueWords}
 use Rattle.preparing.specs.declared.Prepared.{Prepared}
 use Rattle.preparing.specs.Prepared.{HoldsCue, Made}
@@ -72,6 +76,32 @@ module _ {s : Sheet} {orders lags stars gains needs : List (List ℕ)} {r : Prep
         CloselyV (x .count) far-limit (x .at)
     tested-asks = (rw size (sheet-close (M .held)), rw size (orders-close (M .held)), rw (w .count) (w .words .close))
 
-    pub tested-says : (v : Bool) → ((Y : Timing) → HoldsV (x .count) (timing Y) (x .at) →
+    tested-says : (v : Bool) → ((Y : Timing) → HoldsV (x .count) (timing Y) (x .at) →
         TestSays (r .cue .panels) (x .count) orders lags (r .cue .floor) (r .cue .due) (r .marked .least) Y v) → Says (Tightest s X) v
     tested-says v f = tested-on X v (rw size at (f (at-used s X) (rw (w .count) (w .words .is))))
+
+    -- of a timing that is in time
+    pub answer-says : InTime s X → (v : Bool) → ((Y : Timing) → HoldsV (x .count) (timing Y) (x .at) →
+        TestSays (r .cue .panels) (x .count) orders lags (r .cue .floor) (r .cue .due) (r .marked .least) Y v) → Says (TightestInTime s X) v
+    answer-says i v f = both v (tested-says v f)
+      where
+        both : (v : Bool) → Says (Tightest s X) v → Says (TightestInTime s X) v
+        both true h = record { tightest = h; in-time = i }
+        both false h = λ g. h (g .tightest)
+
+  -- ---- x has the words of X at all triggers
+  module _ (X : Timing) {x : LineWords} (w : TimingWords (s .triggers) X x) where
+    pub in-time-asks : (x .count ≤ size-limit) × CloselyV (x .count) far-limit (x .at) × CloselyV (x .count) cap-down (r .moments .overruns)
+    in-time-asks = rw (w .count) (M .good .triggers-few, w .words .close, M .moments .close)
+
+    sums : (j : ℕ) → j < s .triggers → meantV (r .moments .overruns) j ⊗ meantV (x .at) j ≡ overruns s j ⊗ num (X j)
+    sums j h = rw (M .moments .holds .at j h, w .words .is .at j h)
+
+    abbrev Early : Type 0
+    Early = (j : ℕ) → j < x .count → meantV (r .moments .overruns) j ⊗ meantV (x .at) j ≼ unit
+
+    pub is-early : Early → InTime s X
+    is-early f = in-time-early s X .1 (λ j h. ≼-back (sums j h) ▸ f j (rw (w .count) h))
+
+    pub not-early : ¬ Early → ¬ (TightestInTime s X)
+    not-early f h = f (λ j q. let k = rw (w .count) at q in ≼-of (sums j k) ▸ in-time-early s X .0 (h .in-time) j k)

@@ -5,7 +5,7 @@ use mathlib.Core.List.{List}
 use Prim.Native.Nat.{ℕ, _≤_}
 use native.Mathlib.Omega.{arith}
 use Rattle.maxplus.proofs.FiniteLaws.{decided-yes, decided-no}
-use Rattle.sheet.specs.Meaning.{Timing, Tightest}
+use Rattle.sheet.specs.Meaning.{Timing, TightestInTime}
 use Rattle.sheet.specs.Sheet.{Got, got, Sheet}
 use Rattle.sheet.specs.Sheet as spec
 use Rattle.sheet.specs.Asked.{TightestOn}
@@ -31,7 +31,8 @@ module _ (s : List ℕ) (count : ℕ) (X : Timing) where
   unfolding testing
   testing-refused k e = sym (ap (λ g. tests g asked) e)
 
-  pub testing-says : (t : Sheet) (r : List ℕ) → admitted s count X ≡ got t r → (b : Bool) → Says (Tightest t X) b → answer b ≡ testing s count X
+  pub testing-says : (t : Sheet) (r : List ℕ) → admitted s count X ≡ got t r → (b : Bool) → Says (TightestInTime t X) b →
+      answer b ≡ testing s count X
   unfolding testing
   testing-says t r e b h = sym (ap (λ g. tests g asked) e ∙ ap answer found)
     where

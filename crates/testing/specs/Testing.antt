@@ -19,7 +19,7 @@ abbrev pub tests : Got Sheet → Bool → TestOutcome
 tests (sheet.refused k) b = refused k
 tests (got t r) b = answer b
 
--- "yes exactly when the timing is tightest, else no"
+-- "yes exactly when the timing is tightest, else no"; with document 02's No. 5 it also has to meet every last moment
 unfoldable pub testing : List ℕ → ℕ → Timing → TestOutcome
 testing s count X = tests (admitted s count X) (decide (tightest? s X))
 

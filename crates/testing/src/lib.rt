@@ -1,9 +1,11 @@
-// Testing a timing: whether it is tightest.
+// Testing a timing: whether it is tightest and in time.
 ghost use mathlib.Core.Path.{_≡_};
 ghost use Rattle.timing.specs.Times.{component};
 ghost use Rattle.testing.specs.Testing.{testing, test-answer};
 use admitting::times_in_use;
+use moments::in_time;
 use timing::Timing;
+use timing::times::words_of;
 
 // Yes or no, or document 01's refusal, and nothing else.
 pub enum Tested {
@@ -12,7 +14,7 @@ pub enum Tested {
     Refused(u8),
 }
 
-// Whether a timing is tightest on a sheet. Only the first n of its six components are looked at.
+// Whether a timing is tightest on a sheet and meets every last moment. Only the first n of its six components are looked at.
 pub fn test_timing(bytes: &[u8], timing: Timing) -> Tested
     ensures { λ r. ⌜ test-answer r ≡ testing (now (bytes .entry)) (timing .count) (component (timing .at)) ⌝ }
 {
@@ -38,7 +40,14 @@ pub fn test_timing(bytes: &[u8], timing: Timing) -> Tested
     let marked = prepared.marked;
     let floor = cue.floor;
     let due = cue.due;
-    let x = times_in_use(timing, cue.places);
+    let places = cue.places;
+    let moments = prepared.moments;
+    let overruns = moments.overruns;
+    let times = words_of(timing, places.triggers);
+    if !in_time(times, overruns) {
+        return Tested::No;
+    }
+    let x = times_in_use(times, places);
     if timing::test::tested(&order, &lag, floor, due, marked.least, x, cue.panels) {
         return Tested::Yes;
     }

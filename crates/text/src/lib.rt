@@ -2,16 +2,17 @@
 // place behind what it wrote. A number has at most 20 bytes, and the room asked for is a round number above the longest text.
 ghost use mathlib.Core.Path.{_≡_};
 ghost use mathlib.Core.List.{List, [], _∷_};
+ghost use mathlib.Core.Option.{Option};
 ghost use Prim.Native.Nat.{_+_, _*_, _≤_};
-ghost use lib.IntN.{pos};
+ghost use lib.IntN.{ℤ, pos};
 ghost use lib.ListN.{length, take, getD};
 ghost use Rattle.maxplus.specs.Finite.{each};
 ghost use Rattle.maxplus.specs.Line.{Line};
 ghost use Rattle.trigger_sets.specs.Sets.{bit};
 ghost use Rattle.writing.specs.Texts.{plan-text, kept-text, latest-text, refusal-text, full-text};
-ghost use Rattle.cue.specs.Standing.{Stands};
+ghost use Rattle.cue.specs.Standing.{StandsWith};
 ghost use Rattle.writing.specs.Writing.{Writes};
-ghost use Rattle.cue.specs.Written.{line-size};
+ghost use Rattle.cue.specs.Written.{line-size, width};
 use crate::lines::put_lines;
 use crate::lines::put_panels;
 use crate::lines::put_times;
@@ -28,7 +29,8 @@ pub struct Ends {
     pub complaint: usize,
 }
 
-// The text of a plan whose lines stand in `words`, with its spare triggers as bits. The four fields take at most 117 bytes, a line 78.
+// The text of a plan whose lines stand in `words`, `wide` words each, with its spare triggers as bits. The four fields take at most 117 bytes, a
+// line 78, a cap 16.
 pub fn plan_text(
     out: &mut [u8],
     deviation: i64,
@@ -37,18 +39,19 @@ pub fn plan_text(
     n: usize,
     spares: u8,
     words: &[i32],
+    wide: usize,
     count: usize,
 ) -> usize
-    requires { ⌜ (100 * count + 200 ≤ length (now out)) × (n ≤ 6) × (line-size * count ≤ length (now words)) ⌝ }
+    requires { ⌜ (100 * count + 200 ≤ length (now out)) × (n ≤ 6) × (line-size ≤ wide) × (wide * count ≤ length (now words)) ⌝ }
     ensures within { λ r. ⌜ r ≤ length (now (out .exit)) ⌝ }
-    ensures text { λ r. ⌜ ((L : List (Line n)) → Stands n count (now (words .entry)) L →
-        take r (now (out .exit)) ≡ plan-text n (bit spares) deviation steps selections L) ⌝ }
+    ensures text { λ r. ⌜ ((caps : Option (Line n → ℤ)) (L : List (Line n)) → wide ≡ width caps →
+        StandsWith n count (now (words .entry)) caps L → take r (now (out .exit)) ≡ plan-text n (bit spares) deviation steps selections caps L) ⌝ }
 {
     let mut end = number_field(out, 0, b"deviation=", deviation);
     end = natural_field(out, end, b"steps=", steps);
     end = natural_field(out, end, b"selections=", selections);
     end = natural_field(out, end, b"count=", count as u64);
-    put_lines(out, end, words, n, count, spares)
+    put_lines(out, end, words, wide, n, count, spares)
 }
 
 // The text of a kept table. The three fields take at most 90 bytes, a panel's line 13.

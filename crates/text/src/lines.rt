@@ -8,12 +8,14 @@ ghost use Rattle.maxplus.specs.Finite.{each};
 ghost use Rattle.sheet.specs.Text.{bytes};
 ghost use Rattle.trigger_sets.specs.Sets.{bit};
 ghost use Rattle.writing.specs.Numerals.{numeral, item};
-ghost use Rattle.writing.specs.Texts.{joined, line-texts, panel-texts};
-ghost use Rattle.cue.specs.Standing.{of-signed, line-at, lines-of};
-ghost use Rattle.writing.specs.Writing.{Puts, comma, items};
+ghost use Rattle.writing.specs.Texts.{joined, line-text, panel-texts};
+ghost use Rattle.cue.specs.Standing.{of-signed, line-at};
+ghost use Rattle.writing.specs.Writing.{Puts, comma, items, text-at, texts-of};
 ghost use Rattle.cue.specs.Written.{line-size};
 use trigger_sets::has;
+use words::CAPPED_SIZE;
 use words::LINE_SIZE;
+use writing::number_field;
 use writing::put_byte;
 use writing::put_bytes;
 use writing::put_item;
@@ -61,16 +63,9 @@ fn put_items(out: &mut [u8], at: usize, words: &[i32], from: usize, n: usize, sp
 }
 
 // A line: 5 bytes of key, at most 72 of items and commas, LF.
-pub fn put_line(
-    out: &mut [u8],
-    at: usize,
-    words: &[i32],
-    from: usize,
-    n: usize,
-    spares: u8,
-) -> usize
+fn put_line(out: &mut [u8], at: usize, words: &[i32], from: usize, n: usize, spares: u8) -> usize
     requires { ⌜ (at + 100 ≤ length (now out)) × (n ≤ 6) × (from + line-size ≤ length (now words)) ⌝ }
-    ensures { λ r. ⌜ Puts (now (out .entry)) (now (out .exit)) at r (line-texts n (bit spares) (line-at n (now (words .entry)) from ∷ [])) ⌝ }
+    ensures { λ r. ⌜ Puts (now (out .entry)) (now (out .exit)) at r (line-text n (bit spares) (line-at n (now (words .entry)) from)) ⌝ }
     ensures short { λ r. ⌜ r ≤ at + 78 ⌝ }
 {
     let key = put_bytes(out, at, b"line=");
@@ -78,22 +73,44 @@ pub fn put_line(
     put_byte(out, end, b'\n')
 }
 
+// A line and, if it takes eight words, its cap: 4 bytes of key, a number of at most 11, LF.
+fn put_capped(
+    out: &mut [u8],
+    at: usize,
+    words: &[i32],
+    wide: usize,
+    from: usize,
+    n: usize,
+    spares: u8,
+) -> usize
+    requires { ⌜ (at + 120 ≤ length (now out)) × (n ≤ 6) × (line-size ≤ wide) × (from + wide ≤ length (now words)) ⌝ }
+    ensures { λ r. ⌜ Puts (now (out .entry)) (now (out .exit)) at r (text-at n (bit spares) wide (now (words .entry)) from) ⌝ }
+    ensures short { λ r. ⌜ r ≤ at + 94 ⌝ }
+{
+    let end = put_line(out, at, words, from, n, spares);
+    if wide == CAPPED_SIZE {
+        return number_field(out, end, b"cap=", words[from + LINE_SIZE] as i64);
+    }
+    end
+}
+
 // The first `count` lines of the words, 100 bytes for each.
 pub fn put_lines(
     out: &mut [u8],
     at: usize,
     words: &[i32],
+    wide: usize,
     n: usize,
     count: usize,
     spares: u8,
 ) -> usize
-    requires { ⌜ (at + 100 * count ≤ length (now out)) × (n ≤ 6) × (line-size * count ≤ length (now words)) ⌝ }
-    ensures { λ r. ⌜ Puts (now (out .entry)) (now (out .exit)) at r (line-texts n (bit spares) (lines-of n count (now (words .entry)))) ⌝ }
+    requires { ⌜ (at + 100 * count + 20 ≤ length (now out)) × (n ≤ 6) × (line-size ≤ wide) × (wide * count ≤ length (now words)) ⌝ }
+    ensures { λ r. ⌜ Puts (now (out .entry)) (now (out .exit)) at r (texts-of n (bit spares) wide count (now (words .entry))) ⌝ }
 {
     let mut end = at;
     let mut k: usize = 0;
     while k < count {
-        end = put_line(out, end, words, LINE_SIZE * k, n, spares);
+        end = put_capped(out, end, words, wide, wide * k, n, spares);
         k += 1;
     }
     end

@@ -12,8 +12,10 @@ ghost use Rattle.words.specs.Words.{word, entry, far, signed-far, Close,
 // The word of the number 0.
 const BIAS: u64 = 0x100_0000_0000;
 
-// The words that a line takes in a lent space.
+// The words that a line takes in a lent space, without a cap and with one.
 pub const LINE_SIZE: usize = 7;
+
+pub const CAPPED_SIZE: usize = 8;
 
 // The signed word of absent in a lent space: the least number of 32 bits.
 const ABSENT: i32 = -2147483648;

@@ -85,7 +85,7 @@ module _ {b c : List ℕ} {at : ℕ} {key : List ℕ} {i : ℕ} (p : Copied b c 
       }
 
 -- ---- a field of at most 20 bytes behind its key
-field-length : (key v : List ℕ) → length (field key v) ≡ length key + length v + 1
+pub field-length : (key v : List ℕ) → length (field key v) ≡ length key + length v + 1
 unfolding bytes
 field-length key v = length-append (key ++ v) (bytes "\n") ∙ ap (λ k. k + 1) (length-append key v)
 

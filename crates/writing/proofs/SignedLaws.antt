@@ -13,7 +13,7 @@ use lib.ListN.{length}
 use lib.Signed.{ltZ}
 use mir.Syntax.{w32, w64}
 use mir.Val.{SFits, toZ, ofZ}
-use mir.Facts.{toZ-ofZ, toZ-pos}
+use mir.Facts.{sfits-widen, toZ-ofZ, toZ-pos}
 use Rattle.maxplus.specs.Entry.{absent, num}
 use Rattle.sheet.specs.Text.{bytes}
 use Rattle.writing.specs.Numerals.{natural, numeral, item}
@@ -29,13 +29,23 @@ of-signed-or w f = go (ℕ-discrete (ofZ w32 w) 0x8000_0000)
     go (yes e) = inl (of-signed-absent w f e)
     go (no n) = inr (of-signed-number w f n)
 
+pub numeral-32 : (w : ℤ) → SFits w32 w → length (numeral w) ≤ 11
+numeral-32 w f = signed-length 9 w (omega (arith, f .sfits))
+
 pub item-32 : (w : ℤ) → SFits w32 w → length (item (of-signed w)) ≤ 11
 unfolding bytes
-item-32 w f = ⊎-elim (λ e. rw e (omega arith)) (λ e. rw e (signed-length 9 w (omega (arith, f .sfits)))) (of-signed-or w f)
+item-32 w f = ⊎-elim (λ e. rw e (omega arith)) (λ e. rw e (numeral-32 w f)) (of-signed-or w f)
 
 -- a word that is passed on is read back from its bits
 pub item-back : {w : ℤ} → SFits w32 w → item (of-signed (toZ w32 (ofZ w32 w))) ≡ item (of-signed w)
 item-back f = ap (λ z. item (of-signed z)) (toZ-ofZ f)
+
+-- and so is one that is made wider on its way
+pub wider-fits : {w : ℤ} → SFits w32 w → SFits w64 (toZ w32 (ofZ w32 w))
+wider-fits f = rw (toZ-ofZ f) (sfits-widen tt f)
+
+pub wider-back : {w : ℤ} → SFits w32 w → toZ w64 (ofZ w64 (toZ w32 (ofZ w32 w))) ≡ w
+wider-back f = toZ-ofZ (wider-fits f) ∙ toZ-ofZ f
 
 -- ---- a number's sign, as the machine tests and turns it: v is −1 − size, or size
 abbrev back : ℤ → ℤ

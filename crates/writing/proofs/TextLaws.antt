@@ -2,9 +2,12 @@
 use mathlib.Core.Path.{_≡_, refl, sym, ap, ap₂, _∙_}
 use mathlib.Core.List.{List, [], _∷_, _++_, append-nil, append-assoc}
 use mathlib.Core.Bool.{Bool, true, false, cond}
+use mathlib.Core.Option.{Option}
 use Prim.Native.Nat.{ℕ, zero, suc, _+_, _*_, _≤_, _<_}
+use native.Mathlib.Nat.{mul-suc, mul-le-mul-left, mul-le-mul-right}
 use native.Mathlib.Numerals.{add-one}
 use native.Mathlib.Omega.{arith}
+use borrow.Author.Tests.{eq-eqb, ne-eqb}
 use lib.ListN.{length, getD, take, length-append, length-take}
 use lib.IntN.{ℤ, pos}
 use Rattle.maxplus.specs.Finite.{each}
@@ -13,11 +16,11 @@ use Rattle.maxplus.proofs.EachLaws.{length-each, each-same}
 use Rattle.maxplus.proofs.LineLaws.{at-line}
 use Rattle.sheet.specs.Text.{bytes}
 use Rattle.writing.specs.Numerals.{natural, numeral, item}
-use Rattle.writing.specs.Texts.{field, joined, component-text, line-texts, plan-text, panel-texts}
-use Rattle.cue.specs.Standing.{of-signed, line-at, lines-of}
-use Rattle.writing.specs.Writing.{Puts, comma, items}
+use Rattle.writing.specs.Texts.{field, joined, component-text, line-text, cap-text, line-texts, plan-text, panel-texts}
+use Rattle.cue.specs.Standing.{of-signed, line-at}
+use Rattle.writing.specs.Writing.{Puts, comma, items, text-at, texts-of}
 use Rattle.writing.proofs.PutLaws.{put-nothing, then, put-as}
-use Rattle.cue.specs.Written.{line-size}
+use Rattle.cue.specs.Written.{line-size, capped-size}
 
 -- ---- k parts are put, of at most `size` bytes each: a loop's invariant
 pub record Grown (T : ℕ → List ℕ) (size : ℕ) (before after : List ℕ) (from end k : ℕ) : Type 0 where
@@ -84,42 +87,46 @@ pub component-of : (n : ℕ) (spare : ℕ → Bool) (ws : List ℤ) (from i : �
 component-of n spare ws from i h e f = ap₂ (λ b t. cond b (bytes "s") t) e (f ∙ item-of n ws from i h)
 
 -- ---- lines
-module _ (n : ℕ) (spare : ℕ → Bool) where
-  pub line-text : (c : Line n) → bytes "line=" ++ items n spare c ++ bytes "\n" ≡ line-texts n spare (c ∷ [])
-  unfolding line-texts
-  line-text c = sym (append-nil (bytes "line=" ++ items n spare c ++ bytes "\n"))
+pub texts-none : (n : ℕ) (spare : ℕ → Bool) (wide : ℕ) (ws : List ℤ) → texts-of n spare wide 0 ws ≡ []
+unfolding texts-of each
+texts-none n spare wide ws = refl
 
-  lines-append : (L M : List (Line n)) → line-texts n spare (L ++ M) ≡ line-texts n spare L ++ line-texts n spare M
-  unfolding line-texts
-  lines-append [] M = refl
-  lines-append (c ∷ L) M =
-      let first : List ℕ = field (bytes "line=") (items n spare c) in
-      ap (λ t. first ++ t) (lines-append L M) ∙ sym (append-assoc first (line-texts n spare L) (line-texts n spare M))
+pub texts-more : (n : ℕ) (spare : ℕ → Bool) (wide : ℕ) (ws : List ℤ) (k : ℕ) →
+    texts-of n spare wide (suc k) ws ≡ texts-of n spare wide k ws ++ text-at n spare wide ws (wide * k)
+unfolding texts-of each
+texts-more n spare wide ws k = refl
 
-  pub lines-none : (ws : List ℤ) → line-texts n spare (lines-of n 0 ws) ≡ []
-  unfolding line-texts lines-of each
-  lines-none ws = refl
+-- of lines that take `wide` words each, read no further apart, every one lies within the words
+pub line-inside : {step wide k count len : ℕ} → step ≤ wide → k < count → wide * count ≤ len → step * k + wide ≤ len
+line-inside {step} {wide} {k} {count} h q room = omega (arith, mul-le-mul-right k h, mul-suc wide k, mul-le-mul-left wide q)
 
-  pub lines-more : (ws : List ℤ) (k : ℕ) →
-      line-texts n spare (lines-of n (suc k) ws) ≡ line-texts n spare (lines-of n k ws) ++ line-texts n spare (line-at n ws (line-size * k) ∷ [])
-  unfolding lines-of each
-  lines-more ws k = lines-append (lines-of n k ws) (line-at n ws (line-size * k) ∷ [])
+-- a line with a cap behind it where a line takes eight words, and alone where it doesn't
+module _ (n : ℕ) (spare : ℕ → Bool) (wide : ℕ) (ws : List ℤ) (from : ℕ) where
+  pub text-capped : wide ≡ capped-size →
+      line-text n spare (line-at n ws from) ++ field (bytes "cap=") (numeral (getD ws (from + line-size) (pos 0))) ≡ text-at n spare wide ws from
+  unfolding text-at
+  text-capped e = rw (eq-eqb wide capped-size e)
+
+  pub text-alone : ¬ (wide ≡ capped-size) → line-text n spare (line-at n ws from) ≡ text-at n spare wide ws from
+  unfolding text-at
+  text-alone e = rw (ne-eqb wide capped-size e) (sym (append-nil _))
 
 -- ---- of the spare triggers only those below n are asked about
 module _ (n : ℕ) (s u : ℕ → Bool) (same : (j : ℕ) → j < n → s j ≡ u j) where
   items-same : (c : Line n) → items n s c ≡ items n u c
   items-same c = ap joined (each-same n _ _ (λ j h. ap (λ b. cond b (bytes "s") (item (at n c j)) ∷ []) (same j h)))
 
-  line-texts-same : (L : List (Line n)) → line-texts n s L ≡ line-texts n u L
+  line-texts-same : (caps : Option (Line n → ℤ)) (L : List (Line n)) → line-texts n s caps L ≡ line-texts n u caps L
   unfolding line-texts
-  line-texts-same [] = refl
-  line-texts-same (c ∷ L) = ap₂ (λ t l. field (bytes "line=") t ++ l) (items-same c) (line-texts-same L)
+  line-texts-same caps [] = refl
+  line-texts-same caps (c ∷ L) = ap₂ (λ t l. field (bytes "line=") t ++ cap-text n caps c ++ l) (items-same c) (line-texts-same caps L)
 
-  pub plan-text-same : (D : ℤ) (k l : ℕ) (L : List (Line n)) → plan-text n s D k l L ≡ plan-text n u D k l L
+  pub plan-text-same : (D : ℤ) (k l : ℕ) (caps : Option (Line n → ℤ)) (L : List (Line n)) →
+      plan-text n s D k l caps L ≡ plan-text n u D k l caps L
   unfolding plan-text
-  plan-text-same D k l L =
+  plan-text-same D k l caps L =
       ap (λ t. field (bytes "deviation=") (numeral D) ++ field (bytes "steps=") (natural k) ++ field (bytes "selections=") (natural l) ++
-      field (bytes "count=") (natural (length L)) ++ t) (line-texts-same L)
+      field (bytes "count=") (natural (length L)) ++ t) (line-texts-same caps L)
 
 -- ---- panels
 pub panel-text : (b c : ℕ) → bytes "kept=" ++ natural b ++ bytes "," ++ natural c ++ bytes "\n" ≡ panel-texts ((b, c) ∷ [])

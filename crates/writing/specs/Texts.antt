@@ -1,6 +1,7 @@
 -- The texts that the programs write (document 01, "Whole case"): of a plan, of a kept table, of a timing, of a refusal.
 use mathlib.Core.List.{List, [], _∷_, _++_}
 use mathlib.Core.Bool.{Bool, cond}
+use mathlib.Core.Option.{Option, none, some}
 use Prim.Native.Nat.{ℕ}
 use lib.IntN.{ℤ}
 use lib.ListN.{length}
@@ -23,15 +24,23 @@ joined (v ∷ w ∷ l) = v ++ bytes "," ++ joined (w ∷ l)
 abbrev pub component-text : (n : ℕ) → (ℕ → Bool) → Line n → ℕ → List ℕ
 component-text n spare c j = cond (spare j) (bytes "s") (item (at n c j))
 
-unfoldable pub line-texts : (n : ℕ) → (ℕ → Bool) → List (Line n) → List ℕ
-line-texts n spare [] = []
-line-texts n spare (c ∷ L) = field (bytes "line=") (joined (each n (λ j. component-text n spare c j ∷ []))) ++ line-texts n spare L
+abbrev pub line-text : (n : ℕ) → (ℕ → Bool) → Line n → List ℕ
+line-text n spare c = field (bytes "line=") (joined (each n (λ j. component-text n spare c j ∷ [])))
+
+-- "Each line of the plan then gains its own following line `cap=`" (document 02, No. 5)
+abbrev pub cap-text : (n : ℕ) → Option (Line n → ℤ) → Line n → List ℕ
+cap-text n none c = []
+cap-text n (some w) c = field (bytes "cap=") (numeral (w c))
+
+unfoldable pub line-texts : (n : ℕ) → (ℕ → Bool) → Option (Line n → ℤ) → List (Line n) → List ℕ
+line-texts n spare caps [] = []
+line-texts n spare caps (c ∷ L) = line-text n spare c ++ cap-text n caps c ++ line-texts n spare caps L
 
 -- "The fields are Δ, the walk's fixings, its selections, the number of lines, then each line, trigger 1 first."
-unfoldable pub plan-text : (n : ℕ) → (ℕ → Bool) → ℤ → ℕ → ℕ → List (Line n) → List ℕ
-plan-text n spare D k l L =
+unfoldable pub plan-text : (n : ℕ) → (ℕ → Bool) → ℤ → ℕ → ℕ → Option (Line n → ℤ) → List (Line n) → List ℕ
+plan-text n spare D k l caps L =
     field (bytes "deviation=") (numeral D) ++ field (bytes "steps=") (natural k) ++ field (bytes "selections=") (natural l) ++
-    field (bytes "count=") (natural (length L)) ++ line-texts n spare L
+    field (bytes "count=") (natural (length L)) ++ line-texts n spare caps L
 
 -- a line for each panel: its byte and its bit count
 unfoldable pub panel-texts : List (ℕ × ℕ) → List ℕ

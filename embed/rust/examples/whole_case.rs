@@ -1,12 +1,12 @@
 //! The whole case from Rust: plans it, chooses times from its lines, tests them, finds the latest that
-//! are no later than wished, lets a trigger wait for a panel, plans it for a desk with an idle trigger, and
-//! compares it with other sheets.
+//! are no later than wished, lets a trigger wait for a panel, plans it for a desk with an idle trigger and
+//! with last moments, and compares it with other sheets.
 //!
 //!     rt staticlib planner_c
 //!     cargo run --offline --manifest-path embed/rust/Cargo.toml --example whole_case
 
 use std::error::Error;
-use tuzhelar::{LINE_WORDS, Refusal, kept, latest, plan, same, test};
+use tuzhelar::{CAPPED_WORDS, LINE_WORDS, Refusal, kept, latest, plan, same, test};
 
 const SHEET: &[u8] = b"panels=2
 triggers=2
@@ -44,6 +44,18 @@ after=-,-,-
 after=-,-,-
 ";
 
+/// The whole case where neither panel may land after 6.
+const DOWNBEAT: &[u8] = b"panels=2
+triggers=2
+lag=2,0
+lag=4,1
+floor=5,2
+due=1,2
+after=-,-
+after=-,-
+last=6,6
+";
+
 /// Trigger 2 comes 3 after trigger 1, and trigger 1 at most 1 before trigger 2: 3 − 1 is above 0.
 const NO_ORDER: &[u8] = b"panels=2
 triggers=2
@@ -66,13 +78,31 @@ after=-,-
 after=-,-
 ";
 
+/// Last moments: a cap for each line. Times are in time where no weight is greater than its cap.
+fn print_downbeat() -> Result<(), Refusal> {
+    let mut space = [0; 2 * CAPPED_WORDS];
+    let planned = plan(DOWNBEAT, &mut space)?;
+    print!("with last moments {planned}");
+    for weights in [[3, 2], [3, 3]] {
+        let times = planned.times(&weights).expect("one weight for each line");
+        println!(
+            "weights {weights:?}, times {times:?}, tightest and in time {}",
+            test(DOWNBEAT, &times)?
+        );
+    }
+    let wished = [5, 9];
+    let reached = latest(DOWNBEAT, &wished, &mut space)?;
+    println!("wished {wished:?}; instead {:?}", reached.times());
+    Ok(())
+}
+
 fn main() -> Result<(), Box<dyn Error>> {
-    // Space for one line is too little; the refusal says how many there are.
+    // Space for one line is too little; the refusal says how many words to lend.
     let mut space = vec![0; LINE_WORDS];
     if let Err(refusal) = plan(SHEET, &mut space) {
         println!("refused={}: {refusal}", refusal.number());
-        if let Refusal::Space { count } = refusal {
-            space.resize(count * LINE_WORDS, 0);
+        if let Refusal::Space { words, .. } = refusal {
+            space.resize(words, 0);
         }
     }
     let planned = plan(SHEET, &mut space)?;
@@ -115,6 +145,8 @@ fn main() -> Result<(), Box<dyn Error>> {
             .join(" and ")
     );
 
+    print_downbeat()?;
+
     for (i, panel) in kept(SHEET)?.panels().iter().enumerate() {
         println!(
             "panel {} keeps byte {}, {} trigger(s)",
@@ -131,6 +163,9 @@ fn main() -> Result<(), Box<dyn Error>> {
         "a desk with an idle trigger: {:?} sheets",
         compared.likeness
     );
+    other_space.resize(2 * CAPPED_WORDS, 0);
+    let compared = same(SHEET, DOWNBEAT, &mut space, &mut other_space)?;
+    println!("with last moments: {:?} timings", compared.likeness);
 
     if let Err(refusal) = plan(NO_ORDER, &mut space) {
         println!("refused={}: {refusal}", refusal.number());

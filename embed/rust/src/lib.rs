@@ -33,6 +33,15 @@
 //! assert_eq!(tuzhelar::test(idle, &[-3, 99, 0]), Ok(true));
 //! assert_eq!(tuzhelar::latest(idle, &[0, 99, 0], &mut space)?.times(), [-3, 99, 0]);
 //!
+//! // A last line gives each panel its last moment, and each line of the plan a cap for its weight.
+//! let downbeat = [&sheet[..], b"last=6,6\n"].concat();
+//! let plan = tuzhelar::plan(&downbeat, &mut space)?;
+//! assert_eq!(plan.lines().map(|line| line.cap()).collect::<Vec<_>>(), [Some(3), Some(2)]);
+//! assert_eq!(plan.times(&[3, 2]), Some(vec![2, 3]));
+//! assert_eq!(tuzhelar::test(&downbeat, &[2, 3]), Ok(true));
+//! assert_eq!(tuzhelar::test(&downbeat, &[3, 3]), Ok(false));
+//! assert_eq!(tuzhelar::latest(&downbeat, &[5, 9], &mut space)?.times(), [2, 3]);
+//!
 //! // Whether the same times are tightest on another sheet, here the same with its panels exchanged.
 //! let other = b"panels=2\ntriggers=2\nlag=4,1\nlag=2,0\nfloor=2,5\ndue=1,2\nafter=-,-\nafter=-,-\n";
 //! let (mut left, mut right) = ([0; 20 * tuzhelar::LINE_WORDS], [0; 20 * tuzhelar::LINE_WORDS]);
@@ -43,12 +52,16 @@
 
 mod ffi;
 mod latest;
+mod list;
 mod plan;
 mod refusal;
 mod same;
 
+use list::{List, line_words};
+
 pub use latest::{Latest, latest};
-pub use plan::{Line, Plan};
+pub use list::Line;
+pub use plan::Plan;
 pub use refusal::Refusal;
 pub use same::{Compared, Likeness, SheetRefusal};
 
@@ -58,6 +71,8 @@ pub const SHEET_BYTES: usize = 2048;
 pub const MOST: usize = 6;
 /// Words of the lent space that a line takes: its count of triggers and six components.
 pub const LINE_WORDS: usize = 7;
+/// Words that a line takes on a sheet with a last line: the same, and then its cap.
+pub const CAPPED_WORDS: usize = 8;
 
 /// The number that an operation returns for a result, a test for yes and no, a comparison for each likeness.
 const DONE: u32 = 0;
@@ -73,17 +88,20 @@ const UNLIKE: u32 = 102;
 /// A trigger is spare if it has no lag to any panel, no present after entry in its row or column, and no
 /// present land entry in its row. At least one trigger is not.
 ///
+/// A sheet with a last line gives each panel a last moment. Times are in time if no panel lands later than
+/// that; each line then has a [cap](Line::cap). The rest of the plan is as without the last line.
+///
 /// # Errors
 /// [`Refusal`] 1 to 9; the space is then as it was. The space holds its length divided by [`LINE_WORDS`],
-/// rounded down, lines. The program `plan` lends 2,000 lines; the largest list seen has 72. Where they are
-/// too few, [`Refusal::Space`] says how many there are.
+/// or by [`CAPPED_WORDS`] on a sheet with a last line, rounded down, lines. The program `plan` lends 2,000
+/// lines; the largest list seen has 72. Where they are too few, [`Refusal::Space`] says how many there are.
 pub fn plan<'a>(sheet: &[u8], space: &'a mut [i32]) -> Result<Plan<'a>, Refusal> {
-    let mut answer = [0; 5];
+    let mut answer = [0; 6];
     let number = ffi::plan(sheet, space, &mut answer);
-    let [deviation, steps, selections, count, spares] = answer;
-    let count = count as usize;
+    let [deviation, steps, selections, count, spares, line_words] = answer;
+    let (count, line_words) = (count as usize, line_words as usize);
     if number != DONE {
-        return Err(Refusal::of(number, count));
+        return Err(Refusal::of(number, count, line_words));
     }
     Ok(Plan {
         deviation,
@@ -91,7 +109,7 @@ pub fn plan<'a>(sheet: &[u8], space: &'a mut [i32]) -> Result<Plan<'a>, Refusal>
         selections: selections as u64,
         count,
         spares: spares as u8,
-        words: &space[..LINE_WORDS * count],
+        list: List::in_space(space, count, line_words),
     })
 }
 
@@ -132,7 +150,7 @@ pub fn kept(sheet: &[u8]) -> Result<Kept, Refusal> {
     let mut answer = [0; 16];
     let number = ffi::kept(sheet, &mut answer);
     if number != DONE {
-        return Err(Refusal::of(number, 0));
+        return Err(Refusal::of(number, 0, 0));
     }
     let mut kept = [KeptPanel::default(); MOST];
     for (panel, words) in kept.iter_mut().zip(answer[4..].chunks_exact(2)) {
@@ -150,9 +168,9 @@ pub fn kept(sheet: &[u8]) -> Result<Kept, Refusal> {
     })
 }
 
-/// Whether the times, one for each trigger, are tightest: they keep the order, which is every rule of the
-/// after and land lines, and no times that do have a smaller deviation. A spare trigger's time and due mark
-/// count for nothing.
+/// Whether the times, one for each trigger, are tightest and in time: they keep the order, which is every
+/// rule of the after and land lines, no times that do have a smaller deviation, and no panel lands after its
+/// last moment, if the sheet has a last line. A spare trigger's time and due mark count for nothing.
 ///
 /// # Errors
 /// [`Refusal`] 1 to 7; then 10, there are not as many times as triggers; then 11, one is beyond
@@ -161,13 +179,14 @@ pub fn test(sheet: &[u8], times: &[i64]) -> Result<bool, Refusal> {
     match ffi::test(sheet, times) {
         YES => Ok(true),
         NO => Ok(false),
-        number => Err(Refusal::of(number, 0)),
+        number => Err(Refusal::of(number, 0, 0)),
     }
 }
 
 /// Whether the same timings are tightest on two sheets, where they have as many triggers and the same are
 /// spare. Each sheet's list is written at the front of its space, the first's in `left`, the second's in
-/// `right`; the rest of each space stays as it was.
+/// `right`; the rest of each space stays as it was. Last moments and caps have no part in this, and one sheet
+/// may have a last line where the other has none.
 ///
 /// # Errors
 /// [`SheetRefusal`]: [`Refusal`] 1 to 9 of the first sheet, as [`plan`] has it with the space `left`, or else
@@ -181,15 +200,16 @@ pub fn same<'a>(
     let mut answer = [0; 2];
     let number = ffi::same(first, second, left, right, &mut answer);
     let counts = answer.map(|count| count as usize);
+    let words = [line_words(first), line_words(second)];
     let likeness = match number {
         SAME => Likeness::Same,
         DIFFERENT => Likeness::Different,
         UNLIKE => Likeness::Unlike,
-        number => return Err(SheetRefusal::of(number, counts)),
+        number => return Err(SheetRefusal::of(number, counts, words)),
     };
     Ok(Compared {
         likeness,
-        left: &left[..LINE_WORDS * counts[0]],
-        right: &right[..LINE_WORDS * counts[1]],
+        left: List::in_space(left, counts[0], words[0]),
+        right: List::in_space(right, counts[1], words[1]),
     })
 }

@@ -1,10 +1,7 @@
 //! What planning gives: five numbers, and the lines in the lent space.
 
-use crate::{LINE_WORDS, MOST};
+use crate::list::{Line, List, has};
 use std::fmt;
-
-/// The word of an absent component.
-const ABSENT: i32 = i32::MIN;
 
 /// A plan. Its lines stand in the space that was lent, which stays borrowed as long as the plan is used.
 ///
@@ -21,105 +18,24 @@ pub struct Plan<'a> {
     pub count: usize,
     /// The spare triggers, bit 0 for trigger 1.
     pub spares: u8,
-    /// The words of the lines, seven for each.
-    pub(crate) words: &'a [i32],
-}
-
-/// One line of a list. Lines are ordered by component 1, then 2 and so on, absent lowest.
-#[derive(Clone, Copy, Debug, PartialEq, Eq, PartialOrd, Ord, Hash)]
-pub struct Line {
-    triggers: usize,
-    components: [Option<i32>; MOST],
-    spares: u8,
-}
-
-impl Line {
-    fn of(words: &[i32], spares: u8) -> Line {
-        let mut components = [None; MOST];
-        for (component, &word) in components.iter_mut().zip(&words[1..]) {
-            *component = (word != ABSENT).then_some(word);
-        }
-        Line {
-            triggers: words[0] as usize,
-            components,
-            spares,
-        }
-    }
-
-    /// The number of triggers, 1 to 6, spare ones too.
-    pub fn triggers(&self) -> usize {
-        self.triggers
-    }
-
-    /// A component for each trigger, trigger 1 first; an absent one is `None`, and so is that of a spare
-    /// trigger.
-    pub fn components(&self) -> &[Option<i32>] {
-        &self.components[..self.triggers]
-    }
-
-    /// The spare triggers, bit 0 for trigger 1: the same in all lines of a list.
-    pub fn spares(&self) -> u8 {
-        self.spares
-    }
-}
-
-impl fmt::Display for Line {
-    /// The components as the program `plan` writes them, such as `-1,0,-,s`: `-` is an absent one, `s` that
-    /// of a spare trigger.
-    fn fmt(&self, f: &mut fmt::Formatter<'_>) -> fmt::Result {
-        for (j, component) in self.components().iter().enumerate() {
-            let comma = if j == 0 { "" } else { "," };
-            match component {
-                Some(number) => write!(f, "{comma}{number}")?,
-                None if has(self.spares, j) => write!(f, "{comma}s")?,
-                None => write!(f, "{comma}-")?,
-            }
-        }
-        Ok(())
-    }
-}
-
-/// Whether a set has the trigger at a place, from 0.
-fn has(set: u8, place: usize) -> bool {
-    (set >> place) & 1 == 1
-}
-
-/// The lines of a list at the front of a lent space, from their words.
-pub(crate) fn lines<'a>(
-    words: &'a [i32],
-    spares: u8,
-) -> impl ExactSizeIterator<Item = Line> + DoubleEndedIterator + use<'a> {
-    words
-        .chunks_exact(LINE_WORDS)
-        .map(move |line| Line::of(line, spares))
-}
-
-/// The spare triggers of a list, from its words: the triggers that no line has a component for. Every other
-/// trigger has one in some line, since all tightest times are made of the lines.
-pub(crate) fn spares(words: &[i32]) -> u8 {
-    (0..words[0] as usize)
-        .filter(|j| {
-            words
-                .chunks_exact(LINE_WORDS)
-                .all(|line| line[1 + j] == ABSENT)
-        })
-        .fold(0, |set, j| set | (1 << j))
+    pub(crate) list: List<'a>,
 }
 
 impl<'a> Plan<'a> {
     /// The lines, in their order.
     pub fn lines(&self) -> impl ExactSizeIterator<Item = Line> + DoubleEndedIterator + use<'a> {
-        lines(self.words, self.spares)
+        self.list.lines(self.spares)
     }
 
     /// The sheet's number of triggers, spare ones too.
     pub fn triggers(&self) -> usize {
-        self.words[0] as usize
+        self.list.triggers()
     }
 
     /// Adds a weight to each line and takes the largest, component by component. Whatever the weights,
     /// these times are tightest, and all tightest times are made so, but for those of spare triggers: they
-    /// are 0 here, and any other would do.
+    /// are 0 here, and any other would do. On a sheet with a last line they are in time exactly when no
+    /// weight is greater than its line's [cap](Line::cap).
     ///
     /// `None` if there are not as many weights as lines, or if a time has no 64-bit form. [`test`](crate::test)
     /// takes times up to ±1,000,000,000.
@@ -150,6 +66,9 @@ impl fmt::Display for Plan<'_> {
         writeln!(f, "count={}", self.count)?;
         for line in self.lines() {
             writeln!(f, "line={line}")?;
+            if let Some(cap) = line.cap() {
+                writeln!(f, "cap={cap}")?;
+            }
         }
         Ok(())
     }

@@ -11,13 +11,14 @@ pub enum Refusal {
     /// 1: the sheet has more than 2,048 bytes.
     TooLong,
     /// 2: a line is missing, has the wrong key, number of items, numeral or line end, or is a size that
-    /// is absent; or bytes follow the last line. There is a land line for each trigger, or none at all.
+    /// is absent; or bytes follow the sheet's end. There is a land line for each trigger, or none at all,
+    /// and behind these one line `last=` or none.
     Form,
     /// 3: a size is not 1 to 6.
     Size,
     /// 4: an entry is not −100,000 to 100,000.
     Range,
-    /// 5: a due mark is absent.
+    /// 5: a due mark or a last moment is absent.
     NoDue,
     /// 6: a panel has no lag.
     NoLag,
@@ -27,8 +28,11 @@ pub enum Refusal {
     Order,
     /// 9: the list has more lines than the lent space holds.
     Space {
-        /// The lines of the list; each takes [`LINE_WORDS`](crate::LINE_WORDS) words.
+        /// The lines of the list.
         count: usize,
+        /// The words to lend for them: [`LINE_WORDS`](crate::LINE_WORDS) for each, or
+        /// [`CAPPED_WORDS`](crate::CAPPED_WORDS) on a sheet with a last line.
+        words: usize,
     },
     /// 10: there are not as many times as triggers.
     Components,
@@ -54,8 +58,9 @@ impl Refusal {
         }
     }
 
-    /// The refusal of a number that the library returned, with the count that comes with 9.
-    pub(crate) fn of(number: u32, count: usize) -> Refusal {
+    /// The refusal of a number that the library returned, with what comes with 9: the count, and the words
+    /// that a line takes.
+    pub(crate) fn of(number: u32, count: usize, line_words: usize) -> Refusal {
         match number {
             1 => Refusal::TooLong,
             2 => Refusal::Form,
@@ -65,7 +70,10 @@ impl Refusal {
             6 => Refusal::NoLag,
             7 => Refusal::NoFloor,
             8 => Refusal::Order,
-            9 => Refusal::Space { count },
+            9 => Refusal::Space {
+                count,
+                words: line_words * count,
+            },
             10 => Refusal::Components,
             11 => Refusal::Time,
             _ => unreachable!("the contracts of the library have no refusal {number}"),
@@ -77,21 +85,24 @@ impl fmt::Display for Refusal {
     fn fmt(&self, f: &mut fmt::Formatter<'_>) -> fmt::Result {
         let sentence = match self {
             Refusal::TooLong => {
-                "the sheet has more than 2,048 bytes; no good sheet has more than 1,080: \
-                 look for text behind its last line"
+                "the sheet has more than 2,048 bytes; no good sheet has more than 1,133: \
+                 look for text behind its end"
             }
             Refusal::Form => {
-                "a line is missing or ill-formed, or bytes follow the last line; the lines are panels=, \
+                "a line is missing or ill-formed, or bytes follow the sheet's end; the lines are panels=, \
                  triggers=, lag= for each panel, floor=, due=, after= for each trigger, then land= for \
-                 each trigger or none: look at their order, their keys, their numbers of items, numerals \
-                 such as 05, -0 or +5, blanks, and the line end of each"
+                 each trigger or none, then one last= or none: look at their order, their keys, their \
+                 numbers of items, numerals such as 05, -0 or +5, blanks, and the line end of each"
             }
             Refusal::Size => "the number of panels or of triggers is not 1 to 6",
             Refusal::Range => {
-                "an entry is below -100,000 or above 100,000; look at the lag=, floor=, due=, after= and \
-                 land= lines"
+                "an entry is below -100,000 or above 100,000; look at the lag=, floor=, due=, after=, \
+                 land= and last= lines"
             }
-            Refusal::NoDue => "a due mark is absent; each trigger needs one",
+            Refusal::NoDue => {
+                "a due mark or a last moment is absent; the due= line needs a number for each trigger, a \
+                 last= line one for each panel"
+            }
             Refusal::NoLag => {
                 "a panel has no lag: no trigger reaches it; look for a lag line of minus signs alone"
             }
@@ -100,11 +111,10 @@ impl fmt::Display for Refusal {
                 "no times keep the order: rules of the after= and land= lines, these with the lags of \
                  their panels, form a circle that adds up to more than 0"
             }
-            Refusal::Space { count } => {
+            Refusal::Space { count, words } => {
                 return write!(
                     f,
-                    "the list has {count} lines, more than the lent space holds; \
-                     lend seven words for each"
+                    "the list has {count} lines, more than the lent space holds; lend {words} words"
                 );
             }
             Refusal::Components => "there are not as many times as the sheet has triggers",

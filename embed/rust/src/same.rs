@@ -1,6 +1,6 @@
 //! What comparing two sheets gives: which of three they are, and the lists in the lent spaces.
 
-use crate::plan::{Line, lines, spares};
+use crate::list::{Line, List};
 use crate::refusal::Refusal;
 use std::error::Error;
 use std::fmt;
@@ -8,7 +8,7 @@ use std::fmt;
 /// So much more is the number of a refusal of the second sheet.
 const SECOND: u32 = 200;
 
-/// How the tightest timings of two sheets stand to one another.
+/// How the tightest timings of two sheets stand to one another, last moments left out.
 #[derive(Clone, Copy, Debug, PartialEq, Eq, Hash)]
 pub enum Likeness {
     /// Every timing is tightest on both sheets or on neither.
@@ -26,9 +26,8 @@ pub enum Likeness {
 pub struct Compared<'a> {
     /// How they stand to one another.
     pub likeness: Likeness,
-    /// The words of the first sheet's lines, seven for each, and of the second's.
-    pub(crate) left: &'a [i32],
-    pub(crate) right: &'a [i32],
+    pub(crate) left: List<'a>,
+    pub(crate) right: List<'a>,
 }
 
 impl<'a> Compared<'a> {
@@ -41,14 +40,14 @@ impl<'a> Compared<'a> {
     pub fn first_lines(
         &self,
     ) -> impl ExactSizeIterator<Item = Line> + DoubleEndedIterator + use<'a> {
-        lines(self.left, spares(self.left))
+        self.left.lines(self.left.spares())
     }
 
     /// The lines of the second sheet, in their order.
     pub fn second_lines(
         &self,
     ) -> impl ExactSizeIterator<Item = Line> + DoubleEndedIterator + use<'a> {
-        lines(self.right, spares(self.right))
+        self.right.lines(self.right.spares())
     }
 }
 
@@ -71,12 +70,13 @@ impl SheetRefusal {
         }
     }
 
-    /// The refusal of a number that the library returned, with the counts that come with 9 and 209.
-    pub(crate) fn of(number: u32, [first, second]: [usize; 2]) -> SheetRefusal {
+    /// The refusal of a number that the library returned, with the counts that come with 9 and 209 and the
+    /// words that a line of each sheet takes.
+    pub(crate) fn of(number: u32, counts: [usize; 2], line_words: [usize; 2]) -> SheetRefusal {
         if number > SECOND {
-            SheetRefusal::Second(Refusal::of(number - SECOND, second))
+            SheetRefusal::Second(Refusal::of(number - SECOND, counts[1], line_words[1]))
         } else {
-            SheetRefusal::First(Refusal::of(number, first))
+            SheetRefusal::First(Refusal::of(number, counts[0], line_words[0]))
         }
     }
 }

@@ -9,6 +9,11 @@ const AFTER: &[u8] = b"panels=1\ntriggers=2\nlag=0,0\nfloor=0\ndue=0,0\nafter=-,
 const CIRCLE: &[u8] = b"panels=1\ntriggers=1\nlag=5\nfloor=0\ndue=0\nafter=1\n";
 const UNTOUCHED: i32 = 7777;
 const LIMIT: i64 = 1_000_000_000;
+/// The whole case has two lines.
+const TOO_SMALL: Refusal = Refusal::Space {
+    count: 2,
+    words: 14,
+};
 
 fn times(sheet: &[u8], given: &[i64]) -> Vec<i64> {
     let mut space = [0; 100];
@@ -60,7 +65,7 @@ fn the_lines_are_those_of_the_plan() {
         let mut space = vec![UNTOUCHED; length];
         let found = latest(WHOLE, &[0, 2], &mut space);
         let written = if length < 14 {
-            assert_eq!(found, Err(Refusal::Space { count: 2 }));
+            assert_eq!(found, Err(TOO_SMALL));
             0
         } else {
             let found = found.unwrap();
@@ -91,5 +96,5 @@ fn every_refusal_in_its_order() {
     check(WHOLE, &[0, i64::MIN], 30, Refusal::Time);
     check(CIRCLE, &[-LIMIT - 1], 30, Refusal::Time);
     check(CIRCLE, &[0], 0, Refusal::Order);
-    check(WHOLE, &[0, 0], 13, Refusal::Space { count: 2 });
+    check(WHOLE, &[0, 0], 13, TOO_SMALL);
 }

@@ -6,6 +6,11 @@ use tuzhelar::{kept, latest, plan, same, test};
 const WHOLE: &[u8] =
     b"panels=2\ntriggers=2\nlag=2,0\nlag=4,1\nfloor=5,2\ndue=1,2\nafter=-,-\nafter=-,-\n";
 const UNTOUCHED: i32 = 7777;
+/// The whole case has two lines.
+const TOO_SMALL: Refusal = Refusal::Space {
+    count: 2,
+    words: 14,
+};
 
 /// The whole case with another line in the place of one.
 fn changed(old: &str, new: &str) -> Vec<u8> {
@@ -64,7 +69,7 @@ fn every_refusal() {
     assert_eq!(refusal(&changed("lag=4,1", "lag=-,-")), 6);
     assert_eq!(refusal(&changed("floor=5,2", "floor=-,-")), 7);
     assert_eq!(refusal(&changed("after=-,-", "after=1,-")), 8);
-    assert_eq!(plan(WHOLE, &mut [0; 13]), Err(Refusal::Space { count: 2 }));
+    assert_eq!(plan(WHOLE, &mut [0; 13]), Err(TOO_SMALL));
     assert_eq!(test(WHOLE, &[0]), Err(Refusal::Components));
     assert_eq!(test(WHOLE, &[0, 1_000_000_001]), Err(Refusal::Time));
     assert_eq!(test(WHOLE, &[0, i64::MIN]), Err(Refusal::Time));
@@ -79,7 +84,7 @@ fn a_space_of_any_length() {
         let mut space = vec![UNTOUCHED; length];
         let planned = plan(WHOLE, &mut space).map(|planned| planned.to_string());
         let written = if length < 14 {
-            assert_eq!(planned, Err(Refusal::Space { count: 2 }));
+            assert_eq!(planned, Err(TOO_SMALL));
             0
         } else {
             assert_eq!(planned, Ok(text(WHOLE)));
@@ -211,20 +216,14 @@ fn two_sheets_refused() {
     };
     let (first, second) = (SheetRefusal::First, SheetRefusal::Second);
     let circle = &one("1")[..];
-    let count = 2;
     check([b"", b""], [0, 0], first(Refusal::Form), 2);
     check([b"", circle], [30, 30], first(Refusal::Form), 2);
     check([circle, b""], [30, 30], first(Refusal::Order), 8);
-    check([WHOLE, b""], [13, 30], first(Refusal::Space { count }), 9);
-    check([WHOLE, WHOLE], [13, 13], first(Refusal::Space { count }), 9);
+    check([WHOLE, b""], [13, 30], first(TOO_SMALL), 9);
+    check([WHOLE, WHOLE], [13, 13], first(TOO_SMALL), 9);
     check([WHOLE, b""], [14, 30], second(Refusal::Form), 202);
     check([WHOLE, circle], [30, 0], second(Refusal::Order), 208);
-    check(
-        [WHOLE, WHOLE],
-        [14, 13],
-        second(Refusal::Space { count }),
-        209,
-    );
+    check([WHOLE, WHOLE], [14, 13], second(TOO_SMALL), 209);
 }
 
 #[test]
@@ -235,7 +234,7 @@ fn lines_and_times() {
     let lines: Vec<_> = planned.lines().collect();
     assert_eq!(lines[0].components(), [Some(-1), Some(0)]);
     assert_eq!(lines[1].components(), [Some(0), None]);
-    assert_eq!(lines[1].triggers(), 2);
+    assert_eq!((lines[1].triggers(), lines[1].cap()), (2, None));
     assert!(lines.is_sorted());
     assert_eq!(planned.lines().len(), 2);
 
@@ -253,7 +252,6 @@ fn lines_and_times() {
 
 #[test]
 fn refusals_have_their_sentences() {
-    let count = 5;
     let all = [
         Refusal::TooLong,
         Refusal::Form,
@@ -263,7 +261,7 @@ fn refusals_have_their_sentences() {
         Refusal::NoLag,
         Refusal::NoFloor,
         Refusal::Order,
-        Refusal::Space { count },
+        TOO_SMALL,
         Refusal::Components,
         Refusal::Time,
     ];
@@ -271,5 +269,6 @@ fn refusals_have_their_sentences() {
         assert_eq!(refusal.number(), number);
         assert!(!refusal.to_string().is_empty());
     }
-    assert!(Refusal::Space { count }.to_string().contains("5 lines"));
+    assert!(TOO_SMALL.to_string().contains("2 lines"));
+    assert!(TOO_SMALL.to_string().contains("14 words"));
 }

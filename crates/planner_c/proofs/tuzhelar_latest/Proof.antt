@@ -18,7 +18,7 @@ latest-timing-requires c κs = search needs
 write-reached-requires : tie.Need-write-reached-requires
 write-reached-requires c κs =
     let t : tie.After-latest-timing = search in
-    subst (λ (r : Reached). r .count ≤ most-lines) (sym (t .latest-timing .ensures .0)) (reach-few _ _ _ _)
+    subst (λ (r : Reached). (r .count ≤ most-lines) × (r .width ≤ most-lines)) (sym (t .latest-timing .ensures .0)) (reach-few _ _ _ _)
 
 cast-result : tie.Need-cast-result
 cast-result c = search needs

@@ -4,7 +4,7 @@ use Prim.Native.Nat.{_≤_}
 use Rattle.planning.specs.declared.CuePlan.{CuePlan}
 use Rattle.planner_c.specs.Words.{plan-words}
 use Rattle.cue.specs.Sizes.{most-lines}
-use Rattle.planner_c.proofs.Few.{count-few}
+use Rattle.planner_c.proofs.Few.{plan-few}
 use borrow.Author.Needs.{needs}
 use Rattle.planner_c.proofs.tuzhelar_plan.Statement.{statement}
 use Rattle.planner_c.proofs.tuzhelar_plan.Tie as tie
@@ -13,7 +13,8 @@ plan-requires : tie.Need-plan-requires
 plan-requires c κs = search needs
 
 write-plan-requires : tie.Need-write-plan-requires
-write-plan-requires c κs = subst (λ (r : CuePlan). r .count ≤ most-lines) (sym (c .before .before .plan .ensures .0)) (count-few _ _)
+write-plan-requires c κs =
+    subst (λ (r : CuePlan). (r .count ≤ most-lines) × (r .width ≤ most-lines)) (sym (c .before .before .plan .ensures .0)) (plan-few _ _)
 
 cast-result : tie.Need-cast-result
 cast-result c = search needs

@@ -11,7 +11,7 @@ use Rattle.sheet.specs.Sheet as spec
 use Rattle.sheet.proofs.Spares.{unused-byte}
 use Rattle.preparing.specs.Prepared.{Made}
 use Rattle.walk.proofs.Follows.{counts-follow}
-use Rattle.lines.specs.Listing.{Answers}
+use Rattle.lines.specs.Listing.{Lists}
 use Rattle.sheet.specs.Ordered.{ordered}
 use Rattle.planning.proofs.PlanLaws.{does-refused, does-lines, does-full}
 use Rattle.planning.proofs.plan.Statement.{statement}
@@ -62,10 +62,14 @@ number-requires c κs =
     let k : tie.Else1 = search in
     let (s, x, e, Q) = found k in Q .marked .word
 
+width-requires : tie.Need-width-requires
+width-requires c κs = search needs
+
 list-sheet-requires : tie.Need-list-sheet-requires
 list-sheet-requires c κs =
+    let w : tie.After-width = search in
     let k : tie.Else1 = search in
-    let (s, x, e, Q) = found k in (s, _, _, Q)
+    let (s, x, e, Q) = found k in (s, _, _, Q, w .width .ensures s (Q .moments .given-is))
 
 enum-known-k : tie.Need-enum-known-k
 enum-known-k c = search needs
@@ -83,10 +87,12 @@ returns-2 : tie.Need-returns-2
 returns-2 c =
     let l : tie.After-list-sheet = search in
     let m : tie.After-k = search in
+    let w : tie.After-width = search in
     let t : tie.After-tally = search in
     let k : tie.Else1 = search in
     let (s, x, q, Q) = found k in
-    let d = does-full _ _ s x q _ _ (c .no-room .ensures) (subst (Answers _ _ _ _) (m .k .given .1) (l .list-sheet .ensures s _ _ Q)) in
+    let e = w .width .ensures s (Q .moments .given-is) in
+    let d = does-full _ _ s x q _ _ (c .no-room .ensures) e (subst (Lists s _ _) (m .k .given .1) (l .list-sheet .ensures s _ _ Q e)) in
     (d .answer, d .written)
 
 same-length-2 : tie.Need-same-length-2
@@ -95,15 +101,17 @@ same-length-2 c = search needs
 returns-3 : tie.Need-returns-3
 returns-3 c =
     let l : tie.After-list-sheet = search in
+    let w : tie.After-width = search in
     let v : tie.After-number = search in
     let t : tie.After-tally = search in
     let k : tie.Else1 = search in
     let (s, x, q, Q) = found k in
     let m : tie.After-k2 = search in
     let z : toZ w64 (ofZ w64 (v .number .result)) ≡ v .number .result = toZ-ofZ (record { sfits = v .number .ok }) in
-    let d = does-lines _ _ s x q _ _ _ _ _ _ (Q .placed .triggers-are) (Q .placed .spares-are ∙ unused-byte s)
-    (z ∙ num-inj (sym (v .number .ensures) ∙ Q .marked .deviation)) (t .tally .ensures ∙ counts-follow (Q .marked .follows))
-    (subst (Answers _ _ _ _) (m .k2 .given .1) (l .list-sheet .ensures s _ _ Q)) in
+    let f = w .width .ensures s (Q .moments .given-is) in
+    let d = does-lines _ _ s x q _ _ _ _ _ _ _ (Q .placed .triggers-are) (Q .placed .spares-are ∙ unused-byte s)
+    (z ∙ num-inj (sym (v .number .ensures) ∙ Q .marked .deviation)) (t .tally .ensures ∙ counts-follow (Q .marked .follows)) f
+    (subst (Lists s _ _) (m .k2 .given .1) (l .list-sheet .ensures s _ _ Q f)) in
     (d .answer, d .written)
 
 pub plan-spec : {M : Type 1} → statement M
@@ -116,6 +124,7 @@ plan-spec =
     returns
     tally-requires
     number-requires
+    width-requires
     list-sheet-requires
     enum-known-k
     no-room-requires

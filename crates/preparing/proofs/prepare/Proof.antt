@@ -67,8 +67,16 @@ marks-of-requires c κs =
     let T = q .closed-tables .ensures (cue-of t) (k .cue-of .ensures t W .held) in
     (cue-of t, _, _, T .fit (says-yes (q .closed-tables .result) (i .if2 .left) (T .order)))
 
+moments-of-requires : tie.Need-moments-of-requires
+moments-of-requires c κs =
+    let g : tie.Else1 = search in
+    let b : tie.Start = search in
+    let (s, e) = b .pre in
+    let (t, x, r, W) = reading-good _ _ e (g .if1 .left) in (t, W)
+
 returns-3 : tie.Need-returns-3
 returns-3 c s e =
+    let m : tie.After-marks-of = search in
     let i : tie.Else2 = search in
     let q : tie.After-closed-tables = search in
     let k : tie.After-cue-of = search in
@@ -77,8 +85,10 @@ returns-3 c s e =
     let F = k .cue-of .ensures t W in
     let T = q .closed-tables .ensures (cue-of t) (F .held) in
     let np = says-yes (q .closed-tables .result) (i .if2 .left) (T .order) in
-    readied t x (ordered-got _ t x r (kept-by-size t (F .sized) np)) F np (c .marks-of .ensures (cue-of t) _ _ (T .fit np))
+    readied t x (ordered-got _ t x r (kept-by-size t (F .sized) np)) F np (m .marks-of .ensures (cue-of t) _ _ (T .fit np))
+    (c .moments-of .ensures t W) (W .good)
 
 pub prepare-spec : {M : Type 1} → statement M
 prepare-spec = tie.close
-    (tie.spec not-prepared-requires returns cue-of-requires closed-tables-requires not-prepared-requires-2 returns-2 marks-of-requires returns-3)
+    (tie.spec not-prepared-requires returns cue-of-requires closed-tables-requires not-prepared-requires-2 returns-2 marks-of-requires moments-of-requires
+    returns-3)

@@ -31,12 +31,16 @@ array-copy-out-floors c = search needs
 array-copy-out-dues : tie.Need-array-copy-out-dues
 array-copy-out-dues c = search needs
 
+last-of-requires : tie.Need-last-of-requires
+last-of-requires c κs = search needs
+
 returns : tie.Need-returns
-returns c = λ s x ts land e S L.
+returns c = λ ts land lasts K.
     let lag : tie.After-table = search in
     let after : tie.After-table2 = search in
     let lands : tie.After-table3 = search in
-    rw (lag .table .ensures, after .table2 .ensures, lands .table3 .ensures) (sheet-words S _ _ s x e L)
+    let last : tie.After-last-of = search in
+    rw (lag .table .ensures, after .table2 .ensures, lands .table3 .ensures, last .last-of .ensures) (sheet-words (K .tables-are) K)
 
 pub good-spec : {M : Type 1} → statement M
 good-spec =
@@ -51,4 +55,5 @@ good-spec =
     table-requires-3
     array-copy-out-floors
     array-copy-out-dues
+    last-of-requires
     returns)

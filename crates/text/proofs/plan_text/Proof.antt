@@ -52,7 +52,7 @@ returns c =
     let first = put-as (ap (λ z. field (bytes "deviation=") (numeral z)) (toZ-ofZ (s .fits .deviation))) (d .number-field .ensures .0) in
     let fields = then (then (then first (k .natural-field .ensures .0)) (l .natural-field2 .ensures .0)) (n .natural-field3 .ensures .0) in
     let p = then fields (t .put-lines .ensures) in
-    (p .within, (λ L stands. p .text ∙ plan-back (s .pre .1) stands _ _ _ _))
+    (p .within, (λ caps L e stands. p .text ∙ plan-back (s .pre .1) _ _ _ _ caps L e stands))
 
 pub plan-text-spec : {M : Type 1} → statement M
 plan-text-spec =

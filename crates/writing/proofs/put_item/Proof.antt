@@ -1,14 +1,11 @@
 -- `writing::put_item` meets its contract. Assumes nothing.
 use mathlib.Core.Path.{sym, ap, _∙_}
 use borrow.Author.Needs.{needs}
-use mir.Syntax.{w64}
-use mir.Val.{toZ, ofZ}
-use mir.Facts.{sfits-widen, toZ-ofZ}
 use Rattle.sheet.specs.Text.{bytes}
 use Rattle.writing.specs.Numerals.{numeral, item}
 use Rattle.writing.proofs.PutLaws.{put-as, put-short}
 use Rattle.cue.proofs.StandingLaws.{of-signed-absent, of-signed-number}
-use Rattle.writing.proofs.SignedLaws.{item-32}
+use Rattle.writing.proofs.SignedLaws.{item-32, wider-fits, wider-back}
 use Rattle.writing.proofs.put_item.Statement.{statement}
 use Rattle.writing.proofs.put_item.Tie as tie
 
@@ -28,7 +25,7 @@ returns c =
     put-short (item-32 _ f) (put-as (ap item (sym (of-signed-absent _ f (k .if1 .taken)))) (at-put-byte .put-byte .ensures))
 
 cast-put-number : tie.Need-cast-put-number
-cast-put-number c = let f = c .before .before .before .fits .w in rw (toZ-ofZ f) (sfits-widen tt f)
+cast-put-number c = wider-fits (c .before .before .before .fits .w)
 
 put-number-requires : tie.Need-put-number-requires
 put-number-requires c κs = search needs
@@ -43,8 +40,7 @@ returns-2 c =
     let start : tie.Start = search in
     let f = start .fits .w in
     let e = of-signed-number _ f (k .if1 .left) in
-    let back = ap (λ z. toZ w64 (ofZ w64 z)) (toZ-ofZ f) ∙ toZ-ofZ (sfits-widen {w′ = w64} tt f) in
-    put-short (item-32 _ f) (put-as (ap numeral back ∙ sym (ap item e)) (at-put-number .put-number .ensures .0))
+    put-short (item-32 _ f) (put-as (ap numeral (wider-back f) ∙ sym (ap item e)) (at-put-number .put-number .ensures .0))
 
 pub put-item-spec : {M : Type 1} → statement M
 put-item-spec =

@@ -2,7 +2,7 @@
 use mathlib.Core.Path.{_≡_}
 use mir.Syntax.{w64}
 use mir.Val.{toZ, ofZ}
-use Rattle.planner_c.proofs.Storing.{back, planned-words, full-words, no-words}
+use Rattle.planner_c.proofs.Storing.{back, planned-words, full-words}
 use borrow.Author.Needs.{needs}
 use Rattle.planner_c.proofs.answers.write_plan.Statement.{statement}
 use Rattle.planner_c.proofs.answers.write_plan.Tie as tie
@@ -38,14 +38,22 @@ byte-word-requires c κs = search needs
 put-requires-5 : tie.Need-put-requires-5
 put-requires-5 c κs = search needs
 
+count-word-requires-2 : tie.Need-count-word-requires-2
+count-word-requires-2 c κs = search needs
+
 put-requires-6 : tie.Need-put-requires-6
 put-requires-6 c κs = search needs
+
+put-room-requires : tie.Need-put-room-requires
+put-room-requires c κs = search needs
 
 same-length : tie.Need-same-length
 same-length c = search needs
 
 returns : tie.Need-returns
 returns c =
+    let sixth : tie.After-put6 = search in
+    let wide : tie.After-count-word2 = search in
     let fifth : tie.After-put5 = search in
     let spares : tie.After-byte-word = search in
     let fourth : tie.After-put4 = search in
@@ -61,20 +69,16 @@ returns c =
     (second .put2 .ensures) (back (selections .word2 .ok) (selections .word2 .ensures)) (third .put3 .ensures)
     (back (lines .count-word .ok) (lines .count-word .ensures)) (fourth .put4 .ensures)
     (back (spares .byte-word .ok) (spares .byte-word .ensures)) (fifth .put5 .ensures)
+    (back (wide .count-word2 .ok) (wide .count-word2 .ensures)) (sixth .put6 .ensures)
 
 same-length-2 : tie.Need-same-length-2
 same-length-2 c = search needs
 
 returns-2 : tie.Need-returns-2
 returns-2 c =
-    let fourth : tie.After-put6 = search in
-    let then2 : tie.Then2 = search in
+    let room : tie.After-put-room = search in
     let else1 : tie.Else1 = search in
-    let lines : tie.After-count-word = search in
-    full-words _ _ (else1 .if1 .left) (then2 .if2 .taken) (back (lines .count-word .ok) (lines .count-word .ensures)) (fourth .put6 .ensures)
-
-returns-3 : tie.Need-returns-3
-returns-3 c = no-words _ _ (c .before .before .if1 .left) (c .if2 .left)
+    full-words _ _ (else1 .if1 .left) (room .put-room .ensures)
 
 pub write-plan-spec : {M : Type 1} → statement M
 write-plan-spec =
@@ -89,9 +93,10 @@ write-plan-spec =
     put-requires-4
     byte-word-requires
     put-requires-5
+    count-word-requires-2
     put-requires-6
+    put-room-requires
     same-length
     returns
     same-length-2
-    returns-2
-    returns-3)
+    returns-2)

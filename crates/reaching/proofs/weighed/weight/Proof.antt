@@ -1,21 +1,17 @@
 -- `reaching::weighed::weight` meets its contract. Assumes nothing.
-use mathlib.Core.Path.{_≡_, ap₂, _∙_}
-use Prim.Native.Nat.{ℕ, _+_}
+use mathlib.Core.Path.{ap₂, _∙_}
+use Prim.Native.Nat.{_+_}
 use native.Mathlib.Omega.{arith}
-use lib.IntN.{pos}
-use Rattle.maxplus.specs.Entry.{num, _⊗_, inv, unit}
+use Rattle.maxplus.specs.Entry.{_⊗_, inv}
 use Rattle.maxplus.proofs.EntryLaws.{⊗-unit}
 use Rattle.sheet.specs.Times.{far-limit}
-use Rattle.words.specs.Words.{word, entry, signed-far, Close}
-use Rattle.words.proofs.Laws.{close-more, close-minus, number-word}
+use Rattle.words.specs.Words.{signed-far, Close}
+use Rattle.words.proofs.Laws.{close-more, close-minus}
 use Rattle.tables.proofs.SquareLaws.{closely-moreV}
 use Rattle.tables.proofs.LargestLaws.{close-overdue}
+use Rattle.moments.proofs.MomentLaws.{zero-is}
 use Rattle.reaching.proofs.weighed.weight.Statement.{statement}
 use Rattle.reaching.proofs.weighed.weight.Tie as tie
-
--- the word of 0
-zero-is : {v : ℕ} → v ≡ word (num (pos 0)) → (entry v ≡ unit) × Close 0 v
-zero-is {v} e = number-word 0 (pos 0) v (omega arith) (omega arith) (omega arith) e
 
 overdue-requires : tie.Need-overdue-requires
 overdue-requires c κs = let p = c .pre in (p .0, closely-moreV (omega arith) (p .1), closely-moreV (omega arith) (p .2))

@@ -2,8 +2,7 @@
 use native.Mathlib.Omega.{arith}
 use borrow.Author.Needs.{needs}
 use Rattle.sheet.specs.Text.{bytes}
-use Rattle.writing.proofs.PutLaws.{then, put-as}
-use Rattle.writing.proofs.TextLaws.{line-text}
+use Rattle.writing.proofs.PutLaws.{then}
 use Rattle.text.proofs.lines.put_line.Statement.{statement}
 use Rattle.text.proofs.lines.put_line.Tie as tie
 
@@ -31,7 +30,7 @@ returns c =
     let key = at-put-bytes .put-bytes .ensures in
     let i = k .put-items .ensures in
     let end = at-put-byte .put-byte .ensures in
-    (put-as (line-text _ _ _) (then (then key (i .0)) end), omega (arith, key .end, i .1, end .end))
+    (then (then key (i .0)) end, omega (arith, key .end, i .1, end .end))
 
 pub put-line-spec : {M : Type 1} → statement M
 put-line-spec =

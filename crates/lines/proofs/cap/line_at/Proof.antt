@@ -1,31 +1,23 @@
--- `reaching::weighed::line_at` meets its contract: the entries of the first `j` components are written. Assumes nothing.
-use mathlib.Core.Path.{_≡_, ap, sym, _∙_}
-use Prim.Native.Nat.{_-_, _≤_, _<_}
+-- `lines::cap::line_at` meets its contract: the entries of the first `j` components are written. Assumes nothing.
+use mathlib.Core.Path.{ap, sym, _∙_}
+use Prim.Native.Nat.{_-_, _≤_}
 use native.Mathlib.Omega.{arith}
 use borrow.Author.Needs.{needs}
-use lib.IntN.{ℤ}
-use lib.Signed.{mag}
-use mir.Syntax.{w32}
-use mir.Val.{toZ, ofZ}
-use mir.Facts.{toZ-ofZ}
 use Rattle.maxplus.specs.Line.{at}
 use Rattle.maxplus.proofs.LineLaws.{at-line}
 use Rattle.cue.specs.Standing.{of-signed, line-at}
 use Rattle.words.specs.Words.{signed-far}
 use Rattle.tables.specs.Lines.{WordsOf}
 use Rattle.tables.proofs.LineLaws.{written-none, written-more, written-all}
-use Rattle.reaching.proofs.weighed.line_at.Statement.{statement}
-use Rattle.reaching.proofs.weighed.line_at.Tie as tie
+use Rattle.lines.proofs.LayLaws.{read-back}
+use Rattle.lines.proofs.cap.line_at.Statement.{statement}
+use Rattle.lines.proofs.cap.line_at.Tie as tie
 
 abbrev Inv-loop : tie.InvT-loop
 Inv-loop space from n r₀ j₀ r j = (j ≤ n) × WordsOf j signed-far (at n (line-at n space from)) r
 
 abbrev μ-loop : tie.MeasureT-loop
 μ-loop space from n r₀ j₀ r j = n - j
-
--- a word is read out of its bits as it stands
-read-back : {z : ℤ} → mag z < 0x8000_0000 → toZ w32 (ofZ w32 z) ≡ z
-read-back h = toZ-ofZ {w = w32} (record { sfits = h })
 
 loop-holds : tie.Need-loop-holds Inv-loop μ-loop
 loop-holds c = (omega arith, written-none _ _)

@@ -1,0 +1,2 @@
+-- Laws of last moments in words.
+pub mod MomentLaws

@@ -1,0 +1,2 @@
+-- What the words of last moments are.
+pub mod Moments
