@@ -34,7 +34,7 @@ extern "C" {
 #define TUZHELAR_PLAN_WORDS 6     /* words of planning's answer */
 #define TUZHELAR_KEPT_WORDS 16    /* words of the kept table's answer */
 #define TUZHELAR_LATEST_WORDS 8   /* words of the latest times' answer */
-#define TUZHELAR_SAME_WORDS 2     /* words of comparing's answer */
+#define TUZHELAR_SAME_WORDS 4     /* words of comparing's answer */
 #define TUZHELAR_LAST_TIME 1000000000 /* a time beyond this, or below minus this, is refused, 11 */
 
 /* What the functions return: 0 for done, a refusal 1 to 11, for a tested timing yes or no, for two sheets one of three. */
@@ -153,12 +153,13 @@ uint32_t tuzhelar_latest(const uint8_t *sheet, size_t sheet_length, const int64_
  *   102          the sheets have different numbers of triggers, or not the same ones are spare. Of timings this says nothing.
  *                For these three each list stands at the front of its space, as tuzhelar_plan writes it, and the rest of the space
  *                is as it was: the first sheet's in `left`, the second's in `right`. answer[0] and answer[1] are their numbers of
- *                lines.
- *   1 to 9       planning refuses the first sheet; for 9 answer[0] is the count needed.
- *   201 to 209   planning refuses the second, with a number 200 less, and not the first; for 209 answer[1] is the count needed.
+ *                lines, answer[2] and answer[3] how many words each of these lines takes, seven or eight.
+ *   1 to 9       planning refuses the first sheet; for 9 answer[0] is the count needed, answer[2] how many words each line takes.
+ *   201 to 209   planning refuses the second, with a number 200 less, and not the first; for 209 answer[1] is the count needed,
+ *                answer[3] how many words each line takes.
  *                A refusal of either changes no word of either space, and writes no other word of the answer.
  *
- * A word of the answer that is at or past `answer_length` is dropped, and words past the second stay as they were.
+ * A word of the answer that is at or past `answer_length` is dropped, and words past the fourth stay as they were.
  */
 uint32_t tuzhelar_same(const uint8_t *first, size_t first_length, const uint8_t *second, size_t second_length, int32_t *left,
                        size_t left_length, int32_t *right, size_t right_length, int64_t *answer, size_t answer_length);
@@ -223,18 +224,6 @@ static inline size_t tuzhelar_copied(uint8_t copy[TUZHELAR_SHEET_BYTES + 1], con
     }
     memcpy(copy, sheet, sheet_length);
     return sheet_length;
-}
-
-/* Words that each line of a sheet takes: no other line of a good sheet has the bytes `last=`. For any other sheet it says nothing. */
-static inline size_t tuzhelar_line_words(const uint8_t *sheet, size_t sheet_length)
-{
-    size_t i;
-    for (i = 0; i + 5 <= sheet_length; i++) {
-        if (memcmp(sheet + i, "last=", 5) == 0) {
-            return TUZHELAR_CAPPED_WORDS;
-        }
-    }
-    return TUZHELAR_LINE_WORDS;
 }
 
 /* Planning: the list at the front of `space`, as tuzhelar_plan writes it. */
@@ -329,7 +318,7 @@ static inline struct tuzhelar_compared tuzhelar_same_timings(const void *first, 
     uint8_t copy[TUZHELAR_SHEET_BYTES + 1], other[TUZHELAR_SHEET_BYTES + 1];
     size_t length = tuzhelar_copied(copy, first, first_length), other_length = tuzhelar_copied(other, second, second_length);
     int32_t no_left = 0, no_right = 0;
-    int64_t answer[TUZHELAR_SAME_WORDS] = {0, 0};
+    int64_t answer[TUZHELAR_SAME_WORDS] = {0, 0, 0, 0};
     struct tuzhelar_compared compared;
     if (left == NULL) {
         left = &no_left;
@@ -343,8 +332,8 @@ static inline struct tuzhelar_compared tuzhelar_same_timings(const void *first, 
                                     TUZHELAR_SAME_WORDS);
     compared.first = (size_t)answer[0];
     compared.second = (size_t)answer[1];
-    compared.first_words = compared.first == 0 ? 0 : tuzhelar_line_words(copy, length);
-    compared.second_words = compared.second == 0 ? 0 : tuzhelar_line_words(other, other_length);
+    compared.first_words = (size_t)answer[2];
+    compared.second_words = (size_t)answer[3];
     return compared;
 }
 

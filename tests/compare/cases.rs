@@ -454,7 +454,7 @@ fn same_cases(checks: &mut Checks) {
         let [first, second] = sheets.map(str::as_bytes);
         let answer = reference::same(first, second, &mut left, &mut right);
         checks.check(name, answer == wanted);
-        let counts = wanted.map_or([0, 0], |(_, counts)| counts);
+        let counts = wanted.map_or([0, 0], |(_, counts, _)| counts);
         for (space, count) in [left, right].iter().zip(counts) {
             let mut written = space.iter().take_while(|word| **word != 77);
             checks.check(name, written.by_ref().count() == count * LINE_WORDS);
@@ -469,24 +469,21 @@ fn same_cases(checks: &mut Checks) {
     let full = TWO_DO_NOT_FIT;
     let (first, second) = (NotCompared::First, NotCompared::Second);
     let refused = NoPlan::Refused;
-    check("same", [WHOLE, WHOLE], enough, Ok((Likeness::Same, [2, 2])));
-    check(
-        "panels exchanged",
-        [WHOLE, &exchanged],
-        enough,
-        Ok((Likeness::Same, [2, 2])),
-    );
+    let is = |likeness, counts| Ok((likeness, counts, [LINE_WORDS; 2]));
+    let same = is(Likeness::Same, [2, 2]);
+    check("same", [WHOLE, WHOLE], enough, same);
+    check("panels exchanged", [WHOLE, &exchanged], enough, same);
     check(
         "a later due mark",
         [WHOLE, &later],
         enough,
-        Ok((Likeness::Different, [2, 2])),
+        is(Likeness::Different, [2, 2]),
     );
     check(
         "other triggers",
         [WHOLE, &one],
         enough,
-        Ok((Likeness::Unlike, [2, 1])),
+        is(Likeness::Unlike, [2, 1]),
     );
     check("8 before 2", [&circle, ""], enough, Err(first(refused(8))));
     check("2 before 8", ["", &circle], enough, Err(first(refused(2))));

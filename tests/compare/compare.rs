@@ -130,10 +130,11 @@ pub fn latest_answer(answer: &Result<Reached, NoPlan>) -> LatestAnswer {
 }
 
 pub fn same_answer(answer: &Result<Compared, NotCompared>) -> SameAnswer {
-    let mut words = [UNTOUCHED; 4];
+    let mut words = [UNTOUCHED; 6];
     let (code, at, refused) = match answer {
-        Ok((likeness, counts)) => {
+        Ok((likeness, counts, line_words)) => {
             words[..2].copy_from_slice(&counts.map(|count| count as i64));
+            words[2..4].copy_from_slice(&line_words.map(|words| words as i64));
             let code = match likeness {
                 Likeness::Same => SAME,
                 Likeness::Different => DIFFERENT,
@@ -144,9 +145,10 @@ pub fn same_answer(answer: &Result<Compared, NotCompared>) -> SameAnswer {
         Err(NotCompared::First(refused)) => (0, 0, refused),
         Err(NotCompared::Second(refused)) => (SECOND, 1, refused),
     };
-    // The word of 9's count alone.
+    // 9's count and the words of a line alone.
     let planned = plan_answer(&Err(*refused));
     words[at] = planned.words[3];
+    words[2 + at] = planned.words[5];
     SameAnswer {
         code: code + planned.code,
         words,

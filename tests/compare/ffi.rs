@@ -96,7 +96,7 @@ pub fn latest(sheet: &[u8], given: &[i64], space: &mut [i32]) -> LatestAnswer {
 }
 
 pub fn same(first: &[u8], second: &[u8], left: &mut [i32], right: &mut [i32]) -> SameAnswer {
-    let mut words = [UNTOUCHED; 4];
+    let mut words = [UNTOUCHED; 6];
     // SAFETY: as in `plan`.
     let code = unsafe {
         tuzhelar_same(

@@ -223,24 +223,18 @@ fn latest_cases(checks: &mut Checks) {
 
 /// A sheet with land lines and another one.
 fn same_cases(checks: &mut Checks) {
-    let mut check = |name: &str, sheets: [&str; 2], wanted| {
+    let mut check = |name: &str, sheets: [&str; 2], likeness, count| {
         let [first, second] = sheets.map(str::as_bytes);
         let compared = reference::same(first, second, &mut [0; 30], &mut [0; 30]);
+        let wanted = (likeness, [count; 2], [LINE_WORDS; 2]);
         checks.check(name, compared == Ok(wanted));
     };
     let nothing = format!("{WHOLE}land=-,-\nland=-,-\n");
     let written_out = WAITING.replace("after=-,-\nland=-\nland=2\n", "after=5,-\n");
     let less = WAITING.replace("land=2", "land=1");
-    let same = |count| (Likeness::Same, [count, count]);
-    check("land lines that ask nothing", [WHOLE, &nothing], same(2));
-    check(
-        "land rules as after rules",
-        [WAITING, &written_out],
-        same(1),
-    );
-    check(
-        "another land entry",
-        [WAITING, &less],
-        (Likeness::Different, [1, 1]),
-    );
+    let (same, different) = (Likeness::Same, Likeness::Different);
+    check("land lines that ask nothing", [WHOLE, &nothing], same, 2);
+    let as_after = [WAITING, &written_out];
+    check("land rules as after rules", as_after, same, 1);
+    check("another land entry", [WAITING, &less], different, 1);
 }

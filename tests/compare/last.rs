@@ -267,24 +267,22 @@ fn latest_cases(checks: &mut Checks) {
 
 /// "equal timings do not mean equal caps": lists are compared without caps.
 fn same_cases(checks: &mut Checks) {
-    let mut check = |name: &str, sheets: [&str; 2], words: [usize; 2], wanted| {
+    let mut check = |name: &str, sheets: [&str; 2], line_words: [usize; 2], likeness| {
         let [first, second] = sheets.map(str::as_bytes);
-        let [mut left, mut right] = words.map(|words| vec![77; words]);
+        let [mut left, mut right] = line_words.map(|words| vec![77; 2 * words]);
         let compared = reference::same(first, second, &mut left, &mut right);
-        checks.check(name, compared == wanted);
+        checks.check(name, compared == Ok((likeness, [2, 2], line_words)));
     };
     let (one, other) = (whole(), WHOLE.to_string() + "last=-5,0\n");
     let later = WHOLE.replace("due=1,2", "due=1,3") + "last=2,9\n";
-    let (capped, bare) = (2 * CAPPED_WORDS, 2 * LINE_WORDS);
-    let is = |likeness| Ok((likeness, [2, 2]));
-    let same = is(Likeness::Same);
+    let (capped, bare) = (CAPPED_WORDS, LINE_WORDS);
+    let (same, different) = (Likeness::Same, Likeness::Different);
     check("other caps", [&one, &other], [capped, capped], same);
     check("caps and none", [&one, WHOLE], [capped, bare], same);
     check("no caps and some", [WHOLE, &one], [bare, capped], same);
-    let different = is(Likeness::Different);
     check("other lines", [&one, &later], [capped, capped], different);
-    let spaces = [bare, capped];
-    check("no caps, other lines", [WHOLE, &later], spaces, different);
+    let two = [WHOLE, &later];
+    check("no caps, other lines", two, [bare, capped], different);
 }
 
 // ---------------------------------------------------------------- What last lines are like

@@ -641,8 +641,8 @@ pub enum Likeness {
     Unlike,
 }
 
-/// Likeness, and the counts of the two lists.
-pub type Compared = (Likeness, [usize; 2]);
+/// Likeness, the counts of the two lists, and how many words a line of each takes.
+pub type Compared = (Likeness, [usize; 2], [usize; 2]);
 
 /// Planning refuses the first sheet, or the second and not the first.
 #[derive(Clone, Copy, Debug, PartialEq, Eq)]
@@ -672,7 +672,8 @@ pub fn same(
     } else {
         Likeness::Different
     };
-    Ok((likeness, [p.count, q.count]))
+    let line_words = [p.line_words, q.line_words];
+    Ok((likeness, [p.count, q.count], line_words))
 }
 
 /// The first seven words of each line in a space.

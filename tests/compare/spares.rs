@@ -231,7 +231,8 @@ fn same_cases(checks: &mut Checks) {
     let mut check = |name: &str, sheets: [&str; 2], likeness, counts| {
         let [first, second] = sheets.map(str::as_bytes);
         let compared = reference::same(first, second, &mut [0; 30], &mut [0; 30]);
-        checks.check(name, compared == Ok((likeness, counts)));
+        let wanted = (likeness, counts, [LINE_WORDS; 2]);
+        checks.check(name, compared == Ok(wanted));
     };
     let other_due = IDLE.replace("-7", "100000");
     let held = with_after(["-,-", "-,0"]);

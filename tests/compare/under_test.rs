@@ -70,7 +70,7 @@ pub struct LatestAnswer {
 #[derive(Debug, PartialEq, Eq)]
 pub struct SameAnswer {
     pub code: u32,
-    pub words: [i64; 4],
+    pub words: [i64; 6],
 }
 
 /// What `test` gives beside a refusal.

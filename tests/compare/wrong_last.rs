@@ -28,10 +28,11 @@ pub const MEANING: [(&str, Operations); 15] = [
 ];
 
 /// Mistakes that a plan and its timings do not show: about the lent space, and about reading.
-pub const OTHERS: [(&str, Operations); 8] = [
+pub const OTHERS: [(&str, Operations); 9] = [
     ("9 by seven words", operations::<RoomBySeven>()),
     ("9 by eight words", operations::<RoomByEight>()),
     ("no words a line beside 9", operations::<NoneBeside9>()),
+    ("seven words for both", operations::<SevenForBoth>()),
     ("an absent moment as none", operations::<AbsentMoment>()),
     ("missing moments as none", operations::<MissingMoments>()),
     ("5 before 4", operations::<FiveBefore4>()),
@@ -236,6 +237,18 @@ impl Mistake for LastUnlike {
         let compared = [SAME, DIFFERENT].contains(&answer.code);
         if compared && read(first).line_words() != read(second).line_words() {
             answer.code = UNLIKE;
+        }
+        answer
+    }
+}
+
+/// Two lists are said to have lines of seven words.
+struct SevenForBoth;
+impl Mistake for SevenForBoth {
+    fn same(first: &[u8], second: &[u8], left: &mut [i32], right: &mut [i32]) -> SameAnswer {
+        let mut answer = itself::same(first, second, left, right);
+        if answer.code == SAME {
+            answer.words[2..4].fill(LINE_WORDS as i64);
         }
         answer
     }

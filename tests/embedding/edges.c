@@ -38,7 +38,7 @@ static const int32_t WAITING_LINES[2 * TUZHELAR_LINE_WORDS] = {
 static const int32_t ONE_LINE[TUZHELAR_LINE_WORDS] = {
     1, 0, TUZHELAR_ABSENT, TUZHELAR_ABSENT, TUZHELAR_ABSENT, TUZHELAR_ABSENT, TUZHELAR_ABSENT,
 };
-static const int64_t TWO_AND_TWO[TUZHELAR_SAME_WORDS] = {2, 2}, TWO_AND_ONE[TUZHELAR_SAME_WORDS] = {2, 1};
+static const int64_t TWO_AND_TWO[TUZHELAR_SAME_WORDS] = {2, 2, 7, 7}, TWO_AND_ONE[TUZHELAR_SAME_WORDS] = {2, 1, 7, 7};
 static const int64_t PLANNED[TUZHELAR_PLAN_WORDS] = {2, 2, 1, 2, 0, 7};
 static const int64_t KEPT[TUZHELAR_KEPT_WORDS] = {2, 2, 1, 2, 1, 1, 3, 2, 0, 0, 0, 0, 0, 0, 0, 0};
 static const int64_t WISHED[TUZHELAR_MOST] = {0, 2, 0, 0, 0, 0};
@@ -186,17 +186,21 @@ static uint32_t same(const char *first, const char *second, size_t left_length, 
                          compared, answer_length);
 }
 
-/* A refusal leaves both spaces, and of the answer all but one word, or all. */
-static int all_left(const int64_t *needed)
+/* A refusal leaves both spaces. */
+static int spaces_left(void)
 {
-    if (needed != NULL) {
-        size_t at = (size_t)(needed - compared);
-        if (compared[at] != 2) {
-            return 0;
-        }
-        compared[at] = UNTOUCHED;
-    }
-    return space_holds(left, LINES, 0) && space_holds(right, LINES, 0) && answer_holds(compared, TWO_AND_TWO, 0);
+    return space_holds(left, LINES, 0) && space_holds(right, LINES, 0);
+}
+
+static int all_left(void)
+{
+    return spaces_left() && answer_holds(compared, TWO_AND_TWO, 0);
+}
+
+/* With 9 go the two lines needed and the words of each, for the sheet at that place; the answer has so many words. */
+static int needed(size_t at, size_t length)
+{
+    return spaces_left() && room_holds(compared, length, at, 2, 2 + at, TUZHELAR_LINE_WORDS);
 }
 
 /* Comparing, for every length of the spaces and the answer, and for each refusal that can come before another. */
@@ -208,13 +212,13 @@ static void comparing(void)
         int holds = length >= lines;
         check("same, words of the left space", length, same(WHOLE, EXCHANGED, length, SPACE, ANSWER) == (holds ? TUZHELAR_SAME : 9));
         check("same, the left space", length,
-              holds ? space_holds(left, LINES, lines) && space_holds(right, LINES, lines) : all_left(&compared[0]));
+              holds ? space_holds(left, LINES, lines) && space_holds(right, LINES, lines) : needed(0, ANSWER));
         check("same, words of the right space", length, same(WHOLE, EXCHANGED, SPACE, length, ANSWER) == (holds ? TUZHELAR_SAME : 209));
         check("same, the right space", length,
-              holds ? space_holds(left, LINES, lines) && space_holds(right, LINES, lines) : all_left(&compared[1]));
+              holds ? space_holds(left, LINES, lines) && space_holds(right, LINES, lines) : needed(1, ANSWER));
         check("same, words of both spaces", length, same(WHOLE, EXCHANGED, length, length, ANSWER) == (holds ? TUZHELAR_SAME : 9));
-        check("same, both spaces", length, holds ? answer_holds(compared, TWO_AND_TWO, 2) : all_left(&compared[0]));
-        check("same, a refusal of the second sheet", length, same(WHOLE, CIRCLE, SPACE, length, ANSWER) == 208 && all_left(NULL));
+        check("same, both spaces", length, holds ? answer_holds(compared, TWO_AND_TWO, TUZHELAR_SAME_WORDS) : needed(0, ANSWER));
+        check("same, a refusal of the second sheet", length, same(WHOLE, CIRCLE, SPACE, length, ANSWER) == 208 && all_left());
     }
     for (length = 0; length <= ANSWER; length++) {
         size_t written = least(length, TUZHELAR_SAME_WORDS);
@@ -227,15 +231,15 @@ static void comparing(void)
         check("same, other triggers, the spaces", length,
               space_holds(left, LINES, lines) && space_holds(right, ONE_LINE, TUZHELAR_LINE_WORDS));
         check("same, other triggers, the answer", length, answer_holds(compared, TWO_AND_ONE, written));
-        check("same, 9", length, same(WHOLE, WHOLE, 0, 0, length) == 9 && all_left(length > 0 ? &compared[0] : NULL));
-        check("same, 209", length, same(WHOLE, WHOLE, SPACE, 0, length) == 209 && all_left(length > 1 ? &compared[1] : NULL));
+        check("same, 9", length, same(WHOLE, WHOLE, 0, 0, length) == 9 && needed(0, length));
+        check("same, 209", length, same(WHOLE, WHOLE, SPACE, 0, length) == 209 && needed(1, length));
     }
-    check("same, 8 before 202", 0, same(CIRCLE, "", SPACE, SPACE, ANSWER) == 8 && all_left(NULL));
-    check("same, 2 before 208", 0, same("", CIRCLE, SPACE, SPACE, ANSWER) == 2 && all_left(NULL));
-    check("same, 9 before 202", 0, same(WHOLE, "", lines - 1, SPACE, ANSWER) == 9 && all_left(&compared[0]));
-    check("same, 202", 0, same(WHOLE, "", lines, SPACE, ANSWER) == 202 && all_left(NULL));
-    check("same, 8 before 209", 0, same(CIRCLE, WHOLE, SPACE, 0, ANSWER) == 8 && all_left(NULL));
-    check("same, 209 before 102", 0, same(ONE, WHOLE, SPACE, 0, ANSWER) == 209 && all_left(&compared[1]));
+    check("same, 8 before 202", 0, same(CIRCLE, "", SPACE, SPACE, ANSWER) == 8 && all_left());
+    check("same, 2 before 208", 0, same("", CIRCLE, SPACE, SPACE, ANSWER) == 2 && all_left());
+    check("same, 9 before 202", 0, same(WHOLE, "", lines - 1, SPACE, ANSWER) == 9 && needed(0, ANSWER));
+    check("same, 202", 0, same(WHOLE, "", lines, SPACE, ANSWER) == 202 && all_left());
+    check("same, 8 before 209", 0, same(CIRCLE, WHOLE, SPACE, 0, ANSWER) == 8 && all_left());
+    check("same, 209 before 102", 0, same(ONE, WHOLE, SPACE, 0, ANSWER) == 209 && needed(1, ANSWER));
 }
 
 /* Land lines: rules that bind the times, and lines that hold none. */
@@ -355,7 +359,7 @@ static void spare_times(void)
 /* Sheets with as many triggers of which not the same are spare are not compared, but planned. */
 static void spare_pairs(void)
 {
-    static const int64_t ONE_AND_ONE[TUZHELAR_SAME_WORDS] = {1, 1}, ONE_AND_TWO[TUZHELAR_SAME_WORDS] = {1, 2};
+    static const int64_t ONE_AND_ONE[TUZHELAR_SAME_WORDS] = {1, 1, 7, 7}, ONE_AND_TWO[TUZHELAR_SAME_WORDS] = {1, 2, 7, 7};
     static const char OTHER_DUE[] = "panels=1\ntriggers=2\nlag=0,-\nfloor=0\ndue=0,100000\nafter=-,-\nafter=-,-\n";
     /* On both of these sheets every timing is tightest. */
     static const char ALL[] = "panels=1\ntriggers=2\nlag=0,0\nfloor=0\ndue=0,0\nafter=-,-\nafter=-,-\n";
@@ -371,7 +375,7 @@ static void spare_pairs(void)
         check("same, the same spares", length, same(IDLE, OTHER_DUE, SPACE, SPACE, length) == TUZHELAR_SAME);
         check("same, the same spares, the answer", length, answer_holds(compared, ONE_AND_ONE, written));
         check("same, 209 before 102", length, same(IDLE, ITSELF, SPACE, 2 * TUZHELAR_LINE_WORDS - 1, length) == 209);
-        check("same, 209 before 102", length, all_left(length > 1 ? &compared[1] : NULL));
+        check("same, 209 before 102", length, needed(1, length));
     }
     check("same, another one spare", 0, same(FIRST, IDLE, SPACE, SPACE, ANSWER) == TUZHELAR_UNLIKE);
     check("same, another one spare", 1, answer_holds(compared, ONE_AND_ONE, TUZHELAR_SAME_WORDS));
@@ -391,8 +395,8 @@ static void refused(const char *sheet, uint32_t number)
     check(sheet, number, space_holds(space, LINES, 0) && answer_holds(answer, PLANNED, 0));
     check(sheet, number, tested(sheet, WISHED, 1) == number);
     check(sheet, number, latest(sheet, WISHED, 1, SPACE, ANSWER) == number && all_stays());
-    check(sheet, number, same(sheet, WHOLE, SPACE, SPACE, ANSWER) == number && all_left(NULL));
-    check(sheet, number, same(WHOLE, sheet, SPACE, SPACE, ANSWER) == TUZHELAR_SECOND + number && all_left(NULL));
+    check(sheet, number, same(sheet, WHOLE, SPACE, SPACE, ANSWER) == number && all_left());
+    check(sheet, number, same(WHOLE, sheet, SPACE, SPACE, ANSWER) == TUZHELAR_SECOND + number && all_left());
 }
 
 /* Refusals of land lines: line by line, in one line 2 before 4, and both before 6 and 7; then 8. */
@@ -649,22 +653,22 @@ static void layer_for_two(void)
         untouched(left, compared);
         untouched(right, compared);
         found = tuzhelar_same_timings(NULL, length, WHOLE, whole, left, SPACE, right, SPACE);
-        check("no first sheet", length, found.number == 2 && found.first == 0 && found.second == 0 && all_left(NULL));
+        check("no first sheet", length, found.number == 2 && found.first == 0 && found.second == 0 && all_left());
         found = tuzhelar_same_timings(WHOLE, whole, NULL, length, left, SPACE, right, SPACE);
-        check("no second sheet", length, found.number == 202 && found.first == 0 && found.second == 0 && all_left(NULL));
+        check("no second sheet", length, found.number == 202 && found.first == 0 && found.second == 0 && all_left());
         found = tuzhelar_same_timings(WHOLE, whole, WHOLE, whole, NULL, length, right, SPACE);
-        check("no left space", length, found.number == 9 && found.first == 2 && found.second == 0 && all_left(NULL));
+        check("no left space", length, found.number == 9 && found.first == 2 && found.second == 0 && all_left());
         check("no left space, words", length, found.first_words == TUZHELAR_LINE_WORDS && found.second_words == 0);
         found = tuzhelar_same_timings(WHOLE, whole, WHOLE, whole, left, SPACE, NULL, length);
-        check("no right space", length, found.number == 209 && found.first == 0 && found.second == 2 && all_left(NULL));
+        check("no right space", length, found.number == 209 && found.first == 0 && found.second == 2 && all_left());
         check("no right space, words", length, found.first_words == 0 && found.second_words == TUZHELAR_LINE_WORDS);
         found = tuzhelar_same_timings(NULL, length, NULL, length, NULL, length, NULL, length);
         check("nothing at all", length, found.number == 2 && found.first == 0 && found.second == 0);
     }
     found = tuzhelar_same_timings(WHOLE, SIZE_MAX, WHOLE, whole, left, SPACE, right, SPACE);
-    check("the longest first sheet", 0, found.number == TUZHELAR_TOO_LONG && all_left(NULL));
+    check("the longest first sheet", 0, found.number == TUZHELAR_TOO_LONG && all_left());
     found = tuzhelar_same_timings(WHOLE, whole, WHOLE, SIZE_MAX, left, SPACE, right, SPACE);
-    check("the longest second sheet", 0, found.number == TUZHELAR_SECOND + TUZHELAR_TOO_LONG && all_left(NULL));
+    check("the longest second sheet", 0, found.number == TUZHELAR_SECOND + TUZHELAR_TOO_LONG && all_left());
 
     found = tuzhelar_same_timings(WHOLE, whole, ONE, strlen(ONE), left, SPACE, right, SPACE);
     check("two sheets", 0, found.number == TUZHELAR_UNLIKE && found.first == 2 && found.second == 1);

@@ -179,21 +179,22 @@ static void pairs(void)
     static const int32_t LINES[2 * TUZHELAR_LINE_WORDS] = {
         2, -1, 0, NONE, NONE, NONE, NONE, 2, 0, NONE, NONE, NONE, NONE, NONE,
     };
-    static const int64_t COUNTS[TUZHELAR_SAME_WORDS] = {2, 2};
+    static const int64_t CAPPED[TUZHELAR_SAME_WORDS] = {2, 2, 8, 8}, FIRST_CAPPED[TUZHELAR_SAME_WORDS] = {2, 2, 8, 7};
+    static const int64_t SECOND_CAPPED[TUZHELAR_SAME_WORDS] = {2, 2, 7, 8};
     const int32_t *capped = WORKED[0].lines[0], *earlier = WORKED[2].lines[0];
     const size_t lines = 2 * TUZHELAR_LINE_WORDS, wide = 2 * TUZHELAR_CAPPED_WORDS;
-    check("same, with and without", 0, same(LAST, WHOLE, SPACE, SPACE) == TUZHELAR_SAME && answer_holds(given, COUNTS, 2));
+    check("same, with and without", 0, same(LAST, WHOLE, SPACE, SPACE) == TUZHELAR_SAME && answer_holds(given, FIRST_CAPPED, 4));
     check("same, with and without", 1, space_holds(left, capped, wide) && space_holds(right, LINES, lines));
-    check("same, without and with", 0, same(WHOLE, LAST, SPACE, SPACE) == TUZHELAR_SAME && answer_holds(given, COUNTS, 2));
+    check("same, without and with", 0, same(WHOLE, LAST, SPACE, SPACE) == TUZHELAR_SAME && answer_holds(given, SECOND_CAPPED, 4));
     check("same, without and with", 1, space_holds(left, LINES, lines) && space_holds(right, capped, wide));
-    check("same, other caps", 0, same(LAST, EARLIER, SPACE, SPACE) == TUZHELAR_SAME && answer_holds(given, COUNTS, 2));
+    check("same, other caps", 0, same(LAST, EARLIER, SPACE, SPACE) == TUZHELAR_SAME && answer_holds(given, CAPPED, 4));
     check("same, other caps", 1, space_holds(left, capped, wide) && space_holds(right, earlier, wide));
     check("same, other timings", 0, same(LAST, OTHER, SPACE, SPACE) == TUZHELAR_DIFFERENT);
     check("same, other spares", 0, same(IDLE, NO_FLOOR, SPACE, SPACE) == TUZHELAR_UNLIKE);
     check("same, just enough", 0, same(LAST, WHOLE, wide, lines) == TUZHELAR_SAME);
-    check("same, 9", 0, same(LAST, WHOLE, wide - 1, lines) == 9 && given[0] == 2 && given[1] == UNTOUCHED);
+    check("same, 9", 0, same(LAST, WHOLE, wide - 1, lines) == 9 && room_holds(given, ANSWER, 0, 2, 2, 8));
     check("same, 9, the spaces", 0, space_holds(left, capped, 0) && space_holds(right, capped, 0));
-    check("same, 209", 0, same(WHOLE, LAST, lines, wide - 1) == 209 && given[0] == UNTOUCHED && given[1] == 2);
+    check("same, 209", 0, same(WHOLE, LAST, lines, wide - 1) == 209 && room_holds(given, ANSWER, 1, 2, 3, 8));
     check("same, 209, the spaces", 0, space_holds(left, capped, 0) && space_holds(right, capped, 0));
 }
 

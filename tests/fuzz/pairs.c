@@ -15,7 +15,7 @@
 #include "tuzhelar.h"
 
 #define WORDS 700            /* of a space, at most */
-#define ANSWER_WORDS 5       /* of the answer, at most */
+#define ANSWER_WORDS 6       /* of the answer, at most */
 #define FAR INT64_C(100000000) /* so far below a line no other counts */
 #define BOX_TRIGGERS 3       /* the most for which a box is searched */
 #define REACH 3              /* how far a box goes each way */
@@ -103,15 +103,15 @@ static uint32_t wanted_number(const struct side *first, const struct side *secon
     return same_lines(&one, &other) ? TUZHELAR_SAME : TUZHELAR_DIFFERENT;
 }
 
-/* A word of the answer: a count of lines, or for 9 the count needed. */
+/* A word of the answer: the counts of lines, then the words of a line; or for 9 those of its sheet. */
 static int64_t wanted_word(const struct side *first, const struct side *second, size_t at)
 {
     const struct side *refused = first->number != TUZHELAR_DONE ? first : second->number != TUZHELAR_DONE ? second : NULL;
-    const struct side *side = at == 0 ? first : second;
+    const struct side *side = at % 2 == 0 ? first : second;
     if (at >= TUZHELAR_SAME_WORDS || (refused != NULL && (refused != side || refused->number != TUZHELAR_SPACE))) {
         return UNTOUCHED;
     }
-    return side->words[3];
+    return at < 2 ? side->words[3] : (int64_t)line_words(&side->tables);
 }
 
 /* ---- Comparing, on memory of just the lengths given */
@@ -171,7 +171,7 @@ static uint32_t compare(struct random *random, const struct side *first, const s
     check_space(&right_area, right, second, written, other_at_end);
     expect(marks_stay(&answer_area, length * sizeof *answer, at_end), "words beside comparing's answer were written");
     for (i = 0; i < length; i++) {
-        expect(answer[i] == wanted_word(first, second, i), "comparing's answer is not the counts of the lists, or the count needed");
+        expect(answer[i] == wanted_word(first, second, i), "comparing's answer is not how much the lists take, or how much is needed");
     }
     return number;
 }

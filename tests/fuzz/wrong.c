@@ -461,7 +461,7 @@ static uint32_t same_spares(uint32_t number, const int64_t *before, int32_t *lef
         return TUZHELAR_DIFFERENT; /* their lists compared */
     }
     for (i = 0; fault(74) && i < TUZHELAR_SAME_WORDS && i < answer_length; i++) {
-        answer[i] = before[i]; /* no counts */
+        answer[i] = before[i]; /* not how much was written */
     }
     if (fault(78)) {
         left[0] = 0; /* no list */
@@ -476,12 +476,14 @@ uint32_t __wrap_tuzhelar_same(const uint8_t *first, size_t first_length, const u
     size_t length = first_length, other_length = second_length;
     const uint8_t *work = worked_on(51, 59, 117, copy, first, &length);
     const uint8_t *other_work = worked_on(51, 59, 117, other, second, &other_length);
-    int64_t before[TUZHELAR_SAME_WORDS] = {answer_length > 0 ? answer[0] : 0, answer_length > 1 ? answer[1] : 0};
-    uint32_t number = __real_tuzhelar_same(work, length, other_work, other_length, left, left_length, right, right_length, answer,
-                                           answer_length);
     struct written lefts = {0, left, left_length, answer, answer_length, 0}, rights = {0, right, right_length, answer, answer_length, 0};
-    int written = number >= TUZHELAR_SAME && number <= TUZHELAR_UNLIKE;
+    int64_t before[TUZHELAR_SAME_WORDS] = {0, 0, 0, 0};
     int32_t no_left = 0, no_right = 0;
+    uint32_t number;
+    int written;
+    memcpy(before, answer, (answer_length < TUZHELAR_SAME_WORDS ? answer_length : TUZHELAR_SAME_WORDS) * sizeof *answer);
+    number = __real_tuzhelar_same(work, length, other_work, other_length, left, left_length, right, right_length, answer, answer_length);
+    written = number >= TUZHELAR_SAME && number <= TUZHELAR_UNLIKE;
     if (fault(25) && number == TUZHELAR_DIFFERENT && answer_length > 1 && answer[0] == answer[1]) {
         return TUZHELAR_SAME; /* the counts alone compared */
     }
@@ -505,6 +507,12 @@ uint32_t __wrap_tuzhelar_same(const uint8_t *first, size_t first_length, const u
     }
     if (fault(31) && number == TUZHELAR_SECOND + TUZHELAR_SPACE && answer_length > 1) {
         answer[0] = answer[1]; /* the count needed in the first sheet's place too */
+    }
+    if (fault(118) && written && answer_length > 3) {
+        answer[2] = answer[3] = TUZHELAR_LINE_WORDS; /* seven words for every line */
+    }
+    if (fault(119) && number == TUZHELAR_SPACE && answer_length > 2) {
+        answer[2] = before[2]; /* the count needed, and not of how many words */
     }
     if (fault(32) && written) {
         right[right_length] = 0; /* a word past the right space */

@@ -5,7 +5,7 @@
 #include "reader.h"
 #include "tuzhelar.h"
 
-#define FAULTS 117
+#define FAULTS 119
 
 /* Whether this is the fault that the variable WRONG names. */
 int fault(int number);
@@ -37,7 +37,7 @@ struct written {
     size_t space_length;
     int64_t *answer;
     size_t answer_length;
-    int64_t words; /* the answer's word for the words of a line, as it was before; for comparing, which has none, these words */
+    int64_t words; /* the answer's word for the words of a line, as it was before; for comparing these words themselves */
 };
 
 /* A copy of a sheet that reading takes, without its last line. Returns its length. */

@@ -1,5 +1,5 @@
 -- Comparing two sheets: what planning refuses with no room, and the answer by demand 3.
-use mathlib.Core.Path.{_≡_, refl, ap, sym, subst, _∙_}
+use mathlib.Core.Path.{_≡_, refl, ap, ap₂, sym, subst, _∙_}
 use mathlib.Core.Logic.{_↔_, _⊎_, inl, inr}
 use mathlib.Core.List.{List}
 use mathlib.Core.Bool.{Bool, true, false, cond, not, _||_, decide}
@@ -23,8 +23,9 @@ use Rattle.planning.specs.Planning.{PlanOutcome, planned, full, refused, plan-o
 use Rattle.sheet.specs.Ordered.{ordered}
 use Rattle.comparing.specs.Inner.{Refuses}
 use Rattle.planning.specs.Demands.{Planned, count-of, lines-written, TwoPlans}
-use Rattle.comparing.specs.Comparing.{Comparison, answer, unlike, first-refused, second-refused, comparing, compared-space}
+use Rattle.comparing.specs.Comparing.{Comparison, answer, unlike, first-refused, second-refused, extent-of, comparing, compared-space}
 use Rattle.planning.specs.declared.CuePlan.{CuePlan}
+use Rattle.comparing.specs.declared.Extent.{Extent}
 use Rattle.comparing.specs.declared.Refusal.{Refusal}
 use Rattle.planning.proofs.Demands.{plan, known, demand-3}
 use Rattle.sheet.specs.Asked.{Alike}
@@ -86,6 +87,16 @@ module _ (t : Sheet) where
       go true f = let q = f refl in let x : ⊥ = omega arith in absurd x
       go false f = refl
 
+  -- how much the list takes, as any answer with this count and width says
+  abbrev takes : Extent
+  takes = record { count = many; width = wide }
+
+  extent-is : (p : CuePlan) → p .count ≡ many → p .width ≡ wide → extent-of p ≡ takes
+  extent-is p c w = rw (c, w) refl
+
+  with-takes : (room : ℕ) → extent-of (with room) ≡ takes
+  with-takes room = extent-is (with room) (counted room) (widened room)
+
 -- one word has room for no line
 no-line : {A : Type 0} (o : Option A) → 1 / width o ≡ 0
 no-line none = refl
@@ -94,7 +105,7 @@ no-line (some a) = refl
 -- the answer p with one word, and the one with so many
 module _ (g : Got Sheet) (p : CuePlan) (e : p ≡ plan-answer (plan-of (λ wide. 1 / wide) g)) (words : ℕ) where
   abbrev Found : ℕ → Type 0
-  Found k = Refuses (record { number = k; count = p .count }) (plan-answer (plan-of (λ wide. words / wide) g))
+  Found k = Refuses (record { number = k; needed = extent-of p }) (plan-answer (plan-of (λ wide. words / wide) g))
 
   divisor : 0 < p .count → 0 < p .width
   divisor = go g e
@@ -107,20 +118,20 @@ module _ (g : Got Sheet) (p : CuePlan) (e : p ≡ plan-answer (plan-of (λ wide.
   found-enough = go g e
     where
       go : (g : Got Sheet) → p ≡ plan-answer (plan-of (λ wide. 1 / wide) g) → 0 < p .count → p .count ≤ words / p .width →
-          Refuses (record { number = 0; count = p .count }) (plan-answer (plan-of (λ wide. words / wide) g))
+          Refuses (record { number = 0; needed = extent-of p }) (plan-answer (plan-of (λ wide. words / wide) g))
       go (sheet.refused k) e h f = let x : ⊥ = omega (arith, ap (λ (p : CuePlan). p .count) e) in absurd x
       go (got t r) e h f =
           let c = ap (λ (p : CuePlan). p .count) e ∙ counted t (1 / wide t) in
           let w = ap (λ (p : CuePlan). p .width) e ∙ widened t (1 / wide t) in
           let room = words / wide t in
-          record { number = sym (room-for t room (rw (w, c) at f)); count = c ∙ sym (counted t room) }
+          record { number = sym (room-for t room (rw (w, c) at f)); needed = extent-is t p c w ∙ sym (with-takes t room) }
 
   found-short : (0 < p .count → words / p .width < p .count) → Found (p .refusal)
   found-short = go g e
     where
       go : (g : Got Sheet) → p ≡ plan-answer (plan-of (λ wide. 1 / wide) g) → (0 < p .count → words / p .width < p .count) →
-          Refuses (record { number = p .refusal; count = p .count }) (plan-answer (plan-of (λ wide. words / wide) g))
-      go (sheet.refused k) e f = record { number = ap (λ (p : CuePlan). p .refusal) e; count = ap (λ (p : CuePlan). p .count) e }
+          Refuses (record { number = p .refusal; needed = extent-of p }) (plan-answer (plan-of (λ wide. words / wide) g))
+      go (sheet.refused k) e f = record { number = ap (λ (p : CuePlan). p .refusal) e; needed = ap extent-of e }
       go (got t r) e f =
           let c = ap (λ (p : CuePlan). p .count) e ∙ counted t (1 / wide t) in
           let w = ap (λ (p : CuePlan). p .width) e ∙ widened t (1 / wide t) in
@@ -131,7 +142,7 @@ module _ (g : Got Sheet) (p : CuePlan) (e : p ≡ plan-answer (plan-of (λ wide.
               | yes h ↦ no-room-for t (1 / wide t) (rw (no-line (sheet-caps t)) h) ∙ sym (no-room-for t room (q h))
               | no h ↦ room-for t (1 / wide t) (omega arith) ∙ sym (room-for t room (omega arith))
             ];
-            count = c ∙ sym (counted t room);
+            needed = extent-is t p c w ∙ sym (with-takes t room);
           }
 
 module _ (s : List ℕ) (none : List ℤ) (few : length none ≡ 1) (p : CuePlan) (e : p ≡ plan-answer (planning s none)) where
@@ -143,18 +154,20 @@ module _ (s : List ℕ) (none : List ℤ) (few : length none ≡ 1) (p : CuePlan
   wide-known = divisor (ordered s) p at-none 0
 
   module _ (words : ℕ) (space : List ℤ) (same : length space ≡ words) where
-    at-space : (k : ℕ) → Found (ordered s) p at-none words k → Refuses (record { number = k; count = p .count }) (plan-answer (planning s space))
+    at-space : (k : ℕ) → Found (ordered s) p at-none words k → Refuses (record { number = k; needed = extent-of p }) (plan-answer (planning s space))
     unfolding planning
     at-space k =
-        subst (λ w. Refuses (record { number = k; count = p .count }) (plan-answer (plan-of (λ wide. w / wide) (ordered s)))) (sym same)
+        subst (λ w. Refuses (record { number = k; needed = extent-of p }) (plan-answer (plan-of (λ wide. w / wide) (ordered s)))) (sym same)
 
-    pub refused-enough : 0 < p .count → p .count ≤ words / p .width →
-        Refuses (record { number = 0; count = p .count }) (plan-answer (planning s space))
-    refused-enough h f = at-space 0 (found-enough (ordered s) p at-none words h f)
+    -- what is needed is what the answer says
+    abbrev Told : ℕ → Extent → Type 0
+    Told k a = Refuses (record { number = k; needed = a }) (plan-answer (planning s space))
 
-    pub refused-short : (0 < p .count → words / p .width < p .count) →
-        Refuses (record { number = p .refusal; count = p .count }) (plan-answer (planning s space))
-    refused-short f = at-space (p .refusal) (found-short (ordered s) p at-none words f)
+    pub refused-enough : {a : Extent} → a ≡ extent-of p → 0 < p .count → p .count ≤ words / p .width → Told 0 a
+    refused-enough e h f = subst (Told 0) (sym e) (at-space 0 (found-enough (ordered s) p at-none words h f))
+
+    pub refused-short : {a : Extent} → a ≡ extent-of p → (0 < p .count → words / p .width < p .count) → Told (p .refusal) a
+    refused-short e f = subst (Told (p .refusal)) (sym e) (at-space (p .refusal) (found-short (ordered s) p at-none words f))
 
 -- ---- equal bytes are of the same triggers
 same-bits : (n m : ℕ) (a b : ℕ → Bool) → n ≤ 6 → n ≡ m → byte-of n a ≡ byte-of m b → (j : ℕ) → j < n → a j ≡ b j
@@ -199,32 +212,33 @@ accepted (refused k) h = absurd h
 
 -- P and Q are what the two plannings answered, `front` and `back` what they left
 module _ (s₁ s₂ : List ℕ) (left right : List ℤ) (h₁ : Planned (planning s₁ left)) (h₂ : Planned (planning s₂ right)) (P Q : CuePlan)
-    (p : P ≡ plan-answer (planning s₁ left)) (q : Q ≡ plan-answer (planning s₂ right)) where
+    (p : P ≡ plan-answer (planning s₁ left)) (q : Q ≡ plan-answer (planning s₂ right)) (A B : Extent) (a : A ≡ extent-of P)
+    (b : B ≡ extent-of Q) where
   abbrev asked : Bool
   asked = decide (alike? s₁ s₂)
 
   -- the answer, by whether the numbers of triggers are equal and whether the bytes of the spares are
   abbrev by-tests : Bool → Bool → Comparison
-  by-tests sizes spares = cond (not sizes || not spares) (unlike (P .count) (Q .count)) (answer asked (P .count) (Q .count))
+  by-tests sizes spares = cond (not sizes || not spares) (unlike A B) (answer asked A B)
 
   compared : (r : Comparison) → by-tests (eqb (P .triggers) (Q .triggers)) (eqb (P .spares) (Q .spares)) ≡ r → r ≡ comparing s₁ s₂ left right
   unfolding comparing
-  compared r h = sym (rw (← p, ← q)
+  compared r h = sym (rw (← p, ← q, ← a, ← b)
       (rw (
         ap (λ (p : CuePlan). p .refusal) p ∙ accepted (planning s₁ left) h₁,
         ap (λ (p : CuePlan). p .refusal) q ∙ accepted (planning s₂ right) h₂,
       ) h))
 
-  pub unlike-answer : ¬ (P .triggers ≡ Q .triggers) ⊎ ¬ (P .spares ≡ Q .spares) → unlike (P .count) (Q .count) ≡ comparing s₁ s₂ left right
+  pub unlike-answer : ¬ (P .triggers ≡ Q .triggers) ⊎ ¬ (P .spares ≡ Q .spares) → unlike A B ≡ comparing s₁ s₂ left right
   unlike-answer (inl f) = compared _ (rw (unequal (P .triggers) (Q .triggers) f) refl)
   unlike-answer (inr f) = compared _ (rw (unequal (P .spares) (Q .spares) f) (go (eqb (P .triggers) (Q .triggers))))
     where
-      go : (sizes : Bool) → by-tests sizes false ≡ unlike (P .count) (Q .count)
+      go : (sizes : Bool) → by-tests sizes false ≡ unlike A B
       go true = refl
       go false = refl
 
   module _ (front back : List ℤ) (w₁ : front ≡ space-after (planning s₁ left) left) (w₂ : back ≡ space-after (planning s₂ right) right)
-      (k : P .triggers ≡ Q .triggers) (b : P .spares ≡ Q .spares) where
+      (k : P .triggers ≡ Q .triggers) (idle : P .spares ≡ Q .spares) where
     abbrev SameLines : Type 0
     SameLines = uncapped (P .width) (P .count) front ≡ uncapped (Q .width) (P .count) back
 
@@ -255,7 +269,7 @@ module _ (s₁ s₂ : List ℕ) (left right : List ℤ) (h₁ : Planned (plannin
             let a₁ : P ≡ plan-answer (plan t) = p ∙ ap plan-answer (K₁ .plan-is) in
             let a₂ : Q ≡ plan-answer (plan u) = q ∙ ap plan-answer (K₂ .plan-is) in
             let size = sym (ap (λ (p : CuePlan). p .triggers) a₁) ∙ k ∙ ap (λ (p : CuePlan). p .triggers) a₂ in
-            let byte = sym (ap (λ (p : CuePlan). p .spares) a₁) ∙ b ∙ ap (λ (p : CuePlan). p .spares) a₂ in
+            let byte = sym (ap (λ (p : CuePlan). p .spares) a₁) ∙ idle ∙ ap (λ (p : CuePlan). p .spares) a₂ in
             let same : SameSpares t u = same-bits _ _ _ _ (K₁ .good .triggers-few) size byte in
             let two : TwoPlans s₁ s₂ t u left right =
             record { rest₁ = m; rest₂ = w; read₁ = e; read₂ = f; same-size = size; planned₁ = h₁; planned₂ = h₂ } in
@@ -265,13 +279,13 @@ module _ (s₁ s₂ : List ℕ) (left right : List ℤ) (h₁ : Planned (plannin
               λ a. let l = d .1 (a .2) in (c₁ ∙ l .0 ∙ sym c₂, l₁ ∙ l .1 ∙ cc (l₂)),
             )
 
-    alike-answer : (a : Bool) → asked ≡ a → answer a (P .count) (Q .count) ≡ comparing s₁ s₂ left right
-    alike-answer a e = compared _ (rw (equal (P .triggers) (Q .triggers) k, equal (P .spares) (Q .spares) b, e) refl)
+    alike-answer : (same : Bool) → asked ≡ same → answer same A B ≡ comparing s₁ s₂ left right
+    alike-answer same e = compared _ (rw (equal (P .triggers) (Q .triggers) k, equal (P .spares) (Q .spares) idle, e) refl)
 
-    pub same-answer : P .count ≡ Q .count → SameLines → answer true (P .count) (P .count) ≡ comparing s₁ s₂ left right
-    same-answer c e = ap (answer true (P .count)) c ∙ alike-answer true (decided-yes (alike? s₁ s₂) (alike-by .0 (c, e)))
+    pub same-answer : P .count ≡ Q .count → SameLines → answer true A B ≡ comparing s₁ s₂ left right
+    same-answer c e = alike-answer true (decided-yes (alike? s₁ s₂) (alike-by .0 (c, e)))
 
-    pub different-answer : ¬ Equal → answer false (P .count) (Q .count) ≡ comparing s₁ s₂ left right
+    pub different-answer : ¬ Equal → answer false A B ≡ comparing s₁ s₂ left right
     different-answer f = alike-answer false (decided-no (alike? s₁ s₂) (λ a. f (alike-by .1 a)))
 
 -- ---- a refusal, or none
@@ -338,14 +352,14 @@ module _ (s₁ s₂ : List ℕ) (left right : List ℤ) where
       (right ≡ compared-space (planning s₂ right) (planning s₁ left) right))
 
   module _ (a : Refusal) (A : Refuses a (plan-answer (planning s₁ left))) where
-    pub first-answer : ¬ (a .number ≡ 0) → Refused (first-refused (a .number) (a .count))
+    pub first-answer : ¬ (a .number ≡ 0) → Refused (first-refused (a .number) (a .needed))
     unfolding comparing
     first-answer f =
         let g : ¬ (plan-answer (planning s₁ left) .refusal ≡ 0) = λ e. f (A .number ∙ e) in
         (rw (unequal (plan-answer (planning s₁ left) .refusal) 0 g) (cc), (own-kept _ _ left g, other-kept _ _ right g))
 
     module _ (b : Refusal) (B : Refuses b (plan-answer (planning s₂ right))) where
-      pub second-answer : a .number ≡ 0 → ¬ (b .number ≡ 0) → Refused (second-refused (b .number) (b .count))
+      pub second-answer : a .number ≡ 0 → ¬ (b .number ≡ 0) → Refused (second-refused (b .number) (b .needed))
       unfolding comparing
       second-answer z f =
           let g : ¬ (plan-answer (planning s₂ right) .refusal ≡ 0) = λ e. f (B .number ∙ e) in (

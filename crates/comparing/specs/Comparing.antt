@@ -9,33 +9,39 @@ use lib.IntN.{ℤ}
 use Rattle.sheet.proofs.Decided.{alike?}
 use Rattle.planning.specs.Planning.{PlanOutcome, planned, full, refused, planning, space-after, plan-answer}
 use Rattle.planning.specs.declared.CuePlan.{CuePlan}
+use Rattle.comparing.specs.declared.Extent.{Extent}
 use Rattle.comparing.specs.declared.Compared.{Compared}
 use Rattle.comparing.specs.declared.Compared.the-variants.{Same, Different, Unlike, FirstRefused, SecondRefused}
 
 -- whether the same timings are tightest, for sheets with equal numbers of triggers, the same of them spare; or that these differ ("Two sheets
--- may be compared for equal lists only where the same triggers are spare"). With either go the numbers of lines written: "Any later operation
--- that writes also … returns how much it wrote". Or the first refusal, with 9's count needed, else 0
+-- may be compared for equal lists only where the same triggers are spare"). With either goes how much stands in each space, the number of lines
+-- and how many words a line takes: "Any later operation that writes also … returns how much it wrote". Or the first refusal, with as much as is
+-- needed where it is 9
 pub data Comparison : Type 0 where
-  answer : (same : Bool) (first second : ℕ) → Comparison
-  unlike : (first second : ℕ) → Comparison
-  first-refused : (number count : ℕ) → Comparison
-  second-refused : (number count : ℕ) → Comparison
+  answer : (same : Bool) (first second : Extent) → Comparison
+  unlike : (first second : Extent) → Comparison
+  first-refused : (number : ℕ) (needed : Extent) → Comparison
+  second-refused : (number : ℕ) (needed : Extent) → Comparison
 
 -- the outcome that each case of the program's answer stands for
 abbrev pub compare-answer : Compared → Comparison
-compare-answer (Same c) = answer true c c
-compare-answer (Different c d) = answer false c d
-compare-answer (Unlike c d) = unlike c d
-compare-answer (FirstRefused k c) = first-refused k c
-compare-answer (SecondRefused k c) = second-refused k c
+compare-answer (Same a b) = answer true a b
+compare-answer (Different a b) = answer false a b
+compare-answer (Unlike a b) = unlike a b
+compare-answer (FirstRefused k a) = first-refused k a
+compare-answer (SecondRefused k b) = second-refused k b
+
+-- how much planning writes, or with 9 needs
+abbrev pub extent-of : CuePlan → Extent
+extent-of p = record { count = p .count; width = p .width }
 
 -- planning's refusals, the first sheet's before the second's; otherwise the answer
 abbrev pub compares : CuePlan → CuePlan → Bool → Comparison
 compares p q same =
-    cond (not (eqb (p .refusal) 0)) (first-refused (p .refusal) (p .count))
-    (cond (not (eqb (q .refusal) 0)) (second-refused (q .refusal) (q .count))
-    (cond (not (eqb (p .triggers) (q .triggers)) || not (eqb (p .spares) (q .spares))) (unlike (p .count) (q .count))
-    (answer same (p .count) (q .count))))
+    cond (not (eqb (p .refusal) 0)) (first-refused (p .refusal) (extent-of p))
+    (cond (not (eqb (q .refusal) 0)) (second-refused (q .refusal) (extent-of q))
+    (cond (not (eqb (p .triggers) (q .triggers)) || not (eqb (p .spares) (q .spares))) (unlike (extent-of p) (extent-of q))
+    (answer same (extent-of p) (extent-of q))))
 
 -- "exactly when every timing is tightest on both or on neither"
 unfoldable pub comparing : (first second : List ℕ) (left right : List ℤ) → Comparison

@@ -8,25 +8,32 @@ ghost use Rattle.cue.specs.Written.{line-size, uncapped};
 ghost use Rattle.tables.specs.Held.{Says};
 ghost use Rattle.planning.specs.Planning.{planning, space-after, plan-answer};
 ghost use Rattle.planning.specs.Demands.{Planned};
-ghost use Rattle.comparing.specs.Comparing.{comparing, compared-space, compare-answer};
+ghost use Rattle.comparing.specs.Comparing.{comparing, compared-space, compare-answer, extent-of};
 ghost use Rattle.comparing.specs.Inner.{Refuses};
+use planning::CuePlan;
 use planning::plan;
 use words::LINE_SIZE;
 
-// Whether the same timings are tightest on two sheets, or that their numbers of triggers or their spares differ; with either go the numbers of
-// lines written. Or planning's refusal of the first sheet or of the second, with the count needed where it is 9.
-pub enum Compared {
-    Same(usize),
-    Different(usize, usize),
-    Unlike(usize, usize),
-    FirstRefused(u8, usize),
-    SecondRefused(u8, usize),
+// How much of a space a list takes: its number of lines, and how many words a line takes.
+pub struct Extent {
+    pub count: usize,
+    pub width: usize,
 }
 
-// The number of a refusal, 0 for none, and the number of lines.
+// Whether the same timings are tightest on two sheets, or that their numbers of triggers or their spares differ; with either goes how much was
+// written in each space. Or planning's refusal of the first sheet or of the second, with how much is needed where it is 9, else nothing.
+pub enum Compared {
+    Same(Extent, Extent),
+    Different(Extent, Extent),
+    Unlike(Extent, Extent),
+    FirstRefused(u8, Extent),
+    SecondRefused(u8, Extent),
+}
+
+// The number of a refusal, 0 for none, and how much the list takes.
 struct Refusal {
     number: u8,
-    count: usize,
+    needed: Extent,
 }
 
 // Whether the same timings are tightest on two sheets; their lists, caps left out, are compared where they are written, at the front of the two
@@ -40,11 +47,13 @@ pub fn same_timings(first: &[u8], second: &[u8], left: &mut [i32], right: &mut [
 {
     let a = refused(first, left.len());
     if a.number != 0 {
-        return Compared::FirstRefused(a.number, a.count);
+        let needed = a.needed;
+        return Compared::FirstRefused(a.number, needed);
     }
     let b = refused(second, right.len());
     if b.number != 0 {
-        return Compared::SecondRefused(b.number, b.count);
+        let needed = b.needed;
+        return Compared::SecondRefused(b.number, needed);
     }
     likened(first, second, left, right)
 }
@@ -55,16 +64,27 @@ fn refused(bytes: &[u8], words: usize) -> Refusal
 {
     let mut none = [0i32; 1];
     let r = plan(bytes, &mut none);
+    let needed = extent_of(r);
     let count = r.count;
     if 0 < count && count <= words / r.width {
         return Refusal {
             number: 0,
-            count: count,
+            needed: needed,
         };
     }
     Refusal {
         number: r.refusal,
-        count: count,
+        needed: needed,
+    }
+}
+
+// How much planning wrote, or needs.
+fn extent_of(p: CuePlan) -> Extent
+    ensures { λ r. ⌜ r ≡ extent-of p ⌝ }
+{
+    Extent {
+        count: p.count,
+        width: p.width,
     }
 }
 
@@ -77,13 +97,15 @@ fn likened(first: &[u8], second: &[u8], left: &mut [i32], right: &mut [i32]) -> 
 {
     let p = plan(first, left);
     let q = plan(second, right);
+    let a = extent_of(p);
+    let b = extent_of(q);
     if p.triggers != q.triggers || p.spares != q.spares {
-        return Compared::Unlike(p.count, q.count);
+        return Compared::Unlike(a, b);
     }
     if p.count == q.count && same_lines(left, p.width, right, q.width, p.count) {
-        return Compared::Same(p.count);
+        return Compared::Same(a, b);
     }
-    Compared::Different(p.count, q.count)
+    Compared::Different(a, b)
 }
 
 // Whether the first lines of two spaces are the same, their caps left out: a line takes `wide` words on the left and `broad` on the right.

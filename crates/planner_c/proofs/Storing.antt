@@ -15,7 +15,7 @@ use Rattle.maxplus.specs.Finite.{each}
 use borrow.Author.Tests.{eq-eqb, ne-eqb}
 use Rattle.keeping.specs.declared.KeptTable.{KeptTable}
 use Rattle.planning.specs.declared.CuePlan.{CuePlan}
-use Rattle.planner_c.specs.Words.{pairs, plan-words, kept-words, needed-words, room-words}
+use Rattle.planner_c.specs.Words.{pairs, plan-words, kept-words, room-words}
 
 -- a word comes back as it was
 pub back : {z t : ℤ} → mag z < 2 ^ hbits w64 → z ≡ t → toZ w64 (ofZ w64 z) ≡ t
@@ -43,17 +43,8 @@ pub panel-more : (lent : List ℤ) {l a z : List ℤ} {v w : ℤ} (m : ℕ) (byt
     z ≡ sets lent 4 (pairs (m + 1) bytes counts)
 panel-more lent m bytes counts el ev ea ew ez = ez ∙ rw (ea, ew, el, ev) (pairs-more lent m bytes counts)
 
--- ---- a count needed
+-- ---- the count needed and the words of a line
 module _ (lent : List ℤ) where
-  pub needed-stored : {a : List ℤ} {v : ℤ} (at k c : ℕ) → k ≡ 9 → v ≡ pos c → a ≡ set lent at v → a ≡ needed-words at k c lent
-  unfolding needed-words
-  needed-stored at k c h ev ea = ea ∙ rw (ev, eq-eqb k 9 h) refl
-
-  pub none-needed : (at k c : ℕ) → ¬ (k ≡ 9) → lent ≡ needed-words at k c lent
-  unfolding needed-words
-  none-needed at k c f = rw (ne-eqb k 9 f) refl
-
-  -- with the words of a line
   pub room-stored : {a b : List ℤ} {v u : ℤ} (at wide-at k c w : ℕ) → k ≡ 9 → v ≡ pos c → a ≡ set lent at v → u ≡ pos w →
       b ≡ set a wide-at u → b ≡ room-words at wide-at k c w lent
   unfolding room-words

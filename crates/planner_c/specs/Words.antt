@@ -14,6 +14,7 @@ use Rattle.keeping.specs.declared.KeptTable.{KeptTable}
 use Rattle.planning.specs.declared.CuePlan.{CuePlan}
 use Rattle.comparing.specs.Comparing.{Comparison, unlike, first-refused, second-refused}
 use Rattle.comparing.specs.Comparing as comparison
+use Rattle.comparing.specs.declared.Extent.{Extent}
 use Rattle.reaching.specs.declared.Reached.{Reached}
 
 -- Words are stored from a place on; one that is past the end is dropped, and the rest stays (`sets`). The words of an answer are results,
@@ -49,22 +50,21 @@ test-number (refused k) = k
 
 -- 100 for the same timings, 101 for others, 102 for other numbers of triggers or other spares; the first sheet's refusal, or 200 more than the second's
 abbrev pub compare-number : Comparison → ℕ
-compare-number (comparison.answer true c d) = 100
-compare-number (comparison.answer false c d) = 101
-compare-number (unlike c d) = 102
-compare-number (first-refused k c) = k
-compare-number (second-refused k c) = 200 + k
+compare-number (comparison.answer true a b) = 100
+compare-number (comparison.answer false a b) = 101
+compare-number (unlike a b) = 102
+compare-number (first-refused k a) = k
+compare-number (second-refused k b) = 200 + k
 
--- for 9 "the count needed" at a place; for any other refusal nothing
-unfoldable pub needed-words : (at number count : ℕ) → List ℤ → List ℤ
-needed-words at k c lent = cond (eqb k 9) (sets lent at (pos c ∷ [])) lent
+-- the numbers of lines written, the first sheet's and the second's, and how many words a line of each takes; for 9 those needed, in their places
+unfoldable pub written-words : (first second : Extent) → List ℤ → List ℤ
+written-words a b lent = sets lent 0 (pos (a .count) ∷ pos (b .count) ∷ pos (a .width) ∷ pos (b .width) ∷ [])
 
--- the numbers of lines written, the first sheet's and the second's; for a sheet that is refused the count needed, in its place
 abbrev pub compare-words : Comparison → List ℤ → List ℤ
-compare-words (comparison.answer b c d) lent = sets lent 0 (pos c ∷ pos d ∷ [])
-compare-words (unlike c d) lent = sets lent 0 (pos c ∷ pos d ∷ [])
-compare-words (first-refused k c) lent = needed-words 0 k c lent
-compare-words (second-refused k c) lent = needed-words 1 k c lent
+compare-words (comparison.answer s a b) lent = written-words a b lent
+compare-words (unlike a b) lent = written-words a b lent
+compare-words (first-refused k a) lent = room-words 0 2 k (a .count) (a .width) lent
+compare-words (second-refused k b) lent = room-words 1 3 k (b .count) (b .width) lent
 
 -- the number of lines, the timing's six components, 0 for the unused ones, and how many words a line takes; for 9 count and words in their
 -- places

@@ -4,7 +4,7 @@ ghost use Prim.Native.Nat.{_≤_};
 ghost use lib.IntN.{pos};
 ghost use lib.ListN.{set};
 ghost use lib.Seq.{sets};
-ghost use Rattle.planner_c.specs.Words.{pairs, plan-words, kept-words, needed-words, room-words};
+ghost use Rattle.planner_c.specs.Words.{pairs, plan-words, kept-words, room-words};
 ghost use Rattle.cue.specs.Sizes.{size-limit, most-lines};
 use keeping::KeptTable;
 use planning::CuePlan;
@@ -35,16 +35,6 @@ pub fn put(lent: &mut [i64], at: usize, v: i64)
 {
     if at < lent.len() {
         lent[at] = v;
-    }
-}
-
-// For 9 the count needed, at a place.
-pub fn put_needed(lent: &mut [i64], at: usize, number: u8, count: usize)
-    requires { ⌜ count ≤ most-lines ⌝ }
-    ensures { λ _. ⌜ now (lent .exit) ≡ needed-words at number count (now (lent .entry)) ⌝ }
-{
-    if number == 9 {
-        put(lent, at, count_word(count));
     }
 }
 

@@ -1,52 +1,51 @@
 // What comparing two sheets answers, as a number and as words.
 ghost use mathlib.Core.Path.{_≡_};
-ghost use mathlib.Core.List.{[], _∷_};
-ghost use Prim.Native.Nat.{_≤_};
-ghost use lib.IntN.{pos};
-ghost use lib.Seq.{sets};
 ghost use Rattle.comparing.specs.Comparing.{compare-answer};
-ghost use Rattle.planner_c.specs.Words.{compare-number, compare-words};
-ghost use Rattle.cue.specs.Sizes.{most-lines};
-ghost use Rattle.planner_c.specs.Inner.{Counted};
+ghost use Rattle.planner_c.specs.Words.{compare-number, compare-words, written-words};
+ghost use Rattle.planner_c.specs.Inner.{Few, Counted};
 use crate::answers::count_word;
 use crate::answers::put;
-use crate::answers::put_needed;
+use crate::answers::put_room;
 use comparing::Compared;
+use comparing::Extent;
 
-// 100, 101 or 102 with the two numbers of lines, or a refusal, to which 200 is added for the second sheet; with 9 goes the count needed.
+// 100, 101 or 102 with how much was written, or a refusal, to which 200 is added for the second sheet; with 9 goes how much is needed.
 pub fn answer_compared(lent: &mut [i64], r: Compared) -> u32
     requires { ⌜ Counted (compare-answer r) ⌝ }
     ensures number { λ n. ⌜ n ≡ compare-number (compare-answer r) ⌝ }
     ensures words { λ n. ⌜ now (lent .exit) ≡ compare-words (compare-answer r) (now (lent .entry)) ⌝ }
 {
     match r {
-        Compared::Same(c) => {
-            put_counts(lent, c, c);
+        Compared::Same(a, b) => {
+            put_extents(lent, a, b);
             100
         }
-        Compared::Different(c, d) => {
-            put_counts(lent, c, d);
+        Compared::Different(a, b) => {
+            put_extents(lent, a, b);
             101
         }
-        Compared::Unlike(c, d) => {
-            put_counts(lent, c, d);
+        Compared::Unlike(a, b) => {
+            put_extents(lent, a, b);
             102
         }
-        Compared::FirstRefused(k, c) => {
-            put_needed(lent, 0, k, c);
+        Compared::FirstRefused(k, a) => {
+            put_room(lent, 0, 2, k, a.count, a.width);
             k as u32
         }
-        Compared::SecondRefused(k, c) => {
-            put_needed(lent, 1, k, c);
+        Compared::SecondRefused(k, b) => {
+            put_room(lent, 1, 3, k, b.count, b.width);
             200 + k as u32
         }
     }
 }
 
-fn put_counts(lent: &mut [i64], first: usize, second: usize)
-    requires { ⌜ (first ≤ most-lines) × (second ≤ most-lines) ⌝ }
-    ensures { λ _. ⌜ now (lent .exit) ≡ sets (now (lent .entry)) 0 (pos first ∷ pos second ∷ []) ⌝ }
+// The numbers of lines, then how many words a line of each list takes.
+fn put_extents(lent: &mut [i64], a: Extent, b: Extent)
+    requires { ⌜ Few a × Few b ⌝ }
+    ensures { λ _. ⌜ now (lent .exit) ≡ written-words a b (now (lent .entry)) ⌝ }
 {
-    put(lent, 0, count_word(first));
-    put(lent, 1, count_word(second));
+    put(lent, 0, count_word(a.count));
+    put(lent, 1, count_word(b.count));
+    put(lent, 2, count_word(a.width));
+    put(lent, 3, count_word(b.width));
 }

@@ -83,8 +83,8 @@ pub extern "C" fn tuzhelar_latest(
 }
 
 // 100 if the same timings are tightest on both sheets, 101 if they are not, 102 if the numbers of triggers or the spares differ; or the first
-// sheet's refusal, or 200 more than the second's. The lists go to the fronts of the spaces, their numbers of lines to the answer; for 9 the
-// count needed alone.
+// sheet's refusal, or 200 more than the second's. The lists go to the fronts of the spaces, their numbers of lines and how many words a line of
+// each takes to the answer; for 9 count and words of that sheet alone.
 #[no_mangle]
 pub extern "C" fn tuzhelar_same(
     first: &[u8],

@@ -57,7 +57,7 @@ mod plan;
 mod refusal;
 mod same;
 
-use list::{List, line_words};
+use list::List;
 
 pub use latest::{Latest, latest};
 pub use list::Line;
@@ -197,10 +197,9 @@ pub fn same<'a>(
     left: &'a mut [i32],
     right: &'a mut [i32],
 ) -> Result<Compared<'a>, SheetRefusal> {
-    let mut answer = [0; 2];
+    let mut answer = [0; 4];
     let number = ffi::same(first, second, left, right, &mut answer);
-    let counts = answer.map(|count| count as usize);
-    let words = [line_words(first), line_words(second)];
+    let [counts, words] = [[0, 1], [2, 3]].map(|two| two.map(|at| answer[at] as usize));
     let likeness = match number {
         SAME => Likeness::Same,
         DIFFERENT => Likeness::Different,

@@ -1,6 +1,6 @@
 //! The lines of a list at the front of a lent space.
 
-use crate::{CAPPED_WORDS, LINE_WORDS, MOST};
+use crate::{LINE_WORDS, MOST};
 use std::fmt;
 
 /// The word of an absent component.
@@ -71,16 +71,6 @@ impl fmt::Display for Line {
 /// Whether a set has the trigger at a place, from 0.
 pub(crate) fn has(set: u8, place: usize) -> bool {
     (set >> place) & 1 == 1
-}
-
-/// How many words a line of a good sheet takes: no other line of one has the bytes `last=`. Comparing alone
-/// does not return it.
-pub(crate) fn line_words(sheet: &[u8]) -> usize {
-    if sheet.windows(5).any(|bytes| bytes == b"last=") {
-        CAPPED_WORDS
-    } else {
-        LINE_WORDS
-    }
 }
 
 /// A list by its words, of which each line takes seven or, with its cap, eight.

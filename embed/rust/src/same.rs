@@ -71,7 +71,7 @@ impl SheetRefusal {
     }
 
     /// The refusal of a number that the library returned, with the counts that come with 9 and 209 and the
-    /// words that a line of each sheet takes.
+    /// words that a line then takes.
     pub(crate) fn of(number: u32, counts: [usize; 2], line_words: [usize; 2]) -> SheetRefusal {
         if number > SECOND {
             SheetRefusal::Second(Refusal::of(number - SECOND, counts[1], line_words[1]))
