@@ -34,7 +34,7 @@ use Rattle.sheet.proofs.Decided.{alike?}
 use Rattle.sheet.proofs.OrderedLaws.{ordered-by, ordered-refused}
 use Rattle.planning.proofs.PlanLaws.{planning-refused}
 use Rattle.maxplus.proofs.FiniteLaws.{equal, unequal, decided-yes, decided-no}
-use Rattle.lines.proofs.SheetLaws.{width-room, wide-there}
+use Rattle.laying.proofs.WidthLaws.{width-room, wide-there}
 use Rattle.cue.specs.Written.{line-size, width, uncapped}
 
 -- ---- an answer taken

@@ -1,7 +1,3 @@
 -- Laws of listing, in the order in which one file builds on another.
 pub mod ListingLaws
 pub mod TurnLaws
-pub mod LayLaws
-pub mod CapLaws
-pub mod FinishLaws
-pub mod SheetLaws

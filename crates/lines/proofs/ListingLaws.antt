@@ -2,10 +2,10 @@
 use mathlib.Core.Path.{_≡_, refl, ap, ap₂, sym, subst, _∙_}
 use mathlib.Core.Logic.{inl, inr}
 use mathlib.Core.List.{List, [], _∷_, _++_}
-use Prim.Native.Nat.{ℕ, zero, suc, _≤_, _<_}
+use Prim.Native.Nat.{ℕ, zero, suc, _*_, _≤_, _<_}
 use native.Mathlib.Omega.{arith}
-use lib.IntN.{pos}
-use lib.ListN.{length, getD, take, drop, length-take, take-append-drop}
+use lib.IntN.{ℤ, pos}
+use lib.ListN.{length, getD, take, drop, length-append, length-take, take-append-drop}
 use lib.Seq.{split-at, take-all, getD-take}
 use Rattle.maxplus.specs.Entry.{E, absent, num, Present}
 use Rattle.maxplus.specs.Finite.{In}
@@ -19,6 +19,8 @@ use Rattle.maxplus.specs.Above.{above}
 use Rattle.maxplus.proofs.SortedLaws.{in-above, above-sorted, sorted-eq}
 use Rattle.cue.specs.Cue.{Cue}
 use Rattle.cue.specs.Method.{lines}
+use Rattle.cue.specs.Written.{line-size, list-words}
+use Rattle.cue.proofs.WrittenLaws.{list-words-length}
 use Rattle.cue.proofs.Extreme.{lines-increasing, lines-normal}
 use Rattle.cue.proofs.Bounds.{line-within}
 use Rattle.words.specs.Words.{entry}
@@ -37,6 +39,8 @@ use Rattle.gather.specs.Gathering.{rest, Filled}
 use Rattle.buffer.proofs.ListLaws.{in-take}
 use Rattle.buffer.proofs.HeldLaws.{stored-length, row-line}
 use Rattle.cue.specs.Sizes.{size-limit}
+use Rattle.lines.specs.Listing.{Answers}
+use Rattle.lines.specs.declared.Listed.the-variants.{Lines}
 
 -- ---- a line with no component stands below every line that has one
 below-some : (n : ℕ) (x : Vec) (c : Line n) (j : ℕ) → j < n → ((k : ℕ) → x k ≡ absent) → Present (at n c j) → ltL n (line n x) c
@@ -130,3 +134,10 @@ held-close {n} {len} {P} {buf = buf} {last} p s w h = (
     member : In (line-of n w) (lines n P)
     member = in-above (ltL n) (strict n) (line-of n last) (lines n P) (line-of n w) .0 (in-take room (rest n P (line-of n last)) (line-of n w)
         (subst (λ l. In (line-of n w) l) (s .stored .lines) (in-map (line-of n) (take len buf) w h))) .0
+
+-- a list that was written has its words in the space
+pub listed-room : (n : ℕ) (L : List (Line n)) (room : ℕ) (before : List ℤ) {k : ℕ} {after : List ℤ} → Answers n L room before after (Lines k) →
+    line-size * k ≤ length after
+listed-room n L room before a =
+    let l = length-append (list-words n L) (drop (line-size * length L) before) in
+    rw (a .2, a .0) (omega (arith, l, list-words-length n L))

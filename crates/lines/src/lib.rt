@@ -2,45 +2,25 @@
 ghost use Rattle.cue.specs.Cue.{Cue};
 ghost use Rattle.cue.specs.Method.{lines};
 ghost use Rattle.candidates.specs.Drawable.{Drawable};
-ghost use mathlib.Core.Path.{_≡_};
-ghost use mathlib.Core.List.{List};
 ghost use Prim.Native.Nat.{_*_, _≤_};
-ghost use lib.IntN.{ℤ};
 ghost use lib.ListN.{length};
-ghost use Rattle.cue.specs.Written.{line-size, width, with-list};
-ghost use Rattle.sheet.specs.Sheet.{Sheet, given};
-ghost use Rattle.sheet.specs.Cue.{sheet-lines, sheet-caps};
-ghost use Rattle.lines.specs.Listing.{Answers, Listing};
-use crate::cap::add_caps;
+ghost use Rattle.cue.specs.Written.{line-size};
+ghost use Rattle.lines.specs.Listing.{Answers};
 use crate::count::count_lines;
-use crate::lay::lay_out;
 use crate::write::write_held;
 use crate::write::write_lines;
 use buffer::ROOM;
 use candidates::Marks;
 use gather::gather;
-use moments::Moments;
-use spares::Places;
-use words::CAPPED_SIZE;
-use words::LINE_SIZE;
 use words::LineWords;
 
-pub mod cap;
 mod count;
-mod lay;
 mod write;
 
 // The count of lines written, or of those that do not fit.
 pub enum Listed {
     Lines(usize),
     NoRoom(usize),
-}
-
-// The words that a line takes: with a cap where the sheet has a last line.
-pub fn width(capped: bool) -> usize
-    ensures { λ r. ⌜ ((t : Sheet) → capped ≡ given (t .last) → r ≡ width (sheet-caps t)) ⌝ }
-{
-    if capped { CAPPED_SIZE } else { LINE_SIZE }
 }
 
 // The list at the front of the lent space, seven words a line, or its count and no change, where there is room for so many lines.
@@ -78,17 +58,4 @@ pub fn list(
     }
     write_lines(out, marks, star, lag, needs);
     Listed::Lines(count)
-}
-
-// From the list of a cue to the sheet's: each line laid out over the sheet's triggers, and with its cap if the sheet has a last line.
-pub fn finish(space: &mut [i32], count: usize, p: Places, moments: Moments)
-    requires { ⌜ ((t : Sheet) × (before : List ℤ) × Listing t before count (now space) p moments) ⌝ }
-    ensures { λ _. ⌜ ((t : Sheet) (before : List ℤ) → Listing t before count (now (space .entry)) p moments →
-        now (space .exit) ≡ with-list (t .triggers) (sheet-caps t) (sheet-lines t) before) ⌝ }
-{
-    lay_out(space, count, p);
-    let overruns = moments.overruns;
-    if moments.given {
-        add_caps(space, count, p.triggers, overruns);
-    }
 }

@@ -14,7 +14,7 @@ use Rattle.sheet.specs.Sheet as spec
 use Rattle.sheet.specs.Meaning.{spare}
 use Rattle.sheet.specs.Cue.{Orderly, sheet-least, sheet-steps, sheet-selections, sheet-caps, sheet-lines}
 use Rattle.walk.specs.declared.Counts.{Counts}
-use Rattle.lines.specs.Listing.{Lists}
+use Rattle.laying.specs.Laying.{Lists}
 use Rattle.lines.specs.declared.Listed.the-variants.{Lines, NoRoom}
 use Rattle.sheet.specs.Ordered.{ordered}
 use Rattle.sheet.proofs.OrderedLaws.{ordered-refused, ordered-8, ordered-got}

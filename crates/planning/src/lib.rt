@@ -4,14 +4,14 @@ ghost use mathlib.Core.List.{List};
 ghost use Prim.Native.Nat.{ℕ};
 ghost use Rattle.sheet.specs.Sheet.{Sheet};
 ghost use Rattle.preparing.specs.Prepared.{Made};
-ghost use Rattle.lines.specs.Listing.{Lists};
+ghost use Rattle.laying.specs.Laying.{Lists};
 ghost use Rattle.cue.specs.Written.{width};
 ghost use Rattle.sheet.specs.Cue.{sheet-caps};
 ghost use Rattle.planning.specs.Planning as outcome;
 ghost use Rattle.planning.specs.Planning.{planning, space-after, plan-answer};
+use laying::finish;
+use laying::width;
 use lines::Listed;
-use lines::finish;
-use lines::width;
 use preparing::Prepared;
 
 // Document 01's refusal, 1 to 8, and nothing else; 9 and the count needed; or 0, the sheet's number of triggers, those of them that are spare

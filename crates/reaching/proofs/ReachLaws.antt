@@ -17,7 +17,7 @@ use Rattle.sheet.specs.Admitted.{admitted}
 use Rattle.sheet.proofs.Latest.{latest-on, latest-exists}
 use Rattle.timing.specs.Times.{timing-of}
 use Rattle.timing.specs.declared.Timing as words
-use Rattle.lines.specs.Listing.{Lists}
+use Rattle.laying.specs.Laying.{Lists}
 use Rattle.lines.specs.declared.Listed.the-variants.{Lines, NoRoom}
 use Rattle.reaching.specs.Reaching.{ReachOutcome, reached, full, refused, reach-of, reaching, reached-space, reach-answer}
 use Rattle.reaching.specs.declared.Reached.{Reached}

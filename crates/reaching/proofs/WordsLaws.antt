@@ -33,7 +33,7 @@ use Rattle.timing.specs.declared.Timing as words
 use Rattle.timing.proofs.NumberLaws.{component-of, timing-same}
 use Rattle.lines.specs.Listing.{Answers}
 use Rattle.lines.specs.declared.Listed.the-variants.{Lines}
-use Rattle.lines.proofs.SheetLaws.{listed-room}
+use Rattle.lines.proofs.ListingLaws.{listed-room}
 use Rattle.reaching.specs.Inner.{Weighable}
 
 module _ (s : List ℕ) (count : ℕ) (G : Timing) (t : Sheet) (x : List ℕ) (e : admitted s count G ≡ got t x) where

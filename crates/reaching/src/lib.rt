@@ -17,9 +17,9 @@ ghost use Rattle.reaching.specs.Reaching.{reaching, reached-space, reach
 ghost use Rattle.reaching.specs.Inner.{answered};
 use crate::weighed::latest;
 use admitting::times_in_use;
+use laying::finish;
+use laying::width;
 use lines::Listed;
-use lines::finish;
-use lines::width;
 use moments::Moments;
 use moments::lowered;
 use spares::Places;

@@ -15,7 +15,7 @@ ghost use Rattle.words.specs.Words.{entry, signed-far, Near};
 ghost use Rattle.tables.specs.Held.{meantV, HoldsV, CloselyV};
 ghost use Rattle.timing.specs.Times.{timing-of};
 ghost use Rattle.reaching.specs.Inner.{most-within, Weighable};
-use lines::cap::line_at;
+use laying::cap::line_at;
 use tables::largest::overdue;
 use tables::raise;
 use timing::Timing;

@@ -4,7 +4,8 @@ use native.Mathlib.Omega.{arith}
 use borrow.Author.Needs.{needs}
 use Rattle.sheet.specs.Cue.{cue-of, sheet-caps}
 use Rattle.lines.specs.Listing.{Answers}
-use Rattle.lines.proofs.SheetLaws.{wide-there, room-fits, room-same, listing, listed-lines, listed-full}
+use Rattle.laying.proofs.WidthLaws.{wide-there, room-fits, room-same}
+use Rattle.laying.proofs.SheetLaws.{listing, listed-lines, listed-full}
 use Rattle.planning.proofs.list_sheet.Statement.{statement}
 use Rattle.planning.proofs.list_sheet.Tie as tie
 

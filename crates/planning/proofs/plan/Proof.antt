@@ -11,7 +11,7 @@ use Rattle.sheet.specs.Sheet as spec
 use Rattle.sheet.proofs.Spares.{unused-byte}
 use Rattle.preparing.specs.Prepared.{Made}
 use Rattle.walk.proofs.Follows.{counts-follow}
-use Rattle.lines.specs.Listing.{Lists}
+use Rattle.laying.specs.Laying.{Lists}
 use Rattle.sheet.specs.Ordered.{ordered}
 use Rattle.planning.proofs.PlanLaws.{does-refused, does-lines, does-full}
 use Rattle.planning.proofs.plan.Statement.{statement}

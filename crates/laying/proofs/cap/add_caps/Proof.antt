@@ -1,8 +1,8 @@
--- `lines::cap::add_caps` meets its contract: the first `k` lines are left to be moved.
+-- `laying::cap::add_caps` meets its contract: the first `k` lines are left to be moved.
 use native.Mathlib.Omega.{arith}
-use Rattle.lines.proofs.CapLaws.{Capping, capping-none, capping-more, capping-all, next-cappable}
-use Rattle.lines.proofs.cap.add_caps.Statement.{statement}
-use Rattle.lines.proofs.cap.add_caps.Tie as tie
+use Rattle.laying.proofs.CapLaws.{Capping, capping-none, capping-more, capping-all, next-cappable}
+use Rattle.laying.proofs.cap.add_caps.Statement.{statement}
+use Rattle.laying.proofs.cap.add_caps.Tie as tie
 
 abbrev Inv-loop : tie.InvT-loop
 Inv-loop space₀ count n overruns k₀ space k = Capping n overruns count space₀ space k

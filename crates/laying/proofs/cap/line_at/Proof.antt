@@ -1,4 +1,4 @@
--- `lines::cap::line_at` meets its contract: the entries of the first `j` components are written. Assumes nothing.
+-- `laying::cap::line_at` meets its contract: the entries of the first `j` components are written. Assumes nothing.
 use mathlib.Core.Path.{ap, sym, _∙_}
 use Prim.Native.Nat.{_-_, _≤_}
 use native.Mathlib.Omega.{arith}
@@ -9,9 +9,9 @@ use Rattle.cue.specs.Standing.{of-signed, line-at}
 use Rattle.words.specs.Words.{signed-far}
 use Rattle.tables.specs.Lines.{WordsOf}
 use Rattle.tables.proofs.LineLaws.{written-none, written-more, written-all}
-use Rattle.lines.proofs.LayLaws.{read-back}
-use Rattle.lines.proofs.cap.line_at.Statement.{statement}
-use Rattle.lines.proofs.cap.line_at.Tie as tie
+use Rattle.laying.proofs.LayLaws.{read-back}
+use Rattle.laying.proofs.cap.line_at.Statement.{statement}
+use Rattle.laying.proofs.cap.line_at.Tie as tie
 
 abbrev Inv-loop : tie.InvT-loop
 Inv-loop space from n r₀ j₀ r j = (j ≤ n) × WordsOf j signed-far (at n (line-at n space from)) r

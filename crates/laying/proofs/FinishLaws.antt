@@ -29,7 +29,7 @@ use Rattle.tables.specs.Held.{meantV}
 use Rattle.moments.specs.declared.Moments.{Moments}
 use Rattle.spares.specs.declared.Places.{Places}
 use Rattle.spares.specs.Using.{PlacesOf}
-use Rattle.lines.specs.Listing.{CapOf, Cappable, Listing}
+use Rattle.laying.specs.Laying.{CapOf, Cappable, Listing}
 
 -- a last line is there
 last-there : (last : Option (ℕ → ℤ)) → given last ≡ true → (b : ℕ → ℤ) × (last ≡ some b)

@@ -31,8 +31,8 @@ use Rattle.tables.specs.Held.{meantV, HoldsV}
 use Rattle.tables.proofs.LineLaws.{line-same}
 use Rattle.buffer.specs.Space.{laid}
 use Rattle.buffer.proofs.SpaceLaws.{list-words-more, list-words-single}
-use Rattle.lines.specs.Listing.{CappableLine, Cappable}
-use Rattle.lines.proofs.LayLaws.{component-word, word-set}
+use Rattle.laying.specs.Laying.{CappableLine, Cappable}
+use Rattle.laying.proofs.LayLaws.{component-word, word-set}
 
 -- ---- the words of a line with its cap, one after the other: j of the six components and the cap are written behind the count
 pub record Putting (components : List ℤ) (cap : ℤ) (first : List ℤ) (from : ℕ) (out : List ℤ) (j : ℕ) : Type 0 where

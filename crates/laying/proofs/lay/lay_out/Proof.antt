@@ -1,10 +1,10 @@
--- `lines::lay::lay_out` meets its contract: without a spare trigger all lines are laid out as they stand, else the first `i` of them are.
+-- `laying::lay::lay_out` meets its contract: without a spare trigger all lines are laid out as they stand, else the first `i` of them are.
 use mathlib.Core.Path.{refl}
 use Prim.Native.Nat.{_-_, _≤_}
 use native.Mathlib.Omega.{arith}
-use Rattle.lines.proofs.LayLaws.{LaidOut, laid-out-none, laid-out-more, laid-out-all, laid-out-before}
-use Rattle.lines.proofs.lay.lay_out.Statement.{statement}
-use Rattle.lines.proofs.lay.lay_out.Tie as tie
+use Rattle.laying.proofs.LayLaws.{LaidOut, laid-out-none, laid-out-more, laid-out-all, laid-out-before}
+use Rattle.laying.proofs.lay.lay_out.Statement.{statement}
+use Rattle.laying.proofs.lay.lay_out.Tie as tie
 
 abbrev Inv-loop : tie.InvT-loop
 Inv-loop space₀ count p i₀ space i = (i ≤ count) × LaidOut p space₀ space i

@@ -1,4 +1,4 @@
--- `lines::lay::lay_line` meets its contract: the first `j` triggers have been looked at, and `k` of them are in use.
+-- `laying::lay::lay_line` meets its contract: the first `j` triggers have been looked at, and `k` of them are in use.
 use mathlib.Core.Path.{ap, sym, _∙_}
 use mathlib.Core.Logic.{⊎-elim}
 use Prim.Native.Nat.{_-_, _≤_}
@@ -11,9 +11,9 @@ use Rattle.cue.specs.Sizes.{size-limit}
 use Rattle.cue.specs.Written.{signed}
 use Rattle.words.specs.Words.{signed-far}
 use Rattle.words.proofs.Laws.{entry-zero, close-none}
-use Rattle.lines.proofs.LayLaws.{read-back, Laying, laying-none, laying-used, laying-spare, laying-all}
-use Rattle.lines.proofs.lay.lay_line.Statement.{statement}
-use Rattle.lines.proofs.lay.lay_line.Tie as tie
+use Rattle.laying.proofs.LayLaws.{read-back, Laying, laying-none, laying-used, laying-spare, laying-all}
+use Rattle.laying.proofs.lay.lay_line.Statement.{statement}
+use Rattle.laying.proofs.lay.lay_line.Tie as tie
 
 abbrev Inv-loop : tie.InvT-loop
 Inv-loop space₀ from p packed n k₀ j₀ space k j = (j ≤ size-limit) × Laying p packed space₀ from space k j

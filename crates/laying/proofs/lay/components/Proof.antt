@@ -1,8 +1,8 @@
--- `lines::lay::components` meets its contract: the six words are read one by one.
+-- `laying::lay::components` meets its contract: the six words are read one by one.
 use borrow.Author.Needs.{needs}
-use Rattle.lines.proofs.LayLaws.{six-read, read-back}
-use Rattle.lines.proofs.lay.components.Statement.{statement}
-use Rattle.lines.proofs.lay.components.Tie as tie
+use Rattle.laying.proofs.LayLaws.{six-read, read-back}
+use Rattle.laying.proofs.lay.components.Statement.{statement}
+use Rattle.laying.proofs.lay.components.Tie as tie
 
 add-t3 : tie.Need-add-t3
 add-t3 c = search needs

@@ -1,4 +1,4 @@
--- `lines::cap::put_capped` meets its contract: behind the count the first `j` words are written, and the cap behind all six.
+-- `laying::cap::put_capped` meets its contract: behind the count the first `j` words are written, and the cap behind all six.
 use mathlib.Core.Path.{_∙_}
 use Prim.Native.Nat.{_+_, _-_, _≤_}
 use native.Mathlib.Omega.{arith}
@@ -7,10 +7,10 @@ use mir.Syntax.{w32}
 use mir.Val.{toZ, ofZ}
 use mir.Facts.{toZ-pos, toZ-ofZ}
 use Rattle.cue.specs.Sizes.{size-limit}
-use Rattle.lines.proofs.LayLaws.{read-back}
-use Rattle.lines.proofs.CapLaws.{Putting, putting-none, putting-more, putting-all}
-use Rattle.lines.proofs.cap.put_capped.Statement.{statement}
-use Rattle.lines.proofs.cap.put_capped.Tie as tie
+use Rattle.laying.proofs.LayLaws.{read-back}
+use Rattle.laying.proofs.CapLaws.{Putting, putting-none, putting-more, putting-all}
+use Rattle.laying.proofs.cap.put_capped.Statement.{statement}
+use Rattle.laying.proofs.cap.put_capped.Tie as tie
 
 abbrev Inv-loop : tie.InvT-loop
 Inv-loop space₀ at n w line j₀ space j = (j ≤ size-limit) × Putting line (toZ w32 w) space₀ at space j

@@ -1,12 +1,12 @@
--- `lines::cap::add_cap` meets its contract: the cap is worked out from the line's entries, and the words are moved as they stand.
+-- `laying::cap::add_cap` meets its contract: the cap is worked out from the line's entries, and the words are moved as they stand.
 use mathlib.Core.Path.{_∙_}
 use native.Mathlib.Omega.{arith}
 use borrow.Author.Needs.{needs}
 use Rattle.maxplus.proofs.EachLaws.{length-each}
-use Rattle.lines.proofs.LayLaws.{read-back}
-use Rattle.lines.proofs.CapLaws.{cap-entry, cap-close, line-moved}
-use Rattle.lines.proofs.cap.add_cap.Statement.{statement}
-use Rattle.lines.proofs.cap.add_cap.Tie as tie
+use Rattle.laying.proofs.LayLaws.{read-back}
+use Rattle.laying.proofs.CapLaws.{cap-entry, cap-close, line-moved}
+use Rattle.laying.proofs.cap.add_cap.Statement.{statement}
+use Rattle.laying.proofs.cap.add_cap.Tie as tie
 
 mul-from : tie.Need-mul-from
 mul-from c = omega arith

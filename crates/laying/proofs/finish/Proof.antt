@@ -1,8 +1,8 @@
--- `lines::finish` meets its contract: the cue's lines are laid out, and where the sheet has a last line each gets its cap.
+-- `laying::finish` meets its contract: the cue's lines are laid out, and where the sheet has a last line each gets its cap.
 use borrow.Author.Needs.{needs}
-use Rattle.lines.proofs.FinishLaws.{listing-room, caps-ready, finished-capped, finished-plain}
-use Rattle.lines.proofs.finish.Statement.{statement}
-use Rattle.lines.proofs.finish.Tie as tie
+use Rattle.laying.proofs.FinishLaws.{listing-room, caps-ready, finished-capped, finished-plain}
+use Rattle.laying.proofs.finish.Statement.{statement}
+use Rattle.laying.proofs.finish.Tie as tie
 
 lay-out-requires : tie.Need-lay-out-requires
 lay-out-requires c κs = let (t, before, l) = c .before .pre in (listing-room l, (_, _, l .placed))

@@ -13,7 +13,7 @@ ghost use Rattle.cue.specs.Written.{line-size, capped-size, line-words, lent-wo
 ghost use Rattle.words.specs.Words.{signed-far};
 ghost use Rattle.tables.specs.Lines.{Carries};
 ghost use Rattle.buffer.specs.Space.{laid};
-ghost use Rattle.lines.specs.Listing.{Cappable, CappableLine};
+ghost use Rattle.laying.specs.Laying.{Cappable, CappableLine};
 use crate::lay::components;
 use words::CAPPED_SIZE;
 use words::LINE_SIZE;

@@ -1,8 +1,8 @@
--- `lines::width` meets its contract.
+-- `laying::width` meets its contract.
 use mathlib.Core.Path.{sym, _∙_}
-use Rattle.lines.proofs.SheetLaws.{width-capped, width-plain}
-use Rattle.lines.proofs.width.Statement.{statement}
-use Rattle.lines.proofs.width.Tie as tie
+use Rattle.laying.proofs.WidthLaws.{width-capped, width-plain}
+use Rattle.laying.proofs.width.Statement.{statement}
+use Rattle.laying.proofs.width.Tie as tie
 
 returns : tie.Need-returns
 returns c t e = width-capped t (sym e ∙ c .if1 .taken)
