@@ -1,5 +1,6 @@
 //! The sheets of request 6, "a load the hire shop can repeat".
 
+use crate::random::Random;
 use std::iter::repeat_n;
 
 /// Whether a drawn item may be, must not be, or always is absent.
@@ -57,4 +58,15 @@ impl Draws {
 pub fn chained(count: usize) -> Vec<Vec<u8>> {
     let mut draws = Draws { state: 1 };
     (0..count).map(|_| draws.sheet(6).into_bytes()).collect()
+}
+
+/// These sheets, each with further lines behind it.
+pub fn chained_with(count: usize, further: fn(&str, &mut Random) -> String) -> Vec<Vec<u8>> {
+    let mut random = Random { state: 1 };
+    let mut sheets = chained(count);
+    for sheet in &mut sheets {
+        let lines = further(&String::from_utf8_lossy(sheet), &mut random);
+        sheet.extend(lines.into_bytes());
+    }
+    sheets
 }

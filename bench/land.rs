@@ -12,15 +12,7 @@ const ROOM: usize = 1000;
 
 /// The first sheets of the chain, each with six land lines.
 pub fn chained(count: usize) -> Vec<Vec<u8>> {
-    let mut random = Random { state: 1 };
-    let sheets = hire::chained(count).into_iter();
-    sheets
-        .map(|mut sheet| {
-            let land = land_lines(&String::from_utf8_lossy(&sheet), &mut random);
-            sheet.extend(land.into_bytes());
-            sheet
-        })
-        .collect()
+    hire::chained_with(count, land_lines)
 }
 
 /// Land lines that the earliest times keep: an entry c(i,j) is at most x(i) − y(j).

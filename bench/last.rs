@@ -9,15 +9,7 @@ const ROOM: usize = 1000;
 
 /// The first sheets of the chain, each with a last line.
 pub fn chained(count: usize) -> Vec<Vec<u8>> {
-    let mut random = Random { state: 1 };
-    let sheets = hire::chained(count).into_iter();
-    sheets
-        .map(|mut sheet| {
-            let last = last_line(&String::from_utf8_lossy(&sheet), &mut random);
-            sheet.extend(last.into_bytes());
-            sheet
-        })
-        .collect()
+    hire::chained_with(count, last_line)
 }
 
 fn last_line(sheet: &str, random: &mut Random) -> String {

@@ -1,12 +1,11 @@
 -- The times that are lent, as the six components of a timing: as many as are lent are taken, and more than six are none of a sheet's.
 use mathlib.Core.Path.{_≡_, refl, ap, sym, _∙_, fun-ext}
-use mathlib.Core.List.{List, [], _∷_}
+use mathlib.Core.List.{List}
 use Prim.Native.Nat.{ℕ, _≤_, _<_}
 use native.Mathlib.Omega.{arith}
 use native.Mathlib.Decide.{decLt}
 use lib.IntN.{ℤ, pos}
 use lib.ListN.{length, List·getD-eq-default}
-use Rattle.maxplus.specs.Finite.{each}
 use Rattle.maxplus.proofs.EachLaws.{length-each, each-at}
 use Rattle.cue.specs.Sizes.{size-limit, six}
 use Rattle.sheet.specs.Meaning.{Timing}
@@ -16,11 +15,6 @@ use Rattle.sheet.specs.Admitted.{admitted}
 use Rattle.sheet.proofs.Good.{read-good}
 use Rattle.sheet.proofs.AdmittedLaws.{admitted-refused, admitted-10}
 use Rattle.timing.specs.Times.{component}
-
-pub six-listed : (lent : List ℤ) {a b c d e f : ℤ} → a ≡ component lent 0 → b ≡ component lent 1 → c ≡ component lent 2 →
-    d ≡ component lent 3 → e ≡ component lent 4 → f ≡ component lent 5 → a ∷ b ∷ c ∷ d ∷ e ∷ f ∷ [] ≡ six (component lent)
-unfolding each
-six-listed lent ea eb ec ed ee ef = rw (ea, eb, ec, ed, ee, ef) refl
 
 -- the components of at most six times are these times
 six-same : (lent : List ℤ) → length lent ≤ size-limit → component (six (component lent)) ≡ component lent

@@ -8,18 +8,13 @@ ghost use Rattle.keeping.specs.Keeping.{keeping, kept-answer};
 ghost use Rattle.comparing.specs.Comparing.{comparing, compared-space};
 ghost use Rattle.reaching.specs.Reaching.{reaching, reached-space, reach-answer};
 ghost use Rattle.timing.specs.Times.{component};
-ghost use Rattle.planner_c.specs.Words.{plan-words, kept-words, test-number, compare-number, compare-words, reach-words};
-use crate::answers::write_kept;
-use crate::answers::write_plan;
-use crate::compared::answer_compared;
-use crate::reached::write_reached;
-use crate::times::lent_timing;
+ghost use Rattle.answer_words.specs.Words.{plan-words, kept-words, test-number, compare-number, compare-words, reach-words};
+use answer_words::answers::write_kept;
+use answer_words::answers::write_plan;
+use answer_words::compared::answer_compared;
+use answer_words::reached::write_reached;
+use answer_words::times::lent_timing;
 use testing::Tested;
-
-mod answers;
-mod compared;
-mod reached;
-mod times;
 
 // 0 or the refusal. The list goes to the front of the space; deviation, steps, selections, count, the spare triggers, bit 0 for trigger 1, and how
 // many words a line takes to the answer; for 9 count and words alone.

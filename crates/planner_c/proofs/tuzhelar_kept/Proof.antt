@@ -2,7 +2,7 @@
 use mathlib.Core.Path.{ap, sym, subst, _∙_}
 use Prim.Native.Nat.{_≤_}
 use Rattle.keeping.specs.declared.KeptTable.{KeptTable}
-use Rattle.planner_c.specs.Words.{kept-words}
+use Rattle.answer_words.specs.Words.{kept-words}
 use Rattle.planner_c.proofs.Few.{panels-few}
 use borrow.Author.Needs.{needs}
 use Rattle.planner_c.proofs.tuzhelar_kept.Statement.{statement}

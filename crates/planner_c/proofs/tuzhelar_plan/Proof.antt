@@ -2,7 +2,7 @@
 use mathlib.Core.Path.{ap, sym, subst, _∙_}
 use Prim.Native.Nat.{_≤_}
 use Rattle.planning.specs.declared.CuePlan.{CuePlan}
-use Rattle.planner_c.specs.Words.{plan-words}
+use Rattle.answer_words.specs.Words.{plan-words}
 use Rattle.cue.specs.Sizes.{most-lines}
 use Rattle.planner_c.proofs.Few.{plan-few}
 use borrow.Author.Needs.{needs}

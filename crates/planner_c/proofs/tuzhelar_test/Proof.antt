@@ -11,7 +11,7 @@ use Rattle.testing.specs.declared.Tested.{Tested}
 use Rattle.testing.proofs.TestLaws.{testing-refused}
 use Rattle.planner_c.proofs.TimesLaws.{as-lent}
 use borrow.Author.Needs.{needs}
-use Rattle.planner_c.specs.Words.{test-number}
+use Rattle.answer_words.specs.Words.{test-number}
 use Rattle.planner_c.proofs.tuzhelar_test.Statement.{statement}
 use Rattle.planner_c.proofs.tuzhelar_test.Tie as tie
 
