@@ -2,7 +2,7 @@
 use mathlib.Core.Path.{_≡_, refl, ap, ap₂, sym, subst, _∙_}
 use mathlib.Core.Logic.{inl}
 use mathlib.Core.List.{List, [], _∷_}
-use mathlib.Core.Bool.{Bool, true, false, cond, _&&_}
+use mathlib.Core.Bool.{Bool, true, false, _&&_}
 use Prim.Native.Nat.{ℕ, zero, suc, _≤_, _<_}
 use native.Mathlib.Omega.{arith}
 use native.Mathlib.Nat.{le-refl}
@@ -10,7 +10,7 @@ use lib.Dec.{ltb}
 use lib.IntN.{ℤ}
 use lib.ListN.{getD}
 use borrow.Author.Tests.{lt-ltb}
-use Rattle.maxplus.specs.Entry.{E, absent, num, _⊗_, inv, Present, present?}
+use Rattle.maxplus.specs.Entry.{E, num, _⊗_, inv, Present, present?}
 use Rattle.maxplus.specs.Finite.{In, onlyIf}
 use Rattle.maxplus.specs.Tables.{Vec, Mat, mv, mm, power, star, NoGain}
 use Rattle.maxplus.proofs.EntryLaws.{_▸_, ≼-of, ≼-back, inv-num, present?-yes}
