@@ -1,7 +1,7 @@
 // Items put at a place of the lent bytes: the plan's lines from their words, a kept table's panels, the times of a timing.
 ghost use mathlib.Core.List.{[], _∷_};
 ghost use mathlib.Core.Bool.{cond};
-ghost use Prim.Native.Nat.{_+_, _*_, _≤_, _<_};
+ghost use Prim.Native.Nat.{_+_, _*_, _≤_};
 ghost use lib.IntN.{pos};
 ghost use lib.ListN.{length, getD};
 ghost use Rattle.maxplus.specs.Finite.{each};
@@ -10,7 +10,7 @@ ghost use Rattle.trigger_sets.specs.Sets.{bit};
 ghost use Rattle.writing.specs.Numerals.{numeral, item};
 ghost use Rattle.writing.specs.Texts.{joined, line-text, panel-texts};
 ghost use Rattle.cue.specs.Standing.{of-signed, line-at};
-ghost use Rattle.writing.specs.Writing.{Puts, comma, items, text-at, texts-of};
+ghost use Rattle.writing.specs.Writing.{Puts, items, text-at, texts-of};
 ghost use Rattle.cue.specs.Written.{line-size};
 use trigger_sets::has;
 use words::CAPPED_SIZE;
@@ -18,21 +18,10 @@ use words::LINE_SIZE;
 use writing::number_field;
 use writing::put_byte;
 use writing::put_bytes;
+use writing::put_comma;
 use writing::put_item;
 use writing::put_natural;
 use writing::put_number;
-
-// What stands before the j-th item, counted from 0: a comma, unless it is the first.
-fn put_comma(out: &mut [u8], at: usize, j: usize) -> usize
-    requires { ⌜ at < length (now out) ⌝ }
-    ensures { λ r. ⌜ Puts (now (out .entry)) (now (out .exit)) at r (comma j) ⌝ }
-    ensures short { λ r. ⌜ r ≤ at + 1 ⌝ }
-{
-    if j == 0 {
-        return at;
-    }
-    put_byte(out, at, b',')
-}
 
 // A component: `s` for a spare trigger's.
 fn put_component(out: &mut [u8], at: usize, word: i32, spare: bool) -> usize

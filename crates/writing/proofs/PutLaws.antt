@@ -1,11 +1,11 @@
 -- Laws of putting: nothing, one byte, one text behind another, a key byte by byte.
-use mathlib.Core.Path.{_≡_, refl, sym, ap, subst, _∙_}
+use mathlib.Core.Path.{_≡_, refl, sym, ap, ap₂, subst, _∙_}
 use mathlib.Core.List.{List, [], _∷_, _++_, append-nil, append-assoc}
 use Prim.Native.Nat.{ℕ, _+_, _≤_, _<_}
 use native.Mathlib.Numerals.{add-one}
 use native.Mathlib.Omega.{arith}
-use lib.ListN.{length, take, getD, set, length-append, length-set}
-use lib.Seq.{take-suc-set, take-length, paste, paste-zero, paste-suc, take-paste}
+use lib.ListN.{length, take, drop, getD, set, length-append, length-set, take-append-drop}
+use lib.Seq.{take-suc-set, take-length, drop-set-lt, drop-drop, paste, paste-zero, paste-suc, take-paste, drop-paste}
 use Rattle.sheet.specs.Text.{bytes}
 use Rattle.writing.specs.Texts.{field}
 use Rattle.writing.specs.Writing.{Puts, Writes}
@@ -17,6 +17,7 @@ put-nothing b at h =
       within = h;
       end = omega arith;
       text = sym (append-nil (take at b));
+      rest = refl;
     }
 
 pub put-one : (b : List ℕ) (at x : ℕ) → at < length b → Puts b (set b at x) at (at + 1) (x ∷ [])
@@ -26,7 +27,12 @@ put-one b at x h =
       within = omega (arith, length-set b at x);
       end = refl;
       text = rw (add-one at) (take-suc-set b at x h);
+      rest = drop-set-lt (at + 1) b at x (omega arith);
     }
+
+-- what is the same behind one place is so behind a later one
+drop-further : (a b : List ℕ) (r s k : ℕ) → s ≡ r + k → drop r b ≡ drop r a → drop s b ≡ drop s a
+drop-further a b r s k e h = rw e (sym (drop-drop k r b) ∙ ap (drop k) h ∙ drop-drop k r a)
 
 module _ {a b : List ℕ} {from r : ℕ} where
   pub then : {c : List ℕ} {s : ℕ} {t u : List ℕ} → Puts a b from r t → Puts b c r s u → Puts a c from s (t ++ u)
@@ -36,6 +42,7 @@ module _ {a b : List ℕ} {from r : ℕ} where
         within = q .within;
         end = omega (arith, length-append t u);
         text = q .text ∙ ap (λ l. l ++ u) (p .text) ∙ append-assoc (take from a) t u;
+        rest = q .rest ∙ drop-further a b r s (length u) (q .end) (p .rest);
       }
 
   pub put-as : {t u : List ℕ} → t ≡ u → Puts a b from r t → Puts a b from r u
@@ -43,6 +50,12 @@ module _ {a b : List ℕ} {from r : ℕ} where
 
   pub put-short : {k : ℕ} {t : List ℕ} → length t ≤ k → Puts a b from r t → Puts a b from r t × (r ≤ from + k)
   put-short h p = (p, omega (arith, p .end))
+
+-- a text put at the front stands there, and the rest behind it
+pub put-front : {a b : List ℕ} {r : ℕ} {t : List ℕ} → Puts a b 0 r t → b ≡ t ++ drop (length t) a
+put-front {a} {b} {r} {t} p =
+    let e : r ≡ length t = omega (arith, p .end) in
+    sym (take-append-drop r b) ∙ ap₂ _++_ (p .text) (p .rest ∙ ap (λ k. drop k a) e)
 
 -- a text put at the front is all that is written
 pub written : {a b : List ℕ} {r : ℕ} {t : List ℕ} → Puts a b 0 r t → Writes b r t
@@ -82,6 +95,7 @@ module _ {b c : List ℕ} {at : ℕ} {key : List ℕ} {i : ℕ} (p : Copied b c 
         within = omega (arith, p .room, p .same-length);
         end = omega arith;
         text = rw (p .is, e) (take-paste b at key (length key) (omega (arith, p .room)) (omega arith) ∙ ap (λ l. take at b ++ l) (take-length key));
+        rest = rw (p .is, e) (drop-paste b at key (length key) (omega (arith, p .room)) (omega arith));
       }
 
 -- ---- a field of at most 20 bytes behind its key

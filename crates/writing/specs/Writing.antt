@@ -5,7 +5,7 @@ use mathlib.Core.Bool.{Bool}
 use Prim.Native.Nat.{ℕ, zero, suc, _+_, _*_, _≤_}
 use lib.Dec.{eqb}
 use lib.IntN.{ℤ, pos}
-use lib.ListN.{length, take, getD}
+use lib.ListN.{length, take, drop, getD}
 use Rattle.maxplus.specs.Finite.{each, onlyIf}
 use Rattle.maxplus.specs.Line.{Line}
 use Rattle.cue.specs.Written.{line-size, capped-size}
@@ -14,12 +14,13 @@ use Rattle.sheet.specs.Text.{bytes}
 use Rattle.writing.specs.Numerals.{numeral}
 use Rattle.writing.specs.Texts.{field, joined, component-text, line-text}
 
--- The text t is put at `from`, up to r: what stood before it is kept, and so is the length.
+-- The text t is put at `from`, up to r: what stood before it and behind it is kept, and so is the length.
 pub record Puts (before after : List ℕ) (from r : ℕ) (t : List ℕ) : Type 0 where
   pub same-length : length after ≡ length before
   pub within : r ≤ length after
   pub end : r ≡ from + length t
   pub text : take r after ≡ take from before ++ t
+  pub rest : drop r after ≡ drop r before
 
 -- The text t is all that stands before r.
 pub record Writes (after : List ℕ) (r : ℕ) (t : List ℕ) : Type 0 where

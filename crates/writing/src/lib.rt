@@ -5,7 +5,7 @@ ghost use lib.ListN.{length};
 ghost use Rattle.writing.specs.Numerals.{natural, numeral, item};
 ghost use Rattle.writing.specs.Texts.{field};
 ghost use Rattle.cue.specs.Standing.{of-signed};
-ghost use Rattle.writing.specs.Writing.{Puts};
+ghost use Rattle.writing.specs.Writing.{Puts, comma};
 
 // The word of an absent component.
 const ABSENT: i32 = -0x8000_0000;
@@ -28,6 +28,18 @@ pub fn put_bytes(out: &mut [u8], at: usize, key: &[u8]) -> usize
         i += 1;
     }
     at + i
+}
+
+// What stands before the j-th item, counted from 0: a comma, unless it is the first.
+pub fn put_comma(out: &mut [u8], at: usize, j: usize) -> usize
+    requires { ⌜ at < length (now out) ⌝ }
+    ensures { λ r. ⌜ Puts (now (out .entry)) (now (out .exit)) at r (comma j) ⌝ }
+    ensures short { λ r. ⌜ r ≤ at + 1 ⌝ }
+{
+    if j == 0 {
+        return at;
+    }
+    put_byte(out, at, b',')
 }
 
 // The digits of v, at most 20 below 2^64: those of its tenth part, then the last one.

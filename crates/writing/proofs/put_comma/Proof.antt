@@ -1,11 +1,11 @@
--- `text::lines::put_comma` meets its contract. Assumes nothing.
+-- `writing::put_comma` meets its contract. Assumes nothing.
 use native.Mathlib.Omega.{arith}
 use borrow.Author.Needs.{needs}
 use Rattle.sheet.specs.Text.{bytes}
 use Rattle.writing.proofs.PutLaws.{put-nothing, put-as}
 use Rattle.writing.proofs.TextLaws.{comma-first, comma-behind}
-use Rattle.text.proofs.lines.put_comma.Statement.{statement}
-use Rattle.text.proofs.lines.put_comma.Tie as tie
+use Rattle.writing.proofs.put_comma.Statement.{statement}
+use Rattle.writing.proofs.put_comma.Tie as tie
 
 returns : tie.Need-returns
 returns c = (put-as (comma-first _ (c .if1 .taken)) (put-nothing _ _ (search needs)), omega arith)

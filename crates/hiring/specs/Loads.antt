@@ -1,0 +1,1 @@
+-- "Every sheet so made is accepted and its order can be kept" (document 02, No. 6).

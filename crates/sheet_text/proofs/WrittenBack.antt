@@ -1,0 +1,45 @@
+-- Writing and reading undo one another: each sheet that is read is the one text of its tables, and it is read back.
+use mathlib.Core.Path.{_≡_, ap, sym, _∙_}
+use mathlib.Core.List.{List, []}
+use Prim.Native.Nat.{ℕ}
+use native.Mathlib.Omega.{arith}
+use Rattle.maxplus.proofs.PackingLaws.{placed}
+use Rattle.sheet.specs.Sheet.{got, Sheet, read}
+use Rattle.sheet.specs.Good.{Good}
+use Rattle.sheet.specs.Cue.{used, trigger-at}
+use Rattle.sheet.proofs.Good.{read-good}
+use Rattle.sheet_text.specs.SheetText.{trimmed, Sound, Written-back}
+use Rattle.sheet_text.proofs.ReadBack.{read-back}
+use Rattle.sheet_text.proofs.ReadOnly.{read-only}
+
+-- a lag that the method has at its k-th trigger, the sheet has at the trigger which that is
+good-sound : (t : Sheet) → Good t → Sound t
+good-sound t G =
+    let (i, below, there) = G .readable .floored in
+    record {
+      panels-some = omega arith;
+      panels-few = G .panels-few;
+      triggers-some = G .triggers-some;
+      triggers-few = G .triggers-few;
+      lags = G .lags;
+      floors = G .limited .floors;
+      dues = G .dues;
+      afters = G .afters;
+      lands = G .lands;
+      lasts = G .lasts;
+      lagged = λ i h. let (k, q, p) = G .readable .lagged i h in (trigger-at t k, placed (used t) (t .triggers) k q .below, p);
+      floored = G .readable .floored;
+    }
+
+-- Reading the bytes again gives the tables, and reading their text gives what stands within the sizes: there is nothing else.
+pub written-back : Written-back
+written-back s t r e =
+    let text = read-only s t r e in
+    let sound = good-sound t (read-good s t r e) in
+    let back = read-back t sound in
+    let whole : trimmed t ≡ t = (let p : got (trimmed t) [] ≡ got t r = sym back ∙ ap read text ∙ e in cc) in
+    record { sound = sound; whole = whole; text = text; again = back ∙ ap (λ u. got u []) whole }
+
+-- no two sheets have the same tables
+pub one-text : (s₁ s₂ : List ℕ) (t : Sheet) (r₁ r₂ : List ℕ) → read s₁ ≡ got t r₁ → read s₂ ≡ got t r₂ → s₁ ≡ s₂
+one-text s₁ s₂ t r₁ r₂ e f = sym (read-only s₁ t r₁ e) ∙ read-only s₂ t r₂ f

@@ -1,0 +1,1 @@
+// The text of a sheet's tables: definitions and laws alone.

@@ -1,0 +1,3 @@
+-- Rows as lines of a sheet.
+pub mod EntryLaws
+pub mod RowLaws
