@@ -8,6 +8,8 @@ ghost use Rattle.argument.specs.Inner.{times-of, put-at};
 use items::Item;
 use items::item_at;
 
+pub mod whole;
+
 // Components lie from -FAR_LIMIT to FAR_LIMIT; any number beyond is read as one past the end, which every operation on a timing refuses too.
 const FAR_LIMIT: u64 = 1_000_000_000;
 
