@@ -1,7 +1,7 @@
 //! What is timed.
 
 use crate::sides::{Side, Work};
-use crate::{hire, land, last, spare};
+use crate::{chain, land, last, spare};
 
 /// Where the stored sheets are, from the top of the repository.
 pub const SHEETS: &str = "tests/programs/sheets";
@@ -10,7 +10,7 @@ pub const SHEETS: &str = "tests/programs/sheets";
 pub const WHOLE: &str = "whole";
 
 /// The class of request 6's sheets, and how many they are; the first of them with land lines, with spare
-/// triggers, and with a last line.
+/// triggers, and with a last line; the states from which they are made.
 const HIRE: &str = "hire";
 const HIRED: usize = 1000;
 const LAND: &str = "land";
@@ -19,15 +19,17 @@ const SPARE: &str = "spare";
 const SPARED: usize = 300;
 const LAST: &str = "last";
 const TIMED: usize = 300;
+const MAKE: &str = "make";
 
-/// The planning of a class's sheets, their kept tables, and the latest times asked of them.
+/// The planning of a class's sheets, their kept tables, the latest times asked of them, and making them.
 pub const PLAN: fn(&Side) -> Work = |side| side.plan;
 pub const KEPT: fn(&Side) -> Work = |side| side.kept;
 pub const LATEST: fn(&Side) -> Work = |side| side.latest;
+const MADE: fn(&Side) -> Work = |side| side.make;
 
-/// Key, name, sheets and work of each class that both sides do; sheets but HIRE, LAND, SPARE and LAST are a
-/// stored one.
-const CLASSES: [Kind; 13] = [
+/// Key, name, sheets and work of each class that both sides do; sheets but HIRE, LAND, SPARE, LAST and MAKE
+/// are a stored one.
+const CLASSES: [Kind; 14] = [
     (WHOLE, "whole case", WHOLE, PLAN),
     (HIRE, "1,000 sheets of request 6", HIRE, PLAN),
     (LAND, "300 sheets with land lines", LAND, PLAN),
@@ -51,6 +53,7 @@ const CLASSES: [Kind; 13] = [
         LATEST,
     ),
     ("latest72", "latest times, 72 lines", LINES72, LATEST),
+    (MAKE, "making, 1,000 sheets of request 6", MAKE, MADE),
 ];
 type Kind = (&'static str, &'static str, &'static str, fn(&Side) -> Work);
 
@@ -59,7 +62,7 @@ const AFTER: &str = "unpruned_after";
 const LISTED: &str = "lines_times_selections";
 const LINES72: &str = "lines72";
 
-/// Sheets that are worked on one after the other.
+/// Sheets, or states from which some are made, that are worked on one after the other.
 pub struct Class {
     pub key: &'static str,
     pub name: &'static str,
@@ -93,10 +96,11 @@ pub fn path(key: &str) -> String {
 
 fn sheets(key: &str) -> Result<Vec<Vec<u8>>, String> {
     match key {
-        HIRE => Ok(hire::chained(HIRED)),
+        HIRE => Ok(chain::chained(HIRED)),
         LAND => Ok(land::chained(LANDED)),
         SPARE => Ok(spare::chained(SPARED)),
         LAST => Ok(last::chained(TIMED)),
+        MAKE => Ok(chain::states(HIRED)),
         _ => stored(&path(key)).map(|sheet| vec![sheet]),
     }
 }

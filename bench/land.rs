@@ -1,6 +1,6 @@
 //! Sheets of request 6 with land lines behind them, such that the order can be kept.
 
-use crate::hire;
+use crate::chain;
 use crate::random::Random;
 
 type Table = Vec<Vec<Option<i64>>>;
@@ -12,7 +12,7 @@ const ROOM: usize = 1000;
 
 /// The first sheets of the chain, each with six land lines.
 pub fn chained(count: usize) -> Vec<Vec<u8>> {
-    hire::chained_with(count, land_lines)
+    chain::chained_with(count, land_lines)
 }
 
 /// Land lines that the earliest times keep: an entry c(i,j) is at most x(i) − y(j).

@@ -1,6 +1,6 @@
 //! Sheets of request 6 with a last line behind them.
 
-use crate::hire;
+use crate::chain;
 use crate::land::{largest_sum, rows};
 use crate::random::Random;
 
@@ -9,7 +9,7 @@ const ROOM: usize = 1000;
 
 /// The first sheets of the chain, each with a last line.
 pub fn chained(count: usize) -> Vec<Vec<u8>> {
-    hire::chained_with(count, last_line)
+    chain::chained_with(count, last_line)
 }
 
 fn last_line(sheet: &str, random: &mut Random) -> String {

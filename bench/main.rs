@@ -1,11 +1,13 @@
-//! Times planning, the kept table and asking for the latest times, by the proved library beside a plain
-//! Rust planner that goes the same way. Run from the top of the repository:
+//! Times planning, the kept table, asking for the latest times and making sheets, by the proved library
+//! beside a plain Rust planner that goes the same way, and a plain generator. Run from the top of the
+//! repository:
 //!
 //! - `bench [CLASS..]` writes a table of times, of all classes or of those named
 //! - `bench --count [CLASS..]` writes a table of instructions
 //! - `bench --check [SHEETS [SEED]]` compares both sides on random sheets (20,000 and 1)
 //! - `bench --plans SIDE CLASS all|none` plans a class once, or prepares it only; for `--count`
 
+mod chain;
 mod check;
 mod classes;
 mod counts;
@@ -26,7 +28,7 @@ use sides::{SIDES, SPACE};
 use std::process::ExitCode;
 
 const USAGE: &str = "usage: bench [CLASS..] | --count [CLASS..] | --check [SHEETS [SEED]] | --plans library|plain CLASS all|none
-classes: whole hire land spare last unpruned_distinct unpruned_after lines_times_selections lines72 kept kept_after latest latest72 programs";
+classes: whole hire land spare last unpruned_distinct unpruned_after lines_times_selections lines72 kept kept_after latest latest72 make programs";
 /// What `--check` does by default.
 const CHECKED: &str = "20000";
 const SEED: &str = "1";
@@ -82,12 +84,21 @@ fn chosen(keys: &[&str], key: &str) -> bool {
     keys.is_empty() || keys.contains(&key)
 }
 
+/// Gives up unless both generators make the same sheets of request 6: what is planned is the library's.
+fn generators_agree() -> Outcome<()> {
+    match chain::difference() {
+        None => Ok(()),
+        Some(sheet) => Err(format!("the generators do not make the same: {sheet}")),
+    }
+}
+
 /// The chosen classes, once both sides are known to accept and to agree on every sheet.
 fn agreed_classes(keys: &[&str]) -> Outcome<Vec<Class>> {
     let known = |key: &&str| *key == programs::KEY || classes::known(key);
     if !keys.iter().all(known) {
         return Err(USAGE.into());
     }
+    generators_agree()?;
     let classes = classes::classes(|key| chosen(keys, key))?;
     for class in &classes {
         for sheet in &class.sheets {
@@ -102,7 +113,7 @@ fn agreed_classes(keys: &[&str]) -> Outcome<Vec<Class>> {
     }
     let sheets: usize = classes.iter().map(|class| class.sheets.len()).sum();
     println!(
-        "Both sides give the same answer and leave the same words in the lent space: {sheets} sheets. The programs write the same.\n"
+        "Both sides give the same answer and leave the same words in the lent space: {sheets} sheets. The generators make the same sheets. The programs write the same.\n"
     );
     Ok(classes)
 }
@@ -111,6 +122,7 @@ fn check(sheets: &str, seed: &str) -> Outcome<()> {
     let (Ok(sheets), Ok(seed)) = (sheets.parse(), seed.parse()) else {
         return Err(USAGE.into());
     };
+    generators_agree()?;
     if check::Tally::default().run(sheets, seed).map_err(said)? {
         Ok(())
     } else {

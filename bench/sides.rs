@@ -1,11 +1,14 @@
 //! The two sides, each behind the same functions: the library through its C functions, and the plain
 //! planner.
 
+use crate::hire;
 use crate::plain::{self, CAPPED_WORDS, MOST, NoPlan};
+use std::hint::black_box;
 
 /// 0 or the refusal; then planning's deviation, steps, selections, count, byte of spare triggers and words of
 /// a line; or the kept table's deviation, steps, selections and panels, and each panel's byte and number of
-/// bits; or the count, the latest times and the words of a line; 0 where there is nothing.
+/// bits; or the count, the latest times and the words of a line; or how many bytes a made sheet has and the
+/// next state; 0 where there is nothing.
 #[derive(Debug, PartialEq, Eq)]
 pub struct Answer {
     pub code: u32,
@@ -25,6 +28,9 @@ pub struct Side {
     pub kept: Work,
     /// The latest times that are no later than 1 for every trigger.
     pub latest: Work,
+    /// Request 6's sheet of six by six from a state, whose bytes stand in the place of a sheet; the space is
+    /// left alone.
+    pub make: Work,
 }
 
 pub const SIDES: [Side; 2] = [
@@ -33,12 +39,14 @@ pub const SIDES: [Side; 2] = [
         plan: by_library,
         kept: kept_by_library,
         latest: latest_by_library,
+        make: made_by_library,
     },
     Side {
         name: "plain",
         plan: by_plain,
         kept: kept_by_plain,
         latest: latest_by_plain,
+        make: made_by_plain,
     },
 ];
 
@@ -48,6 +56,11 @@ pub const SPACE: usize = 2000 * CAPPED_WORDS;
 /// The times that are given where the latest are asked for, as many of them as there are triggers. An
 /// answer's words are 0 before, so that a spare trigger's 1 has been handed back.
 const GIVEN: [i64; MOST] = [1; MOST];
+
+/// The size of the sheets of request 6 that are made, and bytes that hold any of them: there are at most 510,
+/// with five for each number.
+pub const LARGEST: [usize; 2] = [MOST; 2];
+pub const HIRED_BYTES: usize = 512;
 
 unsafe extern "C" {
     fn tuzhelar_plan(
@@ -71,6 +84,15 @@ unsafe extern "C" {
         times_len: usize,
         space: *mut i32,
         space_len: usize,
+        answer: *mut i64,
+        answer_len: usize,
+    ) -> u32;
+    fn tuzhelar_hire(
+        panels: usize,
+        triggers: usize,
+        state: u32,
+        bytes: *mut u8,
+        bytes_len: usize,
         answer: *mut i64,
         answer_len: usize,
     ) -> u32;
@@ -118,6 +140,32 @@ fn latest_by_library(sheet: &[u8], space: &mut [i32]) -> Answer {
         )
     };
     Answer { code, words }
+}
+
+/// The library's generator of sheets, for any size.
+pub fn hired_by_library([m, n]: [usize; 2], state: u32, bytes: &mut [u8]) -> Answer {
+    let mut words = [0; WORDS];
+    // SAFETY: as in `by_library`.
+    let code = unsafe {
+        tuzhelar_hire(
+            m,
+            n,
+            state,
+            bytes.as_mut_ptr(),
+            bytes.len(),
+            words.as_mut_ptr(),
+            words.len(),
+        )
+    };
+    Answer { code, words }
+}
+
+fn made_by_library(state: &[u8], _: &mut [i32]) -> Answer {
+    hired_by_library(LARGEST, state_of(state), &mut [0; HIRED_BYTES])
+}
+
+fn state_of(bytes: &[u8]) -> u32 {
+    u32::from_ne_bytes(bytes.try_into().expect("a state has four bytes"))
 }
 
 /// The number of triggers of a good sheet: its second line's.
@@ -176,6 +224,15 @@ fn latest_by_plain(sheet: &[u8], space: &mut [i32]) -> Answer {
         }
         Err(refused) => refusal(refused, [0, 1 + MOST]),
     }
+}
+
+fn made_by_plain(state: &[u8], _: &mut [i32]) -> Answer {
+    let mut words = [0; WORDS];
+    let (text, next) = hire::sheet(LARGEST, state_of(state));
+    // The text is made, though its length alone is looked at.
+    words[0] = black_box(text).len() as i64;
+    words[1] = next.into();
+    Answer { code: 0, words }
 }
 
 /// The answer of a refusal, with 9's count and words of a line at their places.

@@ -1,13 +1,13 @@
 //! Sheets of request 6 in which two triggers are idle.
 
-use crate::hire;
+use crate::chain;
 use crate::random::Random;
 
 /// The first sheets of the chain, each without lags and rules for two triggers. The first trigger, which
 /// reaches every panel, is none of them.
 pub fn chained(count: usize) -> Vec<Vec<u8>> {
     let mut random = Random { state: 1 };
-    let sheets = hire::chained(count).into_iter();
+    let sheets = chain::chained(count).into_iter();
     sheets
         .map(|sheet| {
             let one = 1 + random.below(5);

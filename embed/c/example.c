@@ -1,6 +1,7 @@
 /*
  * The whole case from C: plans it, chooses times from its lines, tests them, finds the latest that are no later than wished, plans it for a
- * desk with an idle trigger and with last moments, and compares it with other sheets. From the root of the repository:
+ * desk with an idle trigger and with last moments, and compares it with other sheets; then makes a sheet to try and plans that. From the
+ * root of the repository:
  *
  *     rt staticlib planner_c
  *     cc -std=c99 -Wall -Wextra -Iembed/c embed/c/example.c target/staticlib/libplanner_c.a -o target/example
@@ -184,6 +185,28 @@ static void print_compared(const char *name, const char *other)
     printf("%s: %s\n", name, tuzhelar_same_meaning(compared.number));
 }
 
+/* A sheet to try, made from its sizes and a state; the next would be made from the state that is returned. */
+static void print_hired(void)
+{
+    char sheet[TUZHELAR_HIRE_BYTES];
+    struct tuzhelar_hired hired = tuzhelar_hire_sheet(2, 2, 1, sheet, sizeof sheet);
+    struct tuzhelar_planned planned = tuzhelar_plan_sheet(sheet, hired.length, space, WORDS);
+    printf("made from state 1, next state %" PRIu32 "\n%.*s", hired.state, (int)hired.length, sheet);
+    printf("its deviation=%" PRId64 "\n", planned.deviation);
+    print_lines(&planned);
+}
+
+/* Refusals leave the space as it was. */
+static void print_refused(void)
+{
+    struct tuzhelar_planned planned = tuzhelar_plan_sheet(SHEET, strlen(SHEET), space, TUZHELAR_LINE_WORDS);
+    struct tuzhelar_hired hired = tuzhelar_hire_sheet(2, 7, 1, NULL, 0);
+    printf("refused=%" PRIu32 ", count=%zu: %s\n", planned.refusal, planned.count, tuzhelar_meaning(planned.refusal));
+    planned = tuzhelar_plan_sheet(NO_ORDER, strlen(NO_ORDER), space, WORDS);
+    printf("refused=%" PRIu32 ": %s\n", planned.refusal, tuzhelar_meaning(planned.refusal));
+    printf("refused=%" PRIu32 ": %s\n", hired.refusal, tuzhelar_meaning(hired.refusal));
+}
+
 int main(void)
 {
     const int64_t as_listed[2] = {0, 0}, second_later[2] = {1, 0}, first_later[2] = {0, 3}, wished[2] = {0, 2};
@@ -217,10 +240,7 @@ int main(void)
     print_compared("a desk with an idle trigger", IDLE);
     print_compared("with last moments", DOWNBEAT);
 
-    /* Refusals. A refusal leaves the space as it was. */
-    planned = tuzhelar_plan_sheet(SHEET, strlen(SHEET), space, TUZHELAR_LINE_WORDS);
-    printf("refused=%" PRIu32 ", count=%zu: %s\n", planned.refusal, planned.count, tuzhelar_meaning(planned.refusal));
-    planned = tuzhelar_plan_sheet(NO_ORDER, strlen(NO_ORDER), space, WORDS);
-    printf("refused=%" PRIu32 ": %s\n", planned.refusal, tuzhelar_meaning(planned.refusal));
+    print_hired();
+    print_refused();
     return 0;
 }

@@ -5,13 +5,14 @@
  *
  *     cc -Iembed/c program.c target/staticlib/libplanner_c.a
  *
- * The library defines the five names below and calls memcpy and memset alone. It keeps nothing between calls, so that
- * threads may call it at once, each with words of its own. Planning, the latest times and comparing were measured to take up
- * to 68 KB of stack, the others 8 KB.
+ * The library defines the six names below and calls memcpy and memset alone. It keeps nothing between calls, so that
+ * threads may call it at once, each with bytes and words of its own. Planning, the latest times and comparing were measured to
+ * take up to 68 KB of stack, the others 8 KB.
  *
- * There are two ways in. `tuzhelar_plan_sheet`, `tuzhelar_kept_table`, `tuzhelar_test_timing`, `tuzhelar_latest_timing` and
- * `tuzhelar_same_timings`, further below, are a thin layer in C that takes null pointers and overlaps too. They call
- * `tuzhelar_plan`, `tuzhelar_kept`, `tuzhelar_test`, `tuzhelar_latest` and `tuzhelar_same`, the proved functions.
+ * There are two ways in. `tuzhelar_plan_sheet`, `tuzhelar_kept_table`, `tuzhelar_test_timing`, `tuzhelar_latest_timing`,
+ * `tuzhelar_same_timings` and `tuzhelar_hire_sheet`, further below, are a thin layer in C that takes null pointers and overlaps
+ * too. They call `tuzhelar_plan`, `tuzhelar_kept`, `tuzhelar_test`, `tuzhelar_latest`, `tuzhelar_same` and `tuzhelar_hire`, the
+ * proved functions.
  */
 #ifndef TUZHELAR_H
 #define TUZHELAR_H
@@ -35,9 +36,11 @@ extern "C" {
 #define TUZHELAR_KEPT_WORDS 16    /* words of the kept table's answer */
 #define TUZHELAR_LATEST_WORDS 8   /* words of the latest times' answer */
 #define TUZHELAR_SAME_WORDS 4     /* words of comparing's answer */
+#define TUZHELAR_HIRE_WORDS 2     /* words of the answer for a sheet that is made */
+#define TUZHELAR_HIRE_BYTES 1133  /* bytes that are always enough for such a sheet: no good sheet has more */
 #define TUZHELAR_LAST_TIME 1000000000 /* a time beyond this, or below minus this, is refused, 11 */
 
-/* What the functions return: 0 for done, a refusal 1 to 11, for a tested timing yes or no, for two sheets one of three. */
+/* What the functions return: 0 for done, a refusal 1 to 13, for a tested timing yes or no, for two sheets one of three. */
 #define TUZHELAR_DONE 0u
 #define TUZHELAR_TOO_LONG 1u
 #define TUZHELAR_FORM 2u
@@ -50,6 +53,8 @@ extern "C" {
 #define TUZHELAR_SPACE 9u
 #define TUZHELAR_COMPONENTS 10u
 #define TUZHELAR_TIME 11u
+#define TUZHELAR_HIRE_SIZE 12u
+#define TUZHELAR_SHEET_SPACE 13u
 #define TUZHELAR_YES 100u
 #define TUZHELAR_NO 101u
 #define TUZHELAR_SAME 100u
@@ -60,18 +65,18 @@ extern "C" {
 /*
  * ---- The proved functions
  *
- * Their contracts (crates/planner_c/src/lib.rt) fix the number returned and every word afterwards, for any bytes, words and
- * lengths. What is left to the caller, as for any C function:
+ * Their contracts (crates/planner_c/src/lib.rt) fix the number returned and every byte and word afterwards, for any bytes, words
+ * and lengths. What is left to the caller, as for any C function:
  *
- * - A pointer is valid for its length, which counts bytes for a sheet and words for the others, is aligned as its type
- *   asks, and the bytes or words there hold values. For length 0 any valid pointer will do: nothing is read or written
+ * - A pointer is valid for its length, which counts bytes for a sheet and for `bytes`, and words for the others, is aligned as
+ *   its type asks, and the bytes or words there hold values. For length 0 any valid pointer will do: nothing is read or written
  *   through it. The proof does not speak of null pointers.
- * - What is written, `space`, `left`, `right` and `answer`, shares no memory with one another, with a sheet or with `times`.
- *   (Sheets and `times` are only read: `first` and `second` may be one sheet.)
+ * - What is written, `space`, `left`, `right`, `bytes` and `answer`, shares no memory with one another, with a sheet or with
+ *   `times`. (Sheets and `times` are only read: `first` and `second` may be one sheet.)
  * - Nothing else writes there during the call.
  *
- * `space`, `left` and `right` are what document 01 calls lent space: the rest is left, and a refusal changes no word of it.
- * The words of `answer` are results, returned through a pointer because there are several, and not lent space.
+ * `space`, `left`, `right` and `bytes` are what document 01 calls lent space: the rest is left, and a refusal changes no byte or
+ * word of it. The words of `answer` are results, returned through a pointer because there are several, and not lent space.
  *
  * A trigger is spare if it has no lag to any panel, no present after entry in its row or column, and no present land entry in
  * its row; at least one trigger never is. A spare trigger's due mark is read and refused as any other and counts for nothing
@@ -165,12 +170,29 @@ uint32_t tuzhelar_same(const uint8_t *first, size_t first_length, const uint8_t 
                        size_t left_length, int32_t *right, size_t right_length, int64_t *answer, size_t answer_length);
 
 /*
+ * Making a sheet to try: the sizes and a state make one sheet, without land or last lines and the same wherever it is made, and
+ * the next state. Returns 0 or the refusal: 12, a size is not 1 to 6; then 13, the sheet is longer than `bytes_length`.
+ *
+ *   0        the sheet stands at the front of `bytes`, and the rest of the bytes is as it was; answer[0] is how many bytes it
+ *            takes, answer[1] the next state.
+ *   12, 13   no byte and no word is written.
+ *
+ * A word of the answer that is at or past `answer_length` is dropped, and words past the second stay as they were. 1,133 bytes
+ * are always enough. Every sheet so made is accepted and its order can be kept: planning it with enough space is no refusal.
+ *
+ * For a load of many sheets each is made from the state that the one before returned. States near one another make nearly the
+ * same sheet or the same: with six panels and six triggers the states 0 to 999 make three sheets.
+ */
+uint32_t tuzhelar_hire(size_t panels, size_t triggers, uint32_t state, uint8_t *bytes, size_t bytes_length, int64_t *answer,
+                       size_t answer_length);
+
+/*
  * ---- The layer in C, which is not proved
  *
  * It gives an answer to every argument but a pointer that is not null and not valid for its length:
  *
  * - A null pointer counts as length 0: no sheet (2), no word of space (9 for a sheet that has a plan), no time (10 for a
- *   good sheet).
+ *   good sheet), no byte for a sheet that is made (13 where the sizes are 1 to 6).
  * - Sheets are copied, and so are times where a space is lent beside them, so that they may lie in the words of a space; they
  *   are read whole before the first word is written. Of a sheet above 2,048 bytes no byte is looked at (1). That two spaces
  *   share no memory is left to the caller.
@@ -210,6 +232,12 @@ struct tuzhelar_compared {
     size_t second;   /* lines written to `right`; for 209 lines needed there; 0 on any other refusal */
     size_t first_words;  /* words that each line takes there, as planning has it; 0 as first */
     size_t second_words; /* the same for the second sheet; 0 as second */
+};
+
+struct tuzhelar_hired {
+    uint32_t refusal; /* 0, 12 or 13; on a refusal all else is 0 */
+    size_t length;    /* bytes written: the sheet */
+    uint32_t state;   /* the next state */
 };
 
 /* The length under which a copy of the sheet is handed on. One that is too long is so by its length alone. */
@@ -337,6 +365,23 @@ static inline struct tuzhelar_compared tuzhelar_same_timings(const void *first, 
     return compared;
 }
 
+/* Making a sheet to try: it stands at the front of `bytes`, as tuzhelar_hire writes it. */
+static inline struct tuzhelar_hired tuzhelar_hire_sheet(size_t panels, size_t triggers, uint32_t state, void *bytes,
+                                                        size_t bytes_length)
+{
+    uint8_t none = 0;
+    int64_t answer[TUZHELAR_HIRE_WORDS] = {0, 0};
+    struct tuzhelar_hired hired;
+    if (bytes == NULL) {
+        bytes = &none;
+        bytes_length = 0;
+    }
+    hired.refusal = tuzhelar_hire(panels, triggers, state, (uint8_t *)bytes, bytes_length, answer, TUZHELAR_HIRE_WORDS);
+    hired.length = (size_t)answer[0];
+    hired.state = (uint32_t)answer[1];
+    return hired;
+}
+
 /* Whether trigger j, from 0, is one of the spare triggers that planning returned. */
 static inline int tuzhelar_is_spare(uint8_t spares, size_t j)
 {
@@ -390,6 +435,10 @@ static inline const char *tuzhelar_meaning(uint32_t number)
         return "There are not as many times as the sheet has triggers.";
     case TUZHELAR_TIME:
         return "A time is below -1,000,000,000 or above 1,000,000,000.";
+    case TUZHELAR_HIRE_SIZE:
+        return "The number of panels or of triggers asked for is not 1 to 6.";
+    case TUZHELAR_SHEET_SPACE:
+        return "The sheet is longer than the bytes lent for it. 1,133 bytes are always enough.";
     case TUZHELAR_YES:
         return "The times are tightest and in time.";
     case TUZHELAR_NO:

@@ -1,7 +1,7 @@
 //! Says where `libplanner_c.a` is: in the folder that `TUZHELAR_LIBRARY_DIR` names, otherwise in
 //! `target/staticlib` of the repository, where `rt staticlib planner_c` writes it.
 //!
-//! The library defines five names and calls `memcpy` and `memset` alone. It has no panic handler and
+//! The library defines six names and calls `memcpy` and `memset` alone. It has no panic handler and
 //! nothing else that Rust's standard library has too, so it is linked as it is.
 
 use std::env;

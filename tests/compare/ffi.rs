@@ -1,6 +1,6 @@
 //! The functions under test, from the static library `libplanner_c.a`.
 
-use crate::under_test::{KeptAnswer, LatestAnswer, PlanAnswer, SameAnswer, UNTOUCHED};
+use crate::under_test::{Asked, KeptAnswer, LatestAnswer, PlanAnswer, SameAnswer, UNTOUCHED};
 
 unsafe extern "C" {
     fn tuzhelar_plan(
@@ -42,6 +42,15 @@ unsafe extern "C" {
         left_len: usize,
         right: *mut i32,
         right_len: usize,
+        answer: *mut i64,
+        answer_len: usize,
+    ) -> u32;
+    fn tuzhelar_hire(
+        panels: usize,
+        triggers: usize,
+        state: u32,
+        bytes: *mut u8,
+        bytes_len: usize,
         answer: *mut i64,
         answer_len: usize,
     ) -> u32;
@@ -113,4 +122,20 @@ pub fn same(first: &[u8], second: &[u8], left: &mut [i32], right: &mut [i32]) ->
         )
     };
     SameAnswer { code, words }
+}
+
+pub fn hire(asked: Asked, bytes: &mut [u8], answer: &mut [i64]) -> u32 {
+    let [panels, triggers] = asked.size;
+    // SAFETY: as in `plan`.
+    unsafe {
+        tuzhelar_hire(
+            panels,
+            triggers,
+            asked.state,
+            bytes.as_mut_ptr(),
+            bytes.len(),
+            answer.as_mut_ptr(),
+            answer.len(),
+        )
+    }
 }

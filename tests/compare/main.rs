@@ -1,8 +1,8 @@
 //! Compares an implementation of document 01 with a plain one, on sheets made for it.
 //!
-//! - `compare [SECONDS] [SEED]` compares for about SECONDS seconds (4)
-//! - `compare --self` checks the reference and the search by themselves, and that they notice wrong
-//!   programs
+//! - `compare [SECONDS] [SEED]` compares the generator of sheets, then all else for about SECONDS seconds (4)
+//! - `compare --self` checks the reference, the search and the plain generator by themselves, and that they
+//!   notice wrong programs
 //! - `compare --time FILE..` times planning of each sheet; none may take longer than 0.1 s
 //! - `compare --plan`, `compare --kept` write the reference's text for the sheet on standard input
 
@@ -10,6 +10,9 @@ mod cases;
 mod compare;
 #[cfg(linked)]
 mod ffi;
+#[path = "../../bench/hire.rs"]
+mod generator;
+mod hire;
 mod itself;
 mod land;
 mod last;
@@ -21,6 +24,7 @@ mod sheets;
 mod spares;
 mod under_test;
 mod wrong;
+mod wrong_hire;
 mod wrong_last;
 mod wrong_spares;
 
@@ -136,10 +140,22 @@ fn run_self() -> ExitCode {
     land::run(&mut checks);
     spares::run(&mut checks);
     last::run(&mut checks);
+    check_hire(&mut checks);
     check_search(&mut checks);
     check_sheets(&mut checks);
     check_wrong(&mut checks);
     verdict(checks.passed, checks.failed)
+}
+
+/// The plain generator makes what is known, and the comparison finds it equal to itself.
+fn check_hire(checks: &mut Checks) {
+    let outcomes = hire::facts(&REFERENCE).chain(hire::compared(&REFERENCE, SEED));
+    for outcome in outcomes {
+        checks.check(
+            &format!("hire: {:?}", outcome.as_ref().err()),
+            outcome.is_ok(),
+        );
+    }
 }
 
 /// The search against the reference, on a few small sheets.
@@ -208,6 +224,12 @@ fn check_wrong(checks: &mut Checks) {
         let found = (0..SELF_PAIRS).any(|number| search_pair(wrong, number).is_err());
         checks.check(&format!("found by search: {name}"), found);
     }
+    let noticed = |tried| hire::compared(tried, SEED).any(|outcome| outcome.is_err());
+    for (name, wrong) in &wrong_hire::HIRING {
+        checks.check(&format!("noticed: {name}"), noticed(wrong));
+    }
+    let name = "not noticed: a program that draws right";
+    checks.check(name, !noticed(&wrong_hire::DRAWN_RIGHT));
 }
 
 /// Whether a trial tells a program from the reference; the search is left out.
@@ -246,11 +268,13 @@ struct Tally {
     /// refused, and how often it was known that the same timings are tightest.
     two: [u64; 5],
     known: u64,
+    hired: hire::Seen,
 }
 
 fn run(seconds: f64, seed: u64) -> ExitCode {
-    let end = Instant::now() + Duration::from_secs_f64(seconds.clamp(0.0, 1e6));
     let mut tally = Tally::default();
+    tally.hire(seed);
+    let end = Instant::now() + Duration::from_secs_f64(seconds.clamp(0.0, 1e6));
     let named = [
         cases::sheets(),
         land::sheets(),
@@ -280,6 +304,20 @@ fn run(seconds: f64, seed: u64) -> ExitCode {
 }
 
 impl Tally {
+    /// The generator under test, and the plans of what it makes.
+    fn hire(&mut self, seed: u64) {
+        let made = hire::facts(&UNDER_TEST).chain(hire::compared(&UNDER_TEST, seed));
+        for outcome in made.chain(hire::plans(&UNDER_TEST)) {
+            match outcome {
+                Ok(seen) => {
+                    self.passed += 1;
+                    self.hired += seen;
+                }
+                Err(difference) => self.fail(&[], &difference),
+            }
+        }
+    }
+
     fn sheet(&mut self, sheet: &[u8], random: &mut Random) {
         match compare::compare_sheet(&UNDER_TEST, sheet, random) {
             Ok(seen) => {
@@ -365,6 +403,16 @@ impl Tally {
         println!(
             "latest timings {found}, of these as given {given}, 9: {nine}, 10: {ten}, 11: {eleven}"
         );
+        self.print_pairs();
+        self.hired.print();
+        println!("good sheets by size, panels down, triggers across");
+        for row in &self.sizes {
+            println!("{}", row.map(|count| format!("{count:6}")).concat());
+        }
+    }
+
+    /// What was searched, and what two sheets were to one another.
+    fn print_pairs(&self) {
         let searched = &self.searched;
         println!(
             "searched {} sheets, {} timings, {} latest ones; {} pairs, {} with equal lists; \
@@ -382,10 +430,6 @@ impl Tally {
              other triggers or spares {unlike}, first refused {first}, second {second}",
             self.known
         );
-        println!("good sheets by size, panels down, triggers across");
-        for row in &self.sizes {
-            println!("{}", row.map(|count| format!("{count:6}")).concat());
-        }
     }
 }
 

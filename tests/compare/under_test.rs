@@ -1,24 +1,26 @@
-//! The implementation under test, behind five safe functions:
+//! The implementation under test, behind six safe functions:
 //! - `plan(sheet: &[u8], space: &mut [i32]) -> PlanAnswer`
 //! - `kept(sheet: &[u8]) -> KeptAnswer`
 //! - `test(sheet: &[u8], times: &[i64]) -> u32`
 //! - `latest(sheet: &[u8], given: &[i64], space: &mut [i32]) -> LatestAnswer`
 //! - `same(first: &[u8], second: &[u8], left: &mut [i32], right: &mut [i32]) -> SameAnswer`
+//! - `hire(asked: Asked, bytes: &mut [u8], answer: &mut [i64]) -> u32`
 //!
 //! Built with `--cfg linked` they call the static library, otherwise the reference itself.
 
 #[cfg(linked)]
-pub use crate::ffi::{kept, latest, plan, same, test};
+pub use crate::ffi::{hire, kept, latest, plan, same, test};
 #[cfg(not(linked))]
-pub use crate::itself::{kept, latest, plan, same, test};
+pub use crate::itself::{hire, kept, latest, plan, same, test};
 
-/// The five operations of one implementation.
+/// The six operations of one implementation.
 pub struct Operations {
     pub plan: fn(&[u8], &mut [i32]) -> PlanAnswer,
     pub kept: fn(&[u8]) -> KeptAnswer,
     pub test: fn(&[u8], &[i64]) -> u32,
     pub latest: fn(&[u8], &[i64], &mut [i32]) -> LatestAnswer,
     pub same: fn(&[u8], &[u8], &mut [i32], &mut [i32]) -> SameAnswer,
+    pub hire: fn(Asked, &mut [u8], &mut [i64]) -> u32,
 }
 
 /// The implementation under test.
@@ -28,6 +30,7 @@ pub const UNDER_TEST: Operations = Operations {
     test,
     latest,
     same,
+    hire,
 };
 
 /// Which one that is.
@@ -71,6 +74,15 @@ pub struct LatestAnswer {
 pub struct SameAnswer {
     pub code: u32,
     pub words: [i64; 6],
+}
+
+/// The sheet that `hire` is asked for. It gives 0 or the refusal; the answer's words, as many of them as are
+/// lent, are the number of bytes written and the next state.
+#[derive(Clone, Copy, Debug)]
+pub struct Asked {
+    /// Panels and triggers.
+    pub size: [usize; 2],
+    pub state: u32,
 }
 
 /// What `test` gives beside a refusal.

@@ -33,7 +33,7 @@ pub trait Mistake {
     }
 }
 
-/// Every operation of a wrong program.
+/// Every operation of a program that is wrong about sheets; it makes them right.
 pub const fn operations<M: Mistake>() -> Operations {
     Operations {
         plan: M::plan,
@@ -41,6 +41,7 @@ pub const fn operations<M: Mistake>() -> Operations {
         test: M::test,
         latest: M::latest,
         same: M::same,
+        hire: itself::hire,
     }
 }
 

@@ -686,9 +686,9 @@ static void layer_for_two(void)
 
 static void meanings(void)
 {
-    const char *none = tuzhelar_meaning(12);
+    const char *none = tuzhelar_meaning(99);
     uint32_t number;
-    for (number = 0; number <= 11; number++) {
+    for (number = 0; number <= 13; number++) {
         check("a meaning", number, strcmp(tuzhelar_meaning(number), none) != 0);
     }
     check("a meaning", 100, strcmp(tuzhelar_meaning(TUZHELAR_YES), none) != 0);

@@ -9,7 +9,8 @@
  * makes is tightest; the latest times that are no later than given ones are those that the meaning gives (latest.c); land lines without a
  * rule change nothing (land.c); the spare triggers are those that the tables of the sheet say, have no part in lines and kept bytes, may have
  * any time, and make no difference to the others (spares.c); a last line gives each line its cap, holds tested and latest times back, and
- * makes no difference else (last.c); and it is compared with a second sheet, often one that means the same or nearly so (pairs.c).
+ * makes no difference else (last.c); and it is compared with a second sheet, often one that means the same or nearly so (pairs.c). Every
+ * sixteenth sheet is one that the library makes, and a second generator too (hire.c).
  * The last line is: N passed, M failed. A sheet that fails is written with its number, so that it can be tried alone.
  */
 #define _DEFAULT_SOURCE
@@ -21,6 +22,7 @@
 #include <time.h>
 #include <unistd.h>
 
+#include "hire.h"
 #include "land.h"
 #include "last.h"
 #include "latest.h"
@@ -39,6 +41,7 @@
 #define MOST_LINES 279936   /* no list has more: 6 to the power 7 */
 #define ANSWER_WORDS 20     /* more than any answer has */
 #define MOST_TIMES 8        /* times that are lent, at most */
+#define HIRED 16            /* one of so many sheets is made by the library */
 #define UNTOUCHED_WORD 0x5a5a5a5a
 #define UNTOUCHED INT64_C(0x5a5a5a5a5a5a5a5a)
 
@@ -504,7 +507,11 @@ static void try_sheet(void)
     uint32_t refusal;
     wrong = NULL;
     other.length = 0;
-    make_sheet(&random, &text);
+    if (current % HIRED == 0) {
+        check_hire(&random, &text);
+    } else {
+        make_sheet(&random, &text);
+    }
     lend_sheet(&random);
     refusal = read_tables(text.bytes, text.length, &tables);
     wide = line_words(&tables);
@@ -555,9 +562,24 @@ static void touched(int number)
     _exit(3);
 }
 
-static void print_met(void)
+/* Two sheets compared, and sheets made. */
+static void print_other(void)
 {
     uint64_t refused_first = 0, refused_second = 0;
+    int i;
+    for (i = 0; i < 10; i++) {
+        refused_first += met.compared[i];
+        refused_second += met.compared[TUZHELAR_SECOND + i];
+    }
+    printf("two sheets: same timings: %" PRIu64 ", of these known: %" PRIu64 ", others: %" PRIu64 ", 102: %" PRIu64
+           ", of these by the spare triggers: %" PRIu64 ", first refused: %" PRIu64 ", second: %" PRIu64 "\n", met.compared[TUZHELAR_SAME],
+           met.known, met.compared[TUZHELAR_DIFFERENT], met.compared[TUZHELAR_UNLIKE], met_pairs.other_spares, refused_first, refused_second);
+    printf("sheets made: %" PRIu64 ", the longest: %zu bytes; 12: %" PRIu64 ", 13: %" PRIu64 "\n", met_hire.made, met_hire.longest,
+           met_hire.wrong_size, met_hire.too_small);
+}
+
+static void print_met(void)
+{
     int i;
     printf("reading:");
     for (i = 1; i <= 7; i++) {
@@ -581,13 +603,7 @@ static void print_met(void)
            "; caps: %" PRIu64 ", of these below 0: %" PRIu64 ", for panels without a floor: %" PRIu64 "; times beside the caps in time: %"
            PRIu64 ", late: %" PRIu64 "\n", met_last.sheets, met_last.land, met_last.spare, met_last.caps, met_last.below_0,
            met_last.no_floor, met_last.in_time, met_last.late);
-    for (i = 0; i < 10; i++) {
-        refused_first += met.compared[i];
-        refused_second += met.compared[TUZHELAR_SECOND + i];
-    }
-    printf("two sheets: same timings: %" PRIu64 ", of these known: %" PRIu64 ", others: %" PRIu64 ", 102: %" PRIu64
-           ", of these by the spare triggers: %" PRIu64 ", first refused: %" PRIu64 ", second: %" PRIu64 "\n", met.compared[TUZHELAR_SAME],
-           met.known, met.compared[TUZHELAR_DIFFERENT], met.compared[TUZHELAR_UNLIKE], met_pairs.other_spares, refused_first, refused_second);
+    print_other();
     printf("the longest list: %zu lines; the most selections: %" PRId64 "\n", met.most_lines, met.most_selections);
 }
 
@@ -610,7 +626,7 @@ int main(int argc, char **argv)
     answer_area = make_area(ANSWER_WORDS * sizeof(int64_t));
     times_area = make_area(MOST_TIMES * sizeof(int64_t));
     if (!guarded(&sheet_area) || !guarded(&space_area) || !guarded(&answer_area) || !guarded(&times_area) || !make_latest() ||
-        !make_pairs()) {
+        !make_pairs() || !make_hire()) {
         fprintf(stderr, "fuzz: the pages around the memory lent are not guarded\n");
         return 2;
     }

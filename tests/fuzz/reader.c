@@ -163,7 +163,7 @@ static int all_absent(const int64_t *entries, int count)
     return 1;
 }
 
-static void clear(struct tables *tables)
+void clear_tables(struct tables *tables)
 {
     int i, j;
     tables->panels = tables->triggers = 0;
@@ -220,7 +220,7 @@ uint32_t read_tables(const uint8_t *sheet, size_t length, struct tables *tables)
     struct reading reading = {sheet, length};
     uint32_t refusal;
     int i;
-    clear(tables);
+    clear_tables(tables);
     if (length > LONGEST) {
         return 1;
     }

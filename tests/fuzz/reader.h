@@ -17,6 +17,9 @@ struct tables {
     int64_t last[MOST];       /* a sheet without such a line has none */
 };
 
+/* No sizes yet, and all entries absent. */
+void clear_tables(struct tables *tables);
+
 /* 0 and the sheet's tables, or the refusal, 1 to 7. Entries past the sheet's sizes are absent. */
 uint32_t read_tables(const uint8_t *sheet, size_t length, struct tables *tables);
 

@@ -5,7 +5,7 @@
 #include "reader.h"
 #include "tuzhelar.h"
 
-#define FAULTS 119
+#define FAULTS 138
 
 /* Whether this is the fault that the variable WRONG names. */
 int fault(int number);
@@ -18,6 +18,8 @@ uint32_t __real_tuzhelar_latest(const uint8_t *sheet, size_t sheet_length, const
                                 size_t space_length, int64_t *answer, size_t answer_length);
 uint32_t __real_tuzhelar_same(const uint8_t *first, size_t first_length, const uint8_t *second, size_t second_length, int32_t *left,
                               size_t left_length, int32_t *right, size_t right_length, int64_t *answer, size_t answer_length);
+uint32_t __real_tuzhelar_hire(size_t panels, size_t triggers, uint32_t state, uint8_t *bytes, size_t bytes_length, int64_t *answer,
+                              size_t answer_length);
 
 /* Whether reading takes a sheet. */
 int is_good(const uint8_t *sheet, size_t length);

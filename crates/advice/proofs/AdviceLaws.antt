@@ -203,7 +203,7 @@ pub answered : {out errors t u T S : List ℕ} {r q : ℕ} → Writes out r t �
     ((take r out ≡ T) × (((q ≤ length errors) × (q ≡ length (take q errors))) × (take q errors ≡ S)))
 answered w e v f = (counted _ _ (w .within), (w .text ∙ e, (counted _ _ (v .within), v .text ∙ f)))
 
--- ---- every number from 1 to 11 has a sentence
+-- ---- every number from 1 to 13 has a sentence
 some-at : (l : List (List ℕ)) (k : ℕ) → any none l ≡ false → k < length l → 0 < length (getD l k [])
 unfolding any
 some-at [] k h i = let x : ⊥ = omega arith in absurd x
@@ -211,7 +211,7 @@ some-at ([] ∷ l) k h i = absurd (let z : _≡_ {A = ℕ} 0 1 = cc in let x : �
 some-at ((b ∷ s) ∷ l) zero h i = omega arith
 some-at ((b ∷ s) ∷ l) (suc k) h i = some-at l k h (omega arith)
 
-pub advised : (k : ℕ) → 1 ≤ k → k ≤ 11 → 0 < length (advice k)
+pub advised : (k : ℕ) → 1 ≤ k → k ≤ 13 → 0 < length (advice k)
 unfolding advice sentences any bytes
 advised zero h l = let x : ⊥ = omega arith in absurd x
 advised (suc k) h l = some-at sentences k refl (omega arith)

@@ -1,11 +1,11 @@
 -- The sentences that the programs write for a person who reads a refusal: what its number means and what to look at (document 01, "What each
--- operation may refuse").
+-- operation may refuse"; document 02).
 use mathlib.Core.List.{List, [], _∷_, _++_}
 use Prim.Native.Nat.{ℕ}
 use lib.ListN.{getD}
 use Rattle.sheet.specs.Text.{bytes}
 
--- those of 1 to 11, in order
+-- those of 1 to 13, in order
 unfoldable pub sentences : List (List ℕ)
 sentences =
     bytes "The sheet has more than 2048 bytes, and no right sheet is so long: look whether it is the right file.\n" ∷
@@ -22,6 +22,8 @@ sentences =
     bytes "The list has more lines than there is space for: count= on standard output says how many it has.\n" ∷
     bytes "There are not as many times as triggers: give one for each trigger of the sheet, in order, split by commas.\n" ∷
     bytes "A time is outside -1000000000 to 1000000000 milliseconds: look at the times given.\n" ∷
+    bytes "The number of panels or of triggers asked for is not from 1 to 6: look at the first two numbers given.\n" ∷
+    bytes "The sheet asked for is longer than the space lent for it: 1133 bytes are always enough.\n" ∷
     []
 
 -- a refusal's sentence; nothing for a number that is no refusal's

@@ -5,7 +5,7 @@ ghost use Rattle.advice.specs.Advice.{advice};
 ghost use Rattle.advice.specs.Inner.{nth-line};
 ghost use Rattle.writing.specs.Writing.{Writes};
 
-// The sentence of a refusal, 1 to 11; nothing for another number. The longest has 296 bytes.
+// The sentence of a refusal, 1 to 13; nothing for another number. The longest has 296 bytes.
 pub fn advice_text(out: &mut [u8; 300], refusal: u8) -> usize
     ensures { λ r. ⌜ Writes (now (out .exit)) r (advice refusal) ⌝ }
 {
@@ -25,7 +25,9 @@ No times keep the order: rules of the after= and land= lines, with the lags to p
 more than 0, so that a trigger would have to come later than itself.\n\
 The list has more lines than there is space for: count= on standard output says how many it has.\n\
 There are not as many times as triggers: give one for each trigger of the sheet, in order, split by commas.\n\
-A time is outside -1000000000 to 1000000000 milliseconds: look at the times given.\n",
+A time is outside -1000000000 to 1000000000 milliseconds: look at the times given.\n\
+The number of panels or of triggers asked for is not from 1 to 6: look at the first two numbers given.\n\
+The sheet asked for is longer than the space lent for it: 1133 bytes are always enough.\n",
         refusal,
     )
 }

@@ -20,7 +20,8 @@ use Rattle.keeping.specs.declared.KeptTable.{KeptTable}
 use Rattle.planning.specs.declared.CuePlan.{CuePlan}
 use Rattle.reaching.specs.declared.Reached.{Reached}
 use Rattle.comparing.specs.declared.Extent.{Extent}
-use Rattle.answer_words.specs.Words.{pairs, plan-words, kept-words, room-words, reach-words, written-words}
+use Rattle.hiring.specs.declared.Hired.{Hired}
+use Rattle.answer_words.specs.Words.{pairs, plan-words, kept-words, room-words, reach-words, written-words, hire-words}
 
 -- a word comes back as it was
 pub back : {z t : ℤ} → mag z < 2 ^ hbits w64 → z ≡ t → toZ w64 (ofZ w64 z) ≡ t
@@ -115,3 +116,14 @@ pub six-listed : (lent : List ℤ) {a b c d e f : ℤ} → a ≡ component lent 
     d ≡ component lent 3 → e ≡ component lent 4 → f ≡ component lent 5 → a ∷ b ∷ c ∷ d ∷ e ∷ f ∷ [] ≡ six (component lent)
 unfolding each
 six-listed lent ea eb ec ed ee ef = rw (ea, eb, ec, ed, ee, ef) refl
+
+-- ---- the generator's answer
+module _ (r : Hired) (lent : List ℤ) where
+  pub hired-words : {a b : List ℤ} {v w : ℤ} → r .refusal ≡ 0 → v ≡ pos (r .length) → a ≡ set lent 0 v → w ≡ pos (r .state) →
+      b ≡ set a 1 w → b ≡ hire-words r lent
+  unfolding hire-words
+  hired-words h ev ea ew eb = eb ∙ rw (ea, ev, ew, eq-eqb (r .refusal) 0 h) refl
+
+  pub unhired-words : ¬ (r .refusal ≡ 0) → lent ≡ hire-words r lent
+  unfolding hire-words
+  unhired-words h = rw (ne-eqb (r .refusal) 0 h) refl

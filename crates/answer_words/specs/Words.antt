@@ -16,6 +16,7 @@ use Rattle.comparing.specs.Comparing.{Comparison, unlike, first-refused, second
 use Rattle.comparing.specs.Comparing as comparison
 use Rattle.comparing.specs.declared.Extent.{Extent}
 use Rattle.reaching.specs.declared.Reached.{Reached}
+use Rattle.hiring.specs.declared.Hired.{Hired}
 
 -- Words are stored from a place on; one that is past the end is dropped, and the rest stays (`sets`). The words of an answer are results,
 -- which C can return by a pointer only, and not lent space: document 01's "leaves the rest" and "changes no lent byte or word" are about that.
@@ -72,3 +73,7 @@ unfoldable pub reach-words : Reached → List ℤ → List ℤ
 reach-words r lent =
     cond (eqb (r .refusal) 0) (sets lent 0 (pos (r .count) ∷ six (component (r .timing .at)) ++ (pos (r .width) ∷ [])))
     (room-words 0 7 (r .refusal) (r .count) (r .width) lent)
+
+-- how many bytes were written, and the next state; for a refusal nothing (document 02, No. 6)
+unfoldable pub hire-words : Hired → List ℤ → List ℤ
+hire-words r lent = cond (eqb (r .refusal) 0) (sets lent 0 (pos (r .length) ∷ pos (r .state) ∷ [])) lent

@@ -15,7 +15,7 @@ fn byte_word(b: u8) -> i64
     b as i64
 }
 
-fn word(k: u32) -> i64
+pub fn word(k: u32) -> i64
     ensures { λ r. ⌜ r ≡ pos k ⌝ }
 {
     k as i64

@@ -15,7 +15,7 @@ use Rattle.sheet_text.specs.SheetText.{sheet-text}
 use Rattle.hiring.specs.Hiring.{drawn, load, draws, HireOutcome, hired, refused, size?, hiring, bytes-after, hire-answer}
 use Rattle.hiring.specs.declared.Hired.{Hired}
 
-both : (a b : Bool) → a && b ≡ true → (a ≡ true) × (b ≡ true)
+pub both : (a b : Bool) → a && b ≡ true → (a ≡ true) × (b ≡ true)
 both true b e = (refl, e)
 both false b e = (e, cc)
 
@@ -43,8 +43,8 @@ module _ (m n s room : ℕ) where
       room-there h = rw (p, q, le-leb (length (sheet-text (load m n s))) room h)
 
   -- what is returned and left is what the outcome says
-  pub does : (lent : List ℕ) {o : HireOutcome} {r : Hired} {after : List ℕ} → hiring m n s room ≡ o → r ≡ hire-answer o → after ≡ bytes-after o lent →
-      (r ≡ hire-answer (hiring m n s room)) × (after ≡ bytes-after (hiring m n s room) lent)
+  pub does : (lent : List ℕ) {o : HireOutcome} {r : Hired} {after : List ℕ} → hiring m n s room ≡ o → r ≡ hire-answer o →
+      after ≡ bytes-after o lent → (r ≡ hire-answer (hiring m n s room)) × (after ≡ bytes-after (hiring m n s room) lent)
   does lent e p q = (p ∙ sym (ap hire-answer e), q ∙ sym (ap (λ o. bytes-after o lent) e))
 
 -- ---- a text that was made apart and then put at the front

@@ -1,5 +1,5 @@
 -- Laws of items: a drawn number lies from −1,000 to 1,000; the words of drawn rows stand for the items, and so are put as such.
-use mathlib.Core.Path.{_≡_, refl, ap, _∙_}
+use mathlib.Core.Path.{_≡_, refl}
 use mathlib.Core.List.{List}
 use mathlib.Core.Bool.{Bool, true, false, cond}
 use Prim.Native.Nat.{ℕ, _%_, _≤_}

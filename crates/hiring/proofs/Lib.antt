@@ -1,5 +1,9 @@
 -- The generator, and what is true of its sheets.
 pub mod DrawLaws
+pub mod ChainLaws
 pub mod ItemLaws
 pub mod LoadText
+pub mod LoadLaws
 pub mod HireLaws
+pub mod Loads
+pub mod HireCases

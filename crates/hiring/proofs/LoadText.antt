@@ -1,7 +1,7 @@
 -- The parts of a sheet, put one behind the other, are the text of the load's tables; the state behind them is that after all draws.
-use mathlib.Core.Path.{_≡_, refl, ap, _∙_}
+use mathlib.Core.Path.{_≡_, refl, ap, ap₂, _∙_}
 use mathlib.Core.List.{List, [], _++_, append-assoc, append-nil}
-use Prim.Native.Nat.{ℕ, _+_, _*_}
+use Prim.Native.Nat.{ℕ, _+_, _*_, _≤_}
 use native.Mathlib.Nat.{one-mul}
 use Rattle.maxplus.specs.Entry.{val}
 use Rattle.maxplus.specs.Finite.{each}
@@ -15,8 +15,21 @@ use Rattle.hiring.specs.Hiring.{drawn, made, absence, items, load, draws
 use Rattle.hiring.proofs.DrawLaws.{drawn-add}
 
 -- six texts as a sheet's text has them
-in-two : (a b c d e f : List ℕ) → a ++ b ++ c ++ d ++ e ++ f ≡ (a ++ (b ++ [])) ++ (c ++ (d ++ (e ++ (f ++ [])))) ++ [] ++ []
+in-two : (a b c d e f : List ℕ) → a ++ b ++ c ++ (d ++ e) ++ f ≡ (a ++ (b ++ [])) ++ (c ++ (d ++ (e ++ (f ++ [])))) ++ [] ++ []
 in-two a b c d e f = simp (append-assoc, append-nil)
+
+-- the floor line, and the due line from the state that it left
+module _ (m n : ℕ) where
+  abbrev floor-text : ℕ → List ℕ
+  floor-text x = rows-text (bytes "floor=") 1 m (items first-there m x)
+
+  abbrev due-text : ℕ → List ℕ
+  due-text x = rows-text (bytes "due=") 1 n (items all-there n x)
+
+  pub marks-put : {a b c : List ℕ} {at q r floors dues : ℕ} (s : ℕ) → Puts a b at q (floor-text s) → floors ≡ drawn s (1 * m) →
+      Puts b c q r (due-text floors) → dues ≡ drawn floors (1 * n) → r ≤ at + 120 →
+      Puts a c at r (floor-text s ++ due-text (drawn s (1 * m))) × ((r ≤ at + 120) × (dues ≡ drawn (drawn s (1 * m)) (1 * n)))
+  marks-put s F ef D ed h = (then F (put-as (ap due-text ef) D), (h, ed ∙ ap (λ x. drawn x (1 * n)) ef))
 
 module _ (m n s : ℕ) where
   -- the states behind the lag lines, the floor line and the due line
@@ -32,12 +45,6 @@ module _ (m n s : ℕ) where
   abbrev lag-text : ℕ → List ℕ
   lag-text x = rows-text (bytes "lag=") m n (items first-there n x)
 
-  abbrev floor-text : ℕ → List ℕ
-  floor-text x = rows-text (bytes "floor=") 1 m (items first-there m x)
-
-  abbrev due-text : ℕ → List ℕ
-  due-text x = rows-text (bytes "due=") 1 n (items all-there n x)
-
   abbrev after-text : ℕ → List ℕ
   after-text x = rows-text (bytes "after=") n n (items below-diagonal n x)
 
@@ -47,25 +54,29 @@ module _ (m n s : ℕ) where
   abbrev triggers-text : List ℕ
   triggers-text = field (bytes "triggers=") (natural n)
 
-  parts : panels-text ++ triggers-text ++ lag-text s ++ floor-text past-lags ++ due-text past-floors ++ after-text past-dues ≡ sheet-text (load m n s)
+  parts : panels-text ++ triggers-text ++ lag-text s ++ (floor-text m n past-lags ++ due-text m n past-floors) ++ after-text past-dues ≡
+      sheet-text (load m n s)
   unfolding sheet-text load rows-text each joined items made absence val
-  parts = in-two panels-text triggers-text (lag-text s) (floor-text past-lags) (due-text past-floors) (after-text past-dues)
+  parts = in-two panels-text triggers-text (lag-text s) (floor-text m n past-lags) (due-text m n past-floors) (after-text past-dues)
 
   -- each kind of line is drawn from the state that the one before left
-  pub sheet-put : {a b c d e f : List ℕ} {q r t u v lags floors dues afters : ℕ} →
-      Puts a b 0 q (panels-text ++ triggers-text) → Puts b c q r (lag-text s) → lags ≡ past-lags →
-      Puts c d r t (floor-text lags) → floors ≡ drawn lags (1 * m) → Puts d e t u (due-text floors) → dues ≡ drawn floors (1 * n) →
-      Puts e f u v (after-text dues) → afters ≡ drawn dues (n * n) →
-      Puts a f 0 v (sheet-text (load m n s)) × (afters ≡ drawn s (draws m n))
-  sheet-put {lags = lags} {floors} {dues} {afters} P L el F ef D ed A ea =
-      (put-as parts (then (then (then (then P L) (put-as (ap floor-text el) F)) (put-as (ap due-text floors-behind) D))
-      (put-as (ap after-text dues-behind) A)), ea ∙ ap (λ x. drawn x (n * n)) dues-behind ∙ drawn-add s (m * n + m + n) (n * n))
+  pub sheet-put : {a b c d e : List ℕ} {q r t u lags dues afters : ℕ} → Puts a b 0 q (panels-text ++ triggers-text) →
+      Puts b c q r (lag-text s) → lags ≡ past-lags → Puts c d r t (floor-text m n lags ++ due-text m n (drawn lags (1 * m))) →
+      dues ≡ drawn (drawn lags (1 * m)) (1 * n) → Puts d e t u (after-text dues) → afters ≡ drawn dues (n * n) →
+      Puts a e 0 u (sheet-text (load m n s)) × (afters ≡ drawn s (draws m n))
+  sheet-put {lags = lags} {dues} {afters} P L el M ed A ea = (
+    put-as parts (then (then (then P L) (put-as marks M)) (put-as (ap after-text dues-behind) A)),
+    ea ∙ ap (λ x. drawn x (n * n)) dues-behind ∙ drawn-add s (m * n + m + n) (n * n),
+  )
     where
       behind : (x y k j : ℕ) → x ≡ drawn s k → y ≡ drawn x (1 * j) → y ≡ drawn s (k + j)
       behind x y k j e f = f ∙ ap (λ x. drawn x (1 * j)) e ∙ drawn-add s k (1 * j) ∙ ap (λ i. drawn s (k + i)) (one-mul j)
 
-      floors-behind : floors ≡ past-floors
-      floors-behind = behind lags floors (m * n) m el ef
+      floors-behind : drawn lags (1 * m) ≡ past-floors
+      floors-behind = behind lags (drawn lags (1 * m)) (m * n) m el refl
 
       dues-behind : dues ≡ past-dues
-      dues-behind = behind floors dues (m * n + m) n floors-behind ed
+      dues-behind = behind (drawn lags (1 * m)) dues (m * n + m) n floors-behind ed
+
+      marks : floor-text m n lags ++ due-text m n (drawn lags (1 * m)) ≡ floor-text m n past-lags ++ due-text m n past-floors
+      marks = ap₂ (λ x y. floor-text m n x ++ due-text m n y) el floors-behind

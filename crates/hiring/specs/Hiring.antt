@@ -80,6 +80,11 @@ load m n s =
 abbrev pub draws : ℕ → ℕ → ℕ
 draws m n = m * n + m + n + n * n
 
+-- a chain of sheets, in which each starts from the state that the one before returned: the state from which one starts that k others precede
+unfoldable pub chained : (m n s k : ℕ) → ℕ
+chained m n s zero = s
+chained m n s (suc k) = drawn (chained m n s k) (draws m n)
+
 -- ---- what the generator does
 -- "a generator writes one sheet …, and returns the next state"
 pub data HireOutcome : Type 0 where

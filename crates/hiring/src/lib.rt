@@ -12,11 +12,14 @@ ghost use Rattle.writing.specs.Texts.{field};
 ghost use Rattle.writing.specs.Writing.{Puts};
 ghost use Rattle.sheet_text.specs.SheetText.{rows-text, sheet-text};
 ghost use Rattle.hiring.specs.Hiring as hiring;
-ghost use Rattle.hiring.specs.Hiring.{next, upper, drawn, made, absence, items, by-sevens, load, draws, hiring, bytes-after, hire-answer};
+ghost use Rattle.hiring.specs.Hiring.{next, drawn, made, absence, items, by-sevens, first-there, all-there, load};
+ghost use Rattle.hiring.specs.Hiring.{draws, hiring, bytes-after, hire-answer};
 ghost use Rattle.hiring.specs.Inner.{kind-of, RowDrawn, RowsDrawn};
 use table_text::put_rows;
 use writing::natural_field;
 use writing::put_bytes;
+
+pub mod chain;
 
 // What a draw adds to the state.
 const STRIDE: u32 = 2_654_435_769;
@@ -34,8 +37,8 @@ pub struct Hired {
     pub state: u32,
 }
 
-// Which items of a kind of line are never or always absent: the first of each line is there, in lag lines and the floor line; all are, in the due
-// line; none on or above the diagonal, in after lines.
+// Which items of a kind of line are never or always absent: the first of each line is there, in lag lines and the floor line; all are, in the
+// due line; none on or above the diagonal, in after lines.
 enum Lines {
     FirstThere,
     AllThere,
@@ -99,7 +102,8 @@ fn is_size(k: usize) -> bool
 // The lines of the sizes.
 fn put_sizes(text: &mut [u8], panels: usize, triggers: usize) -> usize
     requires { ⌜ 100 ≤ length (now text) ⌝ }
-    ensures { λ r. ⌜ Puts (now (text .entry)) (now (text .exit)) 0 r (field (bytes "panels=") (natural panels) ++ field (bytes "triggers=") (natural triggers)) ⌝ }
+    ensures { λ r. ⌜ Puts (now (text .entry)) (now (text .exit)) 0 r
+        (field (bytes "panels=") (natural panels) ++ field (bytes "triggers=") (natural triggers)) ⌝ }
     ensures short { λ r. ⌜ r ≤ 58 ⌝ }
 {
     let end = natural_field(text, 0, b"panels=", panels as u64);
@@ -113,17 +117,45 @@ fn put_sheet(text: &mut [u8], panels: usize, triggers: usize, state: u32) -> Put
     ensures state { λ r. ⌜ r .state ≡ drawn state (draws panels triggers) ⌝ }
 {
     let end = put_sizes(text, panels, triggers);
-    let lag = put_lines(text, end, b"lag=", Lines::FirstThere, panels, triggers, state);
-    let floor = put_lines(text, lag.end, b"floor=", Lines::FirstThere, 1, panels, lag.state);
-    let due = put_lines(text, floor.end, b"due=", Lines::AllThere, 1, triggers, floor.state);
+    let lag = put_lines(
+        text,
+        end,
+        b"lag=",
+        Lines::FirstThere,
+        panels,
+        triggers,
+        state,
+    );
+    let marks = put_marks(text, lag.end, panels, triggers, lag.state);
     put_lines(
         text,
-        due.end,
+        marks.end,
         b"after=",
         Lines::BelowDiagonal,
         triggers,
         triggers,
-        due.state,
+        marks.state,
+    )
+}
+
+// The floor line and the due line.
+fn put_marks(text: &mut [u8], at: usize, panels: usize, triggers: usize, state: u32) -> Put
+    requires { ⌜ (at + 160 ≤ length (now text)) × (panels ≤ size-limit) × (triggers ≤ size-limit) ⌝ }
+    ensures text { λ r. ⌜ Puts (now (text .entry)) (now (text .exit)) at (r .end)
+        (rows-text (bytes "floor=") 1 panels (items first-there panels state) ++
+        rows-text (bytes "due=") 1 triggers (items all-there triggers (drawn state (1 * panels)))) ⌝ }
+    ensures short { λ r. ⌜ r .end ≤ at + 120 ⌝ }
+    ensures state { λ r. ⌜ r .state ≡ drawn (drawn state (1 * panels)) (1 * triggers) ⌝ }
+{
+    let floor = put_lines(text, at, b"floor=", Lines::FirstThere, 1, panels, state);
+    put_lines(
+        text,
+        floor.end,
+        b"due=",
+        Lines::AllThere,
+        1,
+        triggers,
+        floor.state,
     )
 }
 
@@ -182,10 +214,7 @@ fn draw_row(kind: Lines, i: usize, count: usize, state: u32) -> DrawnRow
         at[j] = item(kind, i, j, now >> 16);
         j += 1;
     }
-    DrawnRow {
-        state: now,
-        at: at,
-    }
+    DrawnRow { state: now, at: at }
 }
 
 // One draw.

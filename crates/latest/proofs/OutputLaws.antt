@@ -62,7 +62,7 @@ module _ (s : List ℕ) (count : ℕ) (G : Timing) where
       go : (o : ReachOutcome) → Sound o → ¬ (Succeeds o) → 0 < length (reached-complaint o)
       go (reached n X caps L) q h = absurd (h tt)
       go (full w k) q h = advised 9 (omega arith) (omega arith)
-      go (refused k) q h = advised k (q .0) (q .1)
+      go (refused k) q h = advised k (q .0) (let m = q .1 in omega arith)
 
 -- ---- the answer's text is the outcome's
 -- the words of a timing's first components are these

@@ -18,12 +18,15 @@ use Rattle.sheet.specs.Meaning.{Timing}
 use Rattle.sheet.specs.Cue.{cue-size, cue-of, Orderly, orderly?, sheet-byte, sheet-count, sheet-caps, sheet-lines}
 use Rattle.sheet.specs.Admitted.{admitted}
 use Rattle.sheet.proofs.Good.{read-good}
+use Rattle.sheet.proofs.Longest.{longest-is}
 use Rattle.sheet.proofs.ListLaws.{lines-many}
 use Rattle.sheet.proofs.AdmittedLaws.{admitted-as}
 use Rattle.planning.specs.Planning.{planned, full, plan-of, planning, plan-answer}
 use Rattle.keeping.specs.Keeping.{kept-of, keeping, kept-answer}
 use Rattle.reaching.specs.Reaching.{reached, reach-of, reaching, reach-answer}
 use Rattle.reaching.specs.Reaching as reaches
+use Rattle.hiring.specs.Hiring.{hiring, hire-answer}
+use Rattle.hiring.proofs.Loads.{hired-few}
 use Rattle.reaching.specs.declared.Reached.{Reached}
 use Rattle.planning.specs.declared.CuePlan.{CuePlan}
 use Rattle.sheet.specs.Ordered.{ordered}
@@ -102,3 +105,7 @@ module _ (s : List ℕ) where
           let good = read-good s t r (admitted-as s count G t r e .read-is) in
           either _ _ (sheet-caps t) (sheet-lines t) (leb (length (sheet-lines t)) (length space / width (sheet-caps t)))
           (list-few t (good .few, good .panels-few))
+
+-- ---- the bytes of a sheet that was made are no more than those of the longest good sheet
+pub hire-few : (m n s room : ℕ) → hire-answer (hiring m n s room) .length ≤ most-lines
+hire-few m n s room = omega (arith, hired-few m n s room, longest-is)

@@ -7,11 +7,13 @@ ghost use Rattle.planning.specs.Planning.{planning, space-after, plan-answer};
 ghost use Rattle.keeping.specs.Keeping.{keeping, kept-answer};
 ghost use Rattle.comparing.specs.Comparing.{comparing, compared-space};
 ghost use Rattle.reaching.specs.Reaching.{reaching, reached-space, reach-answer};
+ghost use Rattle.hiring.specs.Hiring.{hiring, bytes-after, hire-answer};
 ghost use Rattle.timing.specs.Times.{component};
-ghost use Rattle.answer_words.specs.Words.{plan-words, kept-words, test-number, compare-number, compare-words, reach-words};
+ghost use Rattle.answer_words.specs.Words.{plan-words, kept-words, test-number, compare-number, compare-words, reach-words, hire-words};
 use answer_words::answers::write_kept;
 use answer_words::answers::write_plan;
 use answer_words::compared::answer_compared;
+use answer_words::hired::write_hired;
 use answer_words::reached::write_reached;
 use answer_words::times::lent_timing;
 use testing::Tested;
@@ -99,4 +101,24 @@ pub extern "C" fn tuzhelar_same(
 {
     let r = comparing::same_timings(first, second, left, right);
     answer_compared(answer, r)
+}
+
+// 0, 12 or 13. The sheet that the sizes and the state make goes to the front of the bytes, how many it takes and the next state to the answer.
+#[no_mangle]
+pub extern "C" fn tuzhelar_hire(
+    panels: usize,
+    triggers: usize,
+    state: u32,
+    bytes: &mut [u8],
+    answer: &mut [i64],
+) -> u32
+    ensures returned { λ r. ⌜ r ≡ hire-answer (hiring panels triggers state (length (now (bytes .entry)))) .refusal ⌝ }
+    ensures written { λ r. ⌜ now (bytes .exit) ≡
+        bytes-after (hiring panels triggers state (length (now (bytes .entry)))) (now (bytes .entry)) ⌝ }
+    ensures answered { λ r. ⌜ now (answer .exit) ≡
+        hire-words (hire-answer (hiring panels triggers state (length (now (bytes .entry))))) (now (answer .entry)) ⌝ }
+{
+    let r = hiring::hire(panels, triggers, state, bytes);
+    write_hired(answer, r);
+    r.refusal as u32
 }

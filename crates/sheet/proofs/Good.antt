@@ -109,16 +109,17 @@ module _ (m n : ℕ) (few-m : m ≤ size-limit) (some-n : 1 ≤ n) (few-n : n �
             (table-within afters) (land-within m n x land f);
       }
 
-finished-got : (m n : ℕ) (ts : List (List (List E))) (l d : Option Mat) (y : List ℕ) {t : Sheet} {x : List ℕ} →
+-- what is known once the end is reached: nothing is left, each panel has a lag, some panel a floor
+pub finished-got : (m n : ℕ) (ts : List (List (List E))) (l d : Option Mat) (y : List ℕ) {t : Sheet} {x : List ℕ} →
     finished m n ts l d y ≡ got t x →
-    (any (all absent?) (part ts lag-lines) ≡ false) × (any (all absent?) (part ts floor-line) ≡ false) × (sheet-of m n ts l d ≡ t)
+    (y ≡ []) × (any (all absent?) (part ts lag-lines) ≡ false) × (any (all absent?) (part ts floor-line) ≡ false) × (sheet-of m n ts l d ≡ t)
 finished-got m n ts l d (b ∷ y) e = absurd (not-got e)
 finished-got m n ts l d [] {t} e =
     let end = got (sheet-of m n ts l d) [] in
     let (f, g) = passed (any (all absent?) (part ts lag-lines)) 6 (cond (any (all absent?) (part ts floor-line)) (refused 7) end) e in
     let (h, k) = passed (any (all absent?) (part ts floor-line)) 7 end g in
     let c : sheet-of m n ts l d ≡ t = cc in
-    (f, h, c)
+    (refl, f, h, c)
 
 pub size-good : {t : List (List E)} → RowsOf size 1 1 t → (1 ≤ count t) × (count t ≤ size-limit)
 unfolding val
@@ -135,5 +136,5 @@ read-good s t x e =
     let (ts, z, b, h) = bind-got (sections (tables (count (part ps panels-line)) (count (part ps triggers-line))) y) g in
     let (l, v, d, i) = bind-got (optional (land-kind (count (part ps panels-line)) (count (part ps triggers-line))) z) h in
     let (o, w, j, k) = bind-got (optional (last-kind (count (part ps panels-line))) v) i in
-    let (p, q, c) = finished-got (count (part ps panels-line)) (count (part ps triggers-line)) ts l o w k in
+    let (_, p, q, c) = finished-got (count (part ps panels-line)) (count (part ps triggers-line)) ts l o w k in
     rw (← c) (parts-good (count (part ps panels-line)) (count (part ps triggers-line)) (m .1) (n .0) (n .1) y b l o d j p q)

@@ -3,7 +3,7 @@
 use mathlib.Core.Path.{_≡_, refl, ap}
 use mathlib.Core.List.{List, [], _∷_}
 use mathlib.Core.Bool.{Bool, true, false, cond, _&&_}
-use mathlib.Core.Option.{Option, none, some}
+use mathlib.Core.Option.{none, some}
 use Prim.Native.Nat.{ℕ, zero, suc, _+_, _-_, _*_, _≤_, _<_}
 use Prim.Native.String.{String}
 use native.Mathlib.Nat.{le-refl, suc-mul, mul-le-mul}
@@ -14,18 +14,17 @@ use lib.IntN.{pos}
 use lib.ListN.{length}
 use Rattle.maxplus.specs.Whole.{up, dn}
 use Rattle.maxplus.specs.Entry.{E, absent, num}
-use Rattle.maxplus.specs.Tables.{Mat}
 use Rattle.maxplus.proofs.WholeLaws.{up-neg}
 use Rattle.cue.specs.Sizes.{size-limit}
 use Rattle.sheet.specs.Text.{bytes}
 use Rattle.sheet.specs.Good.{Passes}
 use Rattle.sheet.specs.Sheet.{Got, got, refused, got?, _>>=_, literal, digit, leading, value, behind, signed, item, ending, ended, items, line, rows}
 use Rattle.sheet.specs.Sheet.{Rule, size, entry, mark, limit, out-of-range, absent?, no-size, any, checked, table, Section, kind, sizes, tables}
-use Rattle.sheet.specs.Sheet.{panels-line, triggers-line, section, sections, optional, land-kind, last-kind, part, count, Sheet, finished}
+use Rattle.sheet.specs.Sheet.{panels-line, triggers-line, section, sections, optional, land-kind, last-kind, part, count, Sheet}
 use Rattle.sheet.specs.Sheet.{lines, read}
 use Rattle.sheet.proofs.LineLaws.{none-or, not-got, bind-got, passed, checked-passes, size-there}
 use Rattle.sheet.proofs.SectionLaws.{sections-of}
-use Rattle.sheet.proofs.Good.{size-good}
+use Rattle.sheet.proofs.Good.{size-good, finished-got}
 
 -- ---- how many bytes each part can have
 -- the digits behind an item's minus: none in a size, which has no minus; six in an entry or a mark, as in -100000
@@ -145,7 +144,7 @@ item-takes l (b ∷ s) =
     (if-takes (eqb b 0x2D) (λ e. signed-takes l s)
     (if-takes (leading b) (λ e. got-takes _ (behind s) (λ h. omega (arith, numeral-few (suc l) b s e (h .0)))) refused-takes))
 
-one-ending : (k : ℕ) → length (ending k) ≡ 1
+pub one-ending : (k : ℕ) → length (ending k) ≡ 1
 unfolding bytes
 one-ending zero = refl
 one-ending (suc k) = refl
@@ -231,11 +230,6 @@ tables-most : (m n : ℕ) → m ≤ size-limit → n ≤ size-limit → sections
 tables-most m n h g =
     omega (arith, kind-most "lag=" entry h g, kind-most "floor=" entry (le-refl 1) h, kind-most "due=" mark (le-refl 1) g, kind-most "after=" entry g g)
 
-finished-none : (m n : ℕ) (ts : List (List (List E))) (l d : Option Mat) (x : List ℕ) {t : Sheet} {y : List ℕ} →
-    finished m n ts l d x ≡ got t y → length x ≡ 0
-finished-none m n ts l d [] e = refl
-finished-none m n ts l d (b ∷ x) e = absurd (not-got e)
-
 -- no good sheet has more bytes
 pub longest-good : (s : List ℕ) (t : Sheet) (r : List ℕ) → read s ≡ got t r → length s ≤ longest
 unfolding read lines
@@ -262,5 +256,5 @@ longest-good s t r e =
       kind-most "land=" entry few-n few-m,
       lasts,
       kind-most "last=" mark (le-refl 1) few-m,
-      finished-none m n ts l o u k,
+      ap length (finished-got m n ts l o u k .0),
     )

@@ -1,7 +1,6 @@
 -- The other way round: the bytes of a sheet that was read are the text of its tables.
 use mathlib.Core.Path.{_≡_, refl, ap, ap₂, sym, subst, _∙_}
 use mathlib.Core.List.{List, [], _∷_, _++_}
-use mathlib.Core.Bool.{cond}
 use mathlib.Core.Option.{Option, none, some}
 use Prim.Native.Nat.{ℕ, zero, suc, _≤_, _<_}
 use native.Mathlib.Omega.{arith}
@@ -11,12 +10,12 @@ use Rattle.maxplus.specs.Entry.{E, absent, val}
 use Rattle.maxplus.specs.Tables.{Mat}
 use Rattle.sheet.specs.Text.{bytes}
 use Rattle.sheet.specs.Good.{RowsOf}
-use Rattle.sheet.specs.Sheet.{got, refused, size, entry, mark, absent?, any, all, table, kind, sections, sizes, tables, optional, land-kind, last-kind, part}
-use Rattle.sheet.specs.Sheet.{panels-line, triggers-line, lag-lines, floor-line, due-line, after-lines, Sheet, count, moments, sheet-of, finished, sized}
+use Rattle.sheet.specs.Sheet.{got, size, entry, mark, absent?, table, kind, sections, sizes, tables, optional, land-kind, last-kind, part}
+use Rattle.sheet.specs.Sheet.{panels-line, triggers-line, lag-lines, floor-line, due-line, after-lines, Sheet, count, moments, sheet-of, sized}
 use Rattle.sheet.specs.Sheet.{lines, read}
-use Rattle.sheet.proofs.LineLaws.{none-at, not-got, bind-got, passed, there}
+use Rattle.sheet.proofs.LineLaws.{none-at, bind-got, passed, there}
 use Rattle.sheet.proofs.SectionLaws.{row-long, row-passes, sections-of, optional-of, size-read}
-use Rattle.sheet.proofs.Good.{size-good}
+use Rattle.sheet.proofs.Good.{size-good, finished-got}
 use Rattle.sheet_text.specs.SheetText.{section-text, sections-text, optional-text, alone, one-line, numbers, if-given, sheet-text}
 use Rattle.sheet_text.proofs.LineText.{rows-same}
 use Rattle.sheet_text.proofs.ReadBack.{tables-text, rest-text, text-parts}
@@ -61,16 +60,6 @@ module _ (m n : ℕ) where
       let (t, R, same) = optional-of (last-kind m) s e in
       rows-same (bytes "last=") 1 m c _ (λ i j h q. rw (← same) (marks-same R i j h q))
 
-  finished-only : (ts : List (List (List E))) (land last : Option Mat) (x : List ℕ) {t : Sheet} {r : List ℕ} →
-      finished m n ts land last x ≡ got t r → (x ≡ []) × (sheet-of m n ts land last ≡ t)
-  finished-only ts land last (b ∷ x) e = absurd (not-got e)
-  finished-only ts land last [] {t} e =
-      let end = got (sheet-of m n ts land last) [] in
-      let f = passed (any (all absent?) (part ts lag-lines)) 6 (cond (any (all absent?) (part ts floor-line)) (refused 7) end) e .1 in
-      let g = passed (any (all absent?) (part ts floor-line)) 7 end f .1 in
-      let c : sheet-of m n ts land last ≡ t = cc in
-      (refl, c)
-
   -- what is read behind the sizes, kind by kind: the lines of each kind were written so in front of what they leave, and nothing is left
   rest-only : 1 ≤ m → 1 ≤ n → (s : List ℕ) {t : Sheet} {r : List ℕ} → sized m n s ≡ got t r →
       (t .panels ≡ m) × (t .triggers ≡ n) × (s ≡ rest-text t)
@@ -78,7 +67,7 @@ module _ (m n : ℕ) where
       let (ts, x, a, f) = bind-got (sections (tables m n) s) e in
       let (land, y, b, g) = bind-got (optional (land-kind m n) x) f in
       let (last, z, c, h) = bind-got (optional (last-kind m) y) g in
-      let (none-left, is) = finished-only ts land last z h in
+      let (none-left, _, _, is) = finished-got m n ts land last z h in
       subst (λ t. (t .panels ≡ m) × (t .triggers ≡ n) × (s ≡ rest-text t)) is (refl, refl, parts ts land last x y z a b c none-left)
     where
       parts : (ts : List (List (List E))) (land last : Option Mat) (x y z : List ℕ) → sections (tables m n) s ≡ got ts x →

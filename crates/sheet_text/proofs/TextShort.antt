@@ -1,5 +1,5 @@
 -- How long lines are that fit their kind: no longer than the most bytes that a sheet's lines of that kind can have (sheet/proofs/Longest).
-use mathlib.Core.Path.{_≡_, refl, ap}
+use mathlib.Core.Path.{_≡_, ap}
 use mathlib.Core.List.{List, [], _∷_, _++_}
 use mathlib.Core.Bool.{false}
 use mathlib.Core.Option.{Option, none, some}
@@ -14,9 +14,9 @@ use Rattle.maxplus.specs.Entry.{E, absent, num}
 use Rattle.maxplus.specs.Finite.{each}
 use Rattle.maxplus.specs.Tables.{Vec, Mat}
 use Rattle.sheet.specs.Text.{bytes}
-use Rattle.sheet.specs.Sheet.{ending, Rule, size, entry, mark, limit, out-of-range, Section}
+use Rattle.sheet.specs.Sheet.{Rule, size, entry, mark, limit, out-of-range, Section}
 use Rattle.sheet.proofs.LineLaws.{none-or, size-there}
-use Rattle.sheet.proofs.Longest.{places, item-most, section-most, sections-most}
+use Rattle.sheet.proofs.Longest.{places, item-most, section-most, sections-most, one-ending}
 use Rattle.writing.specs.Numerals.{item}
 use Rattle.writing.proofs.NumeralLaws.{natural-small, signed-length}
 use Rattle.sheet_text.specs.SheetText.{row-text, rows-text, section-text, sections-text, optional-text}
@@ -33,11 +33,6 @@ item-short : (r : Rule) (e : E) → Allowed r e → length (item e) ≤ suc (pla
 item-short size e (there, right) = let (m, q, few) = size-there e there right in rw (q, natural-small (suc m) (omega arith)) (omega arith)
 item-short entry e h = range-short e h
 item-short mark e (h, there) = range-short e h
-
-one-ending : (k : ℕ) → length (ending k) ≡ 1
-unfolding bytes
-one-ending zero = refl
-one-ending (suc k) = refl
 
 module _ (r : Rule) where
   ends-short : (k : ℕ) (v : Vec) → ((j : ℕ) → j < k → Allowed r (v j)) → length (ends k v) ≤ k * item-most r

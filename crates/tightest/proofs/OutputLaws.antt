@@ -30,4 +30,4 @@ copied t before out r e f =
 
 -- a refusal gets a sentence
 pub explained : (s : List ℕ) (count : ℕ) (X : Timing) (k : ℕ) → refused k ≡ testing s count X → 0 < length (tested-complaint (testing s count X))
-explained s count X k e = let n = known-number s count X k e in rw (← e) (advised k (n .0) (n .1))
+explained s count X k e = let n = known-number s count X k e in rw (← e) (advised k (n .0) (let m = n .1 in omega arith))

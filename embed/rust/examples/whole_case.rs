@@ -1,12 +1,13 @@
 //! The whole case from Rust: plans it, chooses times from its lines, tests them, finds the latest that
 //! are no later than wished, lets a trigger wait for a panel, plans it for a desk with an idle trigger and
-//! with last moments, and compares it with other sheets.
+//! with last moments, and compares it with other sheets; then makes a sheet to try and plans that.
 //!
 //!     rt staticlib planner_c
 //!     cargo run --offline --manifest-path embed/rust/Cargo.toml --example whole_case
 
 use std::error::Error;
-use tuzhelar::{CAPPED_WORDS, LINE_WORDS, Refusal, kept, latest, plan, same, test};
+use tuzhelar::{CAPPED_WORDS, HIRE_BYTES, LINE_WORDS, Refusal};
+use tuzhelar::{hire, kept, latest, plan, same, test};
 
 const SHEET: &[u8] = b"panels=2
 triggers=2
@@ -96,6 +97,19 @@ fn print_downbeat() -> Result<(), Refusal> {
     Ok(())
 }
 
+/// A sheet to try, made from its sizes and a state; the next would be made from the state that is returned.
+fn print_hired() -> Result<(), Refusal> {
+    let mut bytes = [0; HIRE_BYTES];
+    let hired = hire(2, 2, 1, &mut bytes)?;
+    println!("made from state 1, next state {}", hired.state);
+    print!("{}", String::from_utf8_lossy(hired.sheet));
+    print!("its {}", plan(hired.sheet, &mut [0; 20 * LINE_WORDS])?);
+    if let Err(refusal) = hire(2, 7, 1, &mut bytes) {
+        println!("refused={}: {refusal}", refusal.number());
+    }
+    Ok(())
+}
+
 fn main() -> Result<(), Box<dyn Error>> {
     // Space for one line is too little; the refusal says how many words to lend.
     let mut space = vec![0; LINE_WORDS];
@@ -170,5 +184,6 @@ fn main() -> Result<(), Box<dyn Error>> {
     if let Err(refusal) = plan(NO_ORDER, &mut space) {
         println!("refused={}: {refusal}", refusal.number());
     }
+    print_hired()?;
     Ok(())
 }

@@ -49,6 +49,15 @@ unsafe extern "C" {
         answer: *mut i64,
         answer_length: usize,
     ) -> u32;
+    fn tuzhelar_hire(
+        panels: usize,
+        triggers: usize,
+        state: u32,
+        bytes: *mut u8,
+        bytes_length: usize,
+        answer: *mut i64,
+        answer_length: usize,
+    ) -> u32;
 }
 
 pub fn plan(sheet: &[u8], space: &mut [i32], answer: &mut [i64]) -> u32 {
@@ -117,6 +126,28 @@ pub fn same(
             left.len(),
             right.as_mut_ptr(),
             right.len(),
+            answer.as_mut_ptr(),
+            answer.len(),
+        )
+    }
+}
+
+pub fn hire(
+    panels: usize,
+    triggers: usize,
+    state: u32,
+    bytes: &mut [u8],
+    answer: &mut [i64],
+) -> u32 {
+    // SAFETY: as in `plan`, with `bytes` in the place of `space`; the other arguments are numbers, of which
+    // nothing is asked.
+    unsafe {
+        tuzhelar_hire(
+            panels,
+            triggers,
+            state,
+            bytes.as_mut_ptr(),
+            bytes.len(),
             answer.as_mut_ptr(),
             answer.len(),
         )

@@ -1,7 +1,8 @@
 //! Tuzhelar, the proved planner for surtitle cues, behind safe functions.
 //!
-//! The five operations are proved, from the bytes of a sheet to the words written; this crate only calls
-//! them (`ffi`) and gives names to the words. Slices of any length and content have an answer.
+//! The six operations are proved, from the bytes of a sheet to the words written, and from a state to the
+//! bytes of a sheet; this crate only calls them (`ffi`) and gives names to the words. Slices of any length
+//! and content have an answer.
 //!
 //! `rt staticlib planner_c` writes the library that is linked; `build.rs` says where it is looked for.
 //!
@@ -46,11 +47,19 @@
 //! let other = b"panels=2\ntriggers=2\nlag=4,1\nlag=2,0\nfloor=2,5\ndue=1,2\nafter=-,-\nafter=-,-\n";
 //! let (mut left, mut right) = ([0; 20 * tuzhelar::LINE_WORDS], [0; 20 * tuzhelar::LINE_WORDS]);
 //! assert!(tuzhelar::same(sheet, other, &mut left, &mut right)?.same());
+//!
+//! // A sheet to try, made from its sizes and a state. The next would be made from the state returned.
+//! let mut bytes = [0; tuzhelar::HIRE_BYTES];
+//! let hired = tuzhelar::hire(2, 2, 1, &mut bytes)?;
+//! assert!(hired.sheet.starts_with(b"panels=2\ntriggers=2\nlag=-517,-\nlag=947,-74\nfloor=907,-611\n"));
+//! assert_eq!(hired.state, 1_788_458_157);
+//! assert_eq!(tuzhelar::plan(hired.sheet, &mut space)?.deviation, 1054);
 //! # Ok::<(), Box<dyn std::error::Error>>(())
 //! ```
 #![deny(missing_docs, unsafe_code)]
 
 mod ffi;
+mod hire;
 mod latest;
 mod list;
 mod plan;
@@ -59,6 +68,7 @@ mod same;
 
 use list::List;
 
+pub use hire::{HIRE_BYTES, Hired, hire};
 pub use latest::{Latest, latest};
 pub use list::Line;
 pub use plan::Plan;

@@ -3,7 +3,7 @@
 use std::error::Error;
 use std::fmt;
 
-/// Why an operation gave no result. A refusal has changed no lent word.
+/// Why an operation gave no result. A refusal has changed no lent byte or word.
 ///
 /// Written by `{}`, it is a sentence that says what it means and what to look at.
 #[derive(Clone, Copy, Debug, PartialEq, Eq, Hash)]
@@ -38,10 +38,14 @@ pub enum Refusal {
     Components,
     /// 11: a time is beyond ±1,000,000,000.
     Time,
+    /// 12: a size of a sheet to make is not 1 to 6.
+    HireSize,
+    /// 13: a sheet to make is longer than the bytes lent. [`HIRE_BYTES`](crate::HIRE_BYTES) are always enough.
+    SheetSpace,
 }
 
 impl Refusal {
-    /// The number, 1 to 11, that stands for this refusal in C and in the programs' texts.
+    /// The number, 1 to 13, that stands for this refusal in C and in the programs' texts.
     pub fn number(self) -> u32 {
         match self {
             Refusal::TooLong => 1,
@@ -55,6 +59,8 @@ impl Refusal {
             Refusal::Space { .. } => 9,
             Refusal::Components => 10,
             Refusal::Time => 11,
+            Refusal::HireSize => 12,
+            Refusal::SheetSpace => 13,
         }
     }
 
@@ -76,6 +82,8 @@ impl Refusal {
             },
             10 => Refusal::Components,
             11 => Refusal::Time,
+            12 => Refusal::HireSize,
+            13 => Refusal::SheetSpace,
             _ => unreachable!("the contracts of the library have no refusal {number}"),
         }
     }
@@ -119,6 +127,10 @@ impl fmt::Display for Refusal {
             }
             Refusal::Components => "there are not as many times as the sheet has triggers",
             Refusal::Time => "a time is below -1,000,000,000 or above 1,000,000,000",
+            Refusal::HireSize => "the number of panels or of triggers asked for is not 1 to 6",
+            Refusal::SheetSpace => {
+                "the sheet is longer than the bytes lent for it; 1,133 bytes are always enough"
+            }
         };
         f.write_str(sentence)
     }

@@ -264,6 +264,8 @@ fn refusals_have_their_sentences() {
         TOO_SMALL,
         Refusal::Components,
         Refusal::Time,
+        Refusal::HireSize,
+        Refusal::SheetSpace,
     ];
     for (refusal, number) in all.into_iter().zip(1..) {
         assert_eq!(refusal.number(), number);

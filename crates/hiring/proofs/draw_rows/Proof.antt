@@ -2,7 +2,6 @@
 use mathlib.Core.Path.{_≡_}
 use Prim.Native.Nat.{_-_, _≤_}
 use native.Mathlib.Omega.{arith}
-use borrow.Author.Needs.{needs}
 use Rattle.hiring.specs.Inner.{kind-of, RowsDrawn}
 use Rattle.hiring.proofs.DrawLaws.{rows-none, rows-more}
 use Rattle.hiring.proofs.draw_rows.Statement.{statement}

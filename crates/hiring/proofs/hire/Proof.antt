@@ -5,9 +5,7 @@ use native.Mathlib.Omega.{arith}
 use borrow.Author.Needs.{needs}
 use borrow.Author.Tests.{not-true, not-false}
 use lib.ListN.{length}
-use Rattle.sheet_text.specs.SheetText.{sheet-text}
-use Rattle.hiring.specs.Hiring.{size?, load}
-use Rattle.hiring.specs.declared.Hired.{Hired}
+use Rattle.hiring.specs.Hiring.{size?}
 use Rattle.hiring.proofs.HireLaws.{size-there, no-panels, no-triggers, no-room, room-there, does, made-length, made-taken, delivered}
 use Rattle.hiring.proofs.hire.Statement.{statement}
 use Rattle.hiring.proofs.hire.Tie as tie

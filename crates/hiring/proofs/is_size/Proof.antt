@@ -1,6 +1,4 @@
 -- `hiring::is_size` meets its contract. Assumes nothing.
-use mathlib.Core.Path.{refl}
-use native.Mathlib.Omega.{arith}
 use borrow.Author.Tests.{le-leb, lt-leb}
 use Rattle.hiring.proofs.is_size.Statement.{statement}
 use Rattle.hiring.proofs.is_size.Tie as tie

@@ -16,67 +16,47 @@ slice-aggregate-put-lines c = search needs
 put-lines-requires : tie.Need-put-lines-requires
 put-lines-requires c κs = search needs
 
+put-marks-requires : tie.Need-put-marks-requires
+put-marks-requires c κs = search needs
+
 slice-aggregate-put-lines-2 : tie.Need-slice-aggregate-put-lines-2
 slice-aggregate-put-lines-2 c = search needs
 
 put-lines-requires-2 : tie.Need-put-lines-requires-2
-put-lines-requires-2 c κs = search needs
-
-slice-aggregate-put-lines-3 : tie.Need-slice-aggregate-put-lines-3
-slice-aggregate-put-lines-3 c = search needs
-
-put-lines-requires-3 : tie.Need-put-lines-requires-3
-put-lines-requires-3 c κs =
+put-lines-requires-2 c κs =
     let start : tie.Start = search in
-    let floor : tie.After-put-lines2 = search in
+    let marks : tie.After-put-marks = search in
     let lag : tie.After-put-lines = search in
     let sizes : tie.After-put-sizes = search in
-    let f = floor .put-lines2 .ensures in
+    let m = marks .put-marks .ensures in
     let l = lag .put-lines .ensures in
-    let p = sizes .put-sizes .ensures in
-    (omega (arith, start .pre, f .0 .same-length, f .1 .0, l .0 .same-length, l .1 .0, p .0 .same-length, p .1), omega arith,
-    omega arith, omega (arith, start .pre))
-
-slice-aggregate-put-lines-4 : tie.Need-slice-aggregate-put-lines-4
-slice-aggregate-put-lines-4 c = search needs
-
-put-lines-requires-4 : tie.Need-put-lines-requires-4
-put-lines-requires-4 c κs =
-    let start : tie.Start = search in
-    let due : tie.After-put-lines3 = search in
-    let floor : tie.After-put-lines2 = search in
-    let lag : tie.After-put-lines = search in
-    let sizes : tie.After-put-sizes = search in
-    let d = due .put-lines3 .ensures in
-    let f = floor .put-lines2 .ensures in
-    let l = lag .put-lines .ensures in
-    let p = sizes .put-sizes .ensures in
-    (omega (arith, start .pre, d .0 .same-length, d .1 .0, f .0 .same-length, f .1 .0, l .0 .same-length, l .1 .0, p .0 .same-length, p .1), omega arith, omega (arith, start .pre), omega (arith, start .pre))
+    let p = sizes .put-sizes .ensures in (
+      omega (arith, start .pre, m .0 .same-length, m .1 .0, l .0 .same-length, l .1 .0, p .0 .same-length, p .1),
+      omega arith,
+      omega (arith, start .pre),
+      omega (arith, start .pre),
+    )
 
 same-length : tie.Need-same-length
 same-length c =
-    let after : tie.After-put-lines4 = search in
-    let due : tie.After-put-lines3 = search in
-    let floor : tie.After-put-lines2 = search in
+    let after : tie.After-put-lines2 = search in
+    let marks : tie.After-put-marks = search in
     let lag : tie.After-put-lines = search in
     let sizes : tie.After-put-sizes = search in
-    after .put-lines4 .ensures .0 .same-length ∙ due .put-lines3 .ensures .0 .same-length ∙ floor .put-lines2 .ensures .0 .same-length ∙
-    lag .put-lines .ensures .0 .same-length ∙ sizes .put-sizes .ensures .0 .same-length
+    after .put-lines2 .ensures .0 .same-length ∙ marks .put-marks .ensures .0 .same-length ∙ lag .put-lines .ensures .0 .same-length ∙
+    sizes .put-sizes .ensures .0 .same-length
 
 returns : tie.Need-returns
 unfolding bytes
 returns c =
-    let after : tie.After-put-lines4 = search in
-    let due : tie.After-put-lines3 = search in
-    let floor : tie.After-put-lines2 = search in
+    let after : tie.After-put-lines2 = search in
+    let marks : tie.After-put-marks = search in
     let lag : tie.After-put-lines = search in
     let sizes : tie.After-put-sizes = search in
     let l = lag .put-lines .ensures in
-    let f = floor .put-lines2 .ensures in
-    let d = due .put-lines3 .ensures in
-    let a = after .put-lines4 .ensures in
-    sheet-put _ _ _ (sizes .put-sizes .ensures .0) (l .0) (l .1 .1) (f .0) (f .1 .1) (d .0) (d .1 .1)
-    (a .0) (a .1 .1)
+    let m = marks .put-marks .ensures in
+    let a = after .put-lines2 .ensures in
+    sheet-put _ _ _ (sizes .put-sizes .ensures .0) (l .0) (l .1 .1) (m .0) (m .1 .1) (a .0) (a .1 .1)
 
 pub put-sheet-spec : {M : Type 1} → statement M
 put-sheet-spec =
@@ -85,11 +65,8 @@ put-sheet-spec =
     put-sizes-requires
     slice-aggregate-put-lines
     put-lines-requires
+    put-marks-requires
     slice-aggregate-put-lines-2
     put-lines-requires-2
-    slice-aggregate-put-lines-3
-    put-lines-requires-3
-    slice-aggregate-put-lines-4
-    put-lines-requires-4
     same-length
     returns)

@@ -1,10 +1,8 @@
 -- `table_text::put_entries` meets its contract. The loop's invariant: the first `j` entries are put. Assumes nothing.
-use mathlib.Core.Path.{_≡_, refl}
-use mathlib.Core.List.{[], _∷_}
+use mathlib.Core.Path.{_≡_}
 use Prim.Native.Nat.{_-_, _≤_}
 use native.Mathlib.Omega.{arith}
 use Rattle.tables.specs.Held.{meantV}
-use Rattle.writing.specs.Numerals.{item}
 use Rattle.writing.proofs.PutLaws.{then, put-as}
 use Rattle.writing.proofs.TextLaws.{Grown, grown-none, grown-more, items-none, items-more}
 use Rattle.sheet_text.specs.SheetText.{row-items}

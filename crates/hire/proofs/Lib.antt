@@ -1,0 +1,4 @@
+-- The program.
+pub mod CallLaws
+pub mod OutputLaws
+pub mod AskedLaws
