@@ -19,7 +19,7 @@ use Rattle.writing.specs.Texts.{refusal-text}
 use Rattle.writing.specs.Writing.{Writes}
 use Rattle.advice.specs.Advice.{advice}
 use Rattle.advice.proofs.AdviceLaws.{advised}
-use Rattle.hiring.specs.Hiring.{drawn, load, draws, chained, HireOutcome, hired, refused, size?, hiring, bytes-after, hire-answer}
+use Rattle.hiring.specs.Hiring.{drawn, sheet-from, draws, chained, HireOutcome, hired, refused, size?, hiring, bytes-after, hire-answer}
 use Rattle.hiring.specs.declared.Hired.{Hired}
 use Rattle.hiring.proofs.HireLaws.{size-there, no-panels, no-triggers}
 use Rattle.hiring.proofs.Loads.{room-enough}
@@ -35,9 +35,9 @@ Known (refused k) = (12 ≤ k) × (k ≤ 13)
 
 hiring-known : (m n s room : ℕ) → Known (hiring m n s room)
 unfolding hiring
-hiring-known m n s room = go (size? m && size? n) (leb (length (sheet-text (load m n s))) room)
+hiring-known m n s room = go (size? m && size? n) (leb (length (sheet-text (sheet-from m n s))) room)
   where
-    go : (a b : Bool) → Known (cond a (cond b (hired (sheet-text (load m n s)) (drawn s (draws m n))) (refused 13)) (refused 12))
+    go : (a b : Bool) → Known (cond a (cond b (hired (sheet-text (sheet-from m n s)) (drawn s (draws m n))) (refused 13)) (refused 12))
     go true true = tt
     go true false = (omega arith, omega arith)
     go false b = (omega arith, omega arith)
@@ -124,5 +124,5 @@ called w x room a e r later =
 
 -- ---- "a generator writes one sheet": with sizes 1 to 6 the program's space is enough
 pub sheet-written : (w : Wanted) → size? (w .panels) ≡ true → size? (w .triggers) ≡ true →
-    hire-text (program-hire w) ≡ sheet-text (load (w .panels) (w .triggers) (chained (w .panels) (w .triggers) (w .state) (w .before)))
+    hire-text (program-hire w) ≡ sheet-text (sheet-from (w .panels) (w .triggers) (chained (w .panels) (w .triggers) (w .state) (w .before)))
 sheet-written w p q = ap hire-text (room-enough (w .panels) (w .triggers) _ 2048 p q (omega (arith, longest-is)))

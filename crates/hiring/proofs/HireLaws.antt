@@ -12,7 +12,7 @@ use Rattle.writing.specs.Writing.{Puts}
 use Rattle.writing.proofs.PutLaws.{put-as, put-front}
 use Rattle.writing.proofs.TextLaws.{counted}
 use Rattle.sheet_text.specs.SheetText.{sheet-text}
-use Rattle.hiring.specs.Hiring.{drawn, load, draws, HireOutcome, hired, refused, size?, hiring, bytes-after, hire-answer}
+use Rattle.hiring.specs.Hiring.{drawn, sheet-from, draws, HireOutcome, hired, refused, size?, hiring, bytes-after, hire-answer}
 use Rattle.hiring.specs.declared.Hired.{Hired}
 
 pub both : (a b : Bool) → a && b ≡ true → (a ≡ true) × (b ≡ true)
@@ -34,13 +34,13 @@ module _ (m n s room : ℕ) where
     no-triggers e = rw (p, e)
 
     module _ (q : size? n ≡ true) where
-      pub no-room : room < length (sheet-text (load m n s)) → hiring m n s room ≡ refused 13
+      pub no-room : room < length (sheet-text (sheet-from m n s)) → hiring m n s room ≡ refused 13
       unfolding hiring
-      no-room h = rw (p, q, lt-leb (length (sheet-text (load m n s))) room h)
+      no-room h = rw (p, q, lt-leb (length (sheet-text (sheet-from m n s))) room h)
 
-      pub room-there : length (sheet-text (load m n s)) ≤ room → hiring m n s room ≡ hired (sheet-text (load m n s)) (drawn s (draws m n))
+      pub room-there : length (sheet-text (sheet-from m n s)) ≤ room → hiring m n s room ≡ hired (sheet-text (sheet-from m n s)) (drawn s (draws m n))
       unfolding hiring
-      room-there h = rw (p, q, le-leb (length (sheet-text (load m n s))) room h)
+      room-there h = rw (p, q, le-leb (length (sheet-text (sheet-from m n s))) room h)
 
   -- what is returned and left is what the outcome says
   pub does : (lent : List ℕ) {o : HireOutcome} {r : Hired} {after : List ℕ} → hiring m n s room ≡ o → r ≡ hire-answer o →

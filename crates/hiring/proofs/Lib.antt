@@ -2,8 +2,8 @@
 pub mod DrawLaws
 pub mod ChainLaws
 pub mod ItemLaws
-pub mod LoadText
-pub mod LoadLaws
+pub mod SheetParts
+pub mod MadeLaws
 pub mod HireLaws
 pub mod Loads
 pub mod HireCases

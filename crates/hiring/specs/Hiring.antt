@@ -63,8 +63,8 @@ absence below-diagonal i j = cond (ltb j i) by-sevens always
 unfoldable pub items : Kind → ℕ → ℕ → Mat
 items k n s i j = made (absence k i j) (upper (drawn s (suc (i * n + j))))
 
-unfoldable pub load : ℕ → ℕ → ℕ → Sheet
-load m n s =
+unfoldable pub sheet-from : ℕ → ℕ → ℕ → Sheet
+sheet-from m n s =
     record {
       panels = m;
       triggers = n;
@@ -97,7 +97,7 @@ size? k = leb 1 k && leb k size-limit
 -- "It refuses sizes outside 1 to 6 as 12, then too little space as 13", where so many bytes are lent
 unfoldable pub hiring : (m n s room : ℕ) → HireOutcome
 hiring m n s room =
-    let t = sheet-text (load m n s) in
+    let t = sheet-text (sheet-from m n s) in
     cond (size? m && size? n) (cond (leb (length t) room) (hired t (drawn s (draws m n))) (refused 13)) (refused 12)
 
 -- "Any later operation that writes also writes at the front … and leaves the rest." "A refusal … changes no lent byte or word."

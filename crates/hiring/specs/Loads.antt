@@ -13,7 +13,7 @@ use Rattle.sheet.proofs.Longest.{longest}
 use Rattle.sheet_text.specs.SheetText.{sheet-text, trimmed}
 use Rattle.planning.specs.Planning.{planning}
 use Rattle.planning.specs.Demands.{Planned}
-use Rattle.hiring.specs.Hiring.{drawn, load, draws, HireOutcome, hired, size?, hiring, bytes-after, hire-answer}
+use Rattle.hiring.specs.Hiring.{drawn, sheet-from, draws, HireOutcome, hired, size?, hiring, bytes-after, hire-answer}
 
 -- the bytes of the sheet: as many as were written, at the front of those lent
 abbrev pub front : HireOutcome → List ℕ → List ℕ
@@ -28,9 +28,9 @@ pub record Accepted (t : Sheet) (sheet : List ℕ) : Type 0 where
 -- the tables drawn, which hold nothing outside the sizes
 abbrev pub Every-accepted : Type 0
 Every-accepted = (m n s : ℕ) (lent text : List ℕ) (state : ℕ) → hiring m n s (length lent) ≡ hired text state →
-    Accepted (trimmed (load m n s)) (front (hiring m n s (length lent)) lent)
+    Accepted (trimmed (sheet-from m n s)) (front (hiring m n s (length lent)) lent)
 
 -- 13 has no part where as many bytes are lent as the longest good sheet has
 abbrev pub Room-enough : Type 0
 Room-enough = (m n s room : ℕ) → size? m ≡ true → size? n ≡ true → longest ≤ room →
-    hiring m n s room ≡ hired (sheet-text (load m n s)) (drawn s (draws m n))
+    hiring m n s room ≡ hired (sheet-text (sheet-from m n s)) (drawn s (draws m n))

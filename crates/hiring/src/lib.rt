@@ -12,7 +12,7 @@ ghost use Rattle.writing.specs.Texts.{field};
 ghost use Rattle.writing.specs.Writing.{Puts};
 ghost use Rattle.sheet_text.specs.SheetText.{rows-text, sheet-text};
 ghost use Rattle.hiring.specs.Hiring as hiring;
-ghost use Rattle.hiring.specs.Hiring.{next, drawn, made, absence, items, by-sevens, first-there, all-there, load};
+ghost use Rattle.hiring.specs.Hiring.{next, drawn, made, absence, items, by-sevens, first-there, all-there, sheet-from};
 ghost use Rattle.hiring.specs.Hiring.{draws, hiring, bytes-after, hire-answer};
 ghost use Rattle.hiring.specs.Inner.{kind-of, RowDrawn, RowsDrawn};
 use table_text::put_rows;
@@ -113,7 +113,7 @@ fn put_sizes(text: &mut [u8], panels: usize, triggers: usize) -> usize
 // The sheet, kind of line by kind of line: the sizes take at most 58 bytes, each other line at most 60.
 fn put_sheet(text: &mut [u8], panels: usize, triggers: usize, state: u32) -> Put
     requires { ⌜ (1024 ≤ length (now text)) × (panels ≤ size-limit) × (triggers ≤ size-limit) ⌝ }
-    ensures text { λ r. ⌜ Puts (now (text .entry)) (now (text .exit)) 0 (r .end) (sheet-text (load panels triggers state)) ⌝ }
+    ensures text { λ r. ⌜ Puts (now (text .entry)) (now (text .exit)) 0 (r .end) (sheet-text (sheet-from panels triggers state)) ⌝ }
     ensures state { λ r. ⌜ r .state ≡ drawn state (draws panels triggers) ⌝ }
 {
     let end = put_sizes(text, panels, triggers);

@@ -2,7 +2,7 @@
 use native.Mathlib.Omega.{arith}
 use borrow.Author.Needs.{needs}
 use Rattle.sheet.specs.Text.{bytes}
-use Rattle.hiring.proofs.LoadText.{marks-put}
+use Rattle.hiring.proofs.SheetParts.{marks-put}
 use Rattle.hiring.proofs.put_marks.Statement.{statement}
 use Rattle.hiring.proofs.put_marks.Tie as tie
 

@@ -3,7 +3,7 @@ use mathlib.Core.Path.{_∙_}
 use native.Mathlib.Omega.{arith}
 use borrow.Author.Needs.{needs}
 use Rattle.sheet.specs.Text.{bytes}
-use Rattle.hiring.proofs.LoadText.{sheet-put}
+use Rattle.hiring.proofs.SheetParts.{sheet-put}
 use Rattle.hiring.proofs.put_sheet.Statement.{statement}
 use Rattle.hiring.proofs.put_sheet.Tie as tie
 

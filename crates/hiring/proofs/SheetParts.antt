@@ -11,7 +11,7 @@ use Rattle.writing.specs.Texts.{field, joined}
 use Rattle.writing.specs.Writing.{Puts}
 use Rattle.writing.proofs.PutLaws.{then, put-as}
 use Rattle.sheet_text.specs.SheetText.{rows-text, sheet-text}
-use Rattle.hiring.specs.Hiring.{drawn, made, absence, items, load, draws, first-there, all-there, below-diagonal}
+use Rattle.hiring.specs.Hiring.{drawn, made, absence, items, sheet-from, draws, first-there, all-there, below-diagonal}
 use Rattle.hiring.proofs.DrawLaws.{drawn-add}
 
 -- six texts as a sheet's text has them
@@ -55,15 +55,15 @@ module _ (m n s : ℕ) where
   triggers-text = field (bytes "triggers=") (natural n)
 
   parts : panels-text ++ triggers-text ++ lag-text s ++ (floor-text m n past-lags ++ due-text m n past-floors) ++ after-text past-dues ≡
-      sheet-text (load m n s)
-  unfolding sheet-text load rows-text each joined items made absence val
+      sheet-text (sheet-from m n s)
+  unfolding sheet-text sheet-from rows-text each joined items made absence val
   parts = in-two panels-text triggers-text (lag-text s) (floor-text m n past-lags) (due-text m n past-floors) (after-text past-dues)
 
   -- each kind of line is drawn from the state that the one before left
   pub sheet-put : {a b c d e : List ℕ} {q r t u lags dues afters : ℕ} → Puts a b 0 q (panels-text ++ triggers-text) →
       Puts b c q r (lag-text s) → lags ≡ past-lags → Puts c d r t (floor-text m n lags ++ due-text m n (drawn lags (1 * m))) →
       dues ≡ drawn (drawn lags (1 * m)) (1 * n) → Puts d e t u (after-text dues) → afters ≡ drawn dues (n * n) →
-      Puts a e 0 u (sheet-text (load m n s)) × (afters ≡ drawn s (draws m n))
+      Puts a e 0 u (sheet-text (sheet-from m n s)) × (afters ≡ drawn s (draws m n))
   sheet-put {lags = lags} {dues} {afters} P L el M ed A ea = (
     put-as parts (then (then (then P L) (put-as marks M)) (put-as (ap after-text dues-behind) A)),
     ea ∙ ap (λ x. drawn x (n * n)) dues-behind ∙ drawn-add s (m * n + m + n) (n * n),

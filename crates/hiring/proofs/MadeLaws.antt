@@ -20,7 +20,7 @@ use Rattle.sheet.proofs.WithinLaws.{within-absent}
 use Rattle.sheet_text.specs.SheetText.{sheet-text, trimmed, Sound}
 use Rattle.sheet_text.proofs.SoundFits.{text-short}
 use Rattle.hiring.specs.Hiring.{number, made, by-sevens, always, Kind, absence, first-there, all-there, below-diagonal}
-use Rattle.hiring.specs.Hiring.{upper, drawn, items, load}
+use Rattle.hiring.specs.Hiring.{upper, drawn, items, sheet-from}
 use Rattle.hiring.proofs.ItemLaws.{number-small, of-items, made-within}
 
 -- ---- "the first lag of each panel, the first floor and every due mark are never absent"
@@ -37,9 +37,9 @@ unfolding items
 items-within k n s i j = made-within (absence k i j) (upper (drawn s (suc (i * n + j))))
 
 module _ (m n s : ℕ) (some-m : 1 ≤ m) (few-m : m ≤ size-limit) (some-n : 1 ≤ n) (few-n : n ≤ size-limit) where
-  pub load-sound : Sound (load m n s)
-  unfolding load
-  load-sound =
+  pub made-sound : Sound (sheet-from m n s)
+  unfolding sheet-from
+  made-sound =
       record {
         panels-some = some-m;
         panels-few = few-m;
@@ -55,8 +55,8 @@ module _ (m n s : ℕ) (some-m : 1 ≤ m) (few-m : m ≤ size-limit) (some-n : 1
         floored = (0, some-m, first-there-is m (drawn s (m * n)) 0);
       }
 
-  pub load-short : length (sheet-text (load m n s)) ≤ longest
-  load-short = text-short (load m n s) load-sound
+  pub made-short : length (sheet-text (sheet-from m n s)) ≤ longest
+  made-short = text-short (sheet-from m n s) made-sound
 
 -- ---- "and its order can be kept": a present after item stands below the diagonal and is at most 1,000
 abbrev thousands : Timing
@@ -83,9 +83,9 @@ module _ (m n s : ℕ) where
   trimmed-kept true a i j h = h
   trimmed-kept false a i j h = rw ⊗-nothing (≼-absent _)
 
-  pub load-keeps : Keeps (trimmed (load m n s)) thousands
-  unfolding load items
-  load-keeps =
+  pub made-keeps : Keeps (trimmed (sheet-from m n s)) thousands
+  unfolding sheet-from items
+  made-keeps =
       record {
         after-rules = λ i j h q. trimmed-kept (ltb i n) _ i j (trimmed-kept (ltb j n) _ i j (below-kept i j _));
         land-rules = λ i j h q. rw ⊗-nothing (≼-absent _);
