@@ -10,11 +10,18 @@ use Rattle.hiring.proofs.HireLaws.{size-there, no-panels, no-triggers, 
 use Rattle.hiring.proofs.hire.Statement.{statement}
 use Rattle.hiring.proofs.hire.Tie as tie
 
+-- places that statements name, each from the next one
+abbrev start : tie.Else1 → tie.Start
+start c = c .before .before .before
+
+abbrev at-panels : tie.Else2 → tie.Else1
+at-panels c = c .before .before
+
 -- both sizes are good once they were asked
-panels-good : (c : tie.Else1) → size? (c .before .before .before .args .panels) ≡ true
+panels-good : (c : tie.Else1) → size? (start c .args .panels) ≡ true
 panels-good c = sym (c .before .is-size .ensures) ∙ not-false _ (c .if1 .left)
 
-triggers-good : (c : tie.Else2) → size? (c .before .before .before .before .before .args .triggers) ≡ true
+triggers-good : (c : tie.Else2) → size? (start (at-panels c) .args .triggers) ≡ true
 triggers-good c = sym (c .before .is-size2 .ensures) ∙ not-false _ (c .if2 .left)
 
 is-size-requires : tie.Need-is-size-requires

@@ -14,8 +14,11 @@ use Rattle.argument.proofs.whole.read_whole.Tie as tie
 abbrev at-word : tie.Else1 → tie.After-word
 at-word c = c .before .before .before
 
+abbrev at-item : tie.After-word → tie.After-item-at
+at-item c = c .before .before
+
 abbrev start : tie.After-word → tie.Start
-start c = c .before .before .before .before
+start c = at-item c .before .before
 
 -- the item that was found
 item-there : (c : tie.After-word) → ItemIs most item (start c .args .s .now) 0 (Entry (c .word .given .0 .0) (c .word .given .0 .1 .0))
