@@ -9,7 +9,7 @@ use items::Item;
 use items::item_at;
 
 // No number that a program asks for has more than 32 bits: one that is this far from 0, or further, only has to be told from the others.
-const WORD_LIMIT: u64 = 0x1_0000_0000;
+pub const WORD_LIMIT: u64 = 0x1_0000_0000;
 
 // One whole number: whether the argument is a numeral, whether it is below 0, how far it is from 0, at most 2^32, and the remainder of that
 // by 2^32.

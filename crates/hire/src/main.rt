@@ -13,14 +13,12 @@ ghost use Rattle.writing.specs.Writing.{Writes};
 ghost use Rattle.hire.specs.Call.{Wanted, state?, place?, looked-at};
 ghost use Rattle.hire.specs.Output.{hire-text, hire-complaint, program-hire, usage, program-text, program-complaint};
 ghost use Rattle.hire.specs.Inner.{passes, held};
+use argument::whole::WORD_LIMIT;
 use argument::whole::Whole;
 use argument::whole::read_whole;
 use hiring::chain::later_state;
 use text::Ends;
 use writing::put_bytes;
-
-// A state is below this.
-const STATES: u64 = 0x1_0000_0000;
 
 // The numbers of a call; or that it is a wrong one.
 struct Call {
@@ -144,7 +142,7 @@ fn is_state(w: Whole) -> bool
     if w.negative {
         return false;
     }
-    w.size < STATES
+    w.size < WORD_LIMIT
 }
 
 // A number from 1 on.

@@ -7,7 +7,7 @@ use Rattle.sheet.specs.Text.{bytes}
 use Rattle.writing.specs.Numerals.{digits}
 use Rattle.writing.specs.Texts.{joined}
 use Rattle.sheet_text.specs.SheetText.{rows-text, sheet-text}
-use Rattle.hiring.specs.Hiring.{drawn, number, made, absence, items, sheet-from, chained, hired, refused, hiring}
+use Rattle.hiring.specs.Hiring.{drawn, drawn-number, drawn-item, absence, drawn-items, sheet-from, chained, hired, refused, hiring}
 
 -- Two panels and two triggers from state 1. Each state is 2,654,435,769 more than the one before, less 2^32 where it exceeds that; u is its
 -- quotient by 65,536; then the remainders of u by 7 and, less 1,000, by 2,001:
@@ -39,7 +39,7 @@ pub hire-cases-hold :
     (bytes "panels=2\ntriggers=3\nlag=-517,-,947\nlag=-74,907,-611\nfloor=370,853\ndue=-167,813,-704\nafter=-,-,-\nafter=720,-,-\nafter=-838,-354,-\n")
     1_549_107_835 ∷
     refused 12 ∷ refused 12 ∷ refused 12 ∷ refused 12 ∷ refused 12 ∷ refused 12 ∷ refused 13 ∷ []
-unfolding hiring sheet-from items absence made number drawn sheet-text rows-text joined digits bytes each val
+unfolding hiring sheet-from drawn-items absence drawn-item drawn-number drawn sheet-text rows-text joined digits bytes each val
 hire-cases-hold = refl
 
 -- the state behind two sheets of one by one, of four draws each, is that behind eight draws

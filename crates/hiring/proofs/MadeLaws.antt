@@ -19,21 +19,21 @@ use Rattle.sheet.proofs.Longest.{longest}
 use Rattle.sheet.proofs.WithinLaws.{within-absent}
 use Rattle.sheet_text.specs.SheetText.{sheet-text, trimmed, Sound}
 use Rattle.sheet_text.proofs.SoundFits.{text-short}
-use Rattle.hiring.specs.Hiring.{number, made, by-sevens, always, Kind, absence, first-there, all-there, below-diagonal}
-use Rattle.hiring.specs.Hiring.{upper, drawn, items, sheet-from}
+use Rattle.hiring.specs.Hiring.{drawn-number, drawn-item, by-sevens, always, Kind, absence, first-there, all-there, below-diagonal}
+use Rattle.hiring.specs.Hiring.{upper, drawn, drawn-items, sheet-from}
 use Rattle.hiring.proofs.ItemLaws.{number-small, of-items, made-within}
 
 -- ---- "the first lag of each panel, the first floor and every due mark are never absent"
-first-there-is : (n s i : ℕ) → Present (items first-there n s i 0)
-unfolding items made absence
-first-there-is n s i = (number (upper (drawn s (suc (i * n + 0)))), refl)
+first-there-is : (n s i : ℕ) → Present (drawn-items first-there n s i 0)
+unfolding drawn-items drawn-item absence
+first-there-is n s i = (drawn-number (upper (drawn s (suc (i * n + 0)))), refl)
 
-all-there-are : (n s j : ℕ) → num (val (items all-there n s 0 j)) ≡ items all-there n s 0 j
-unfolding items made absence val
+all-there-are : (n s j : ℕ) → num (val (drawn-items all-there n s 0 j)) ≡ drawn-items all-there n s 0 j
+unfolding drawn-items drawn-item absence val
 all-there-are n s j = refl
 
-items-within : (k : Kind) (n s i j : ℕ) → Within limit limit (items k n s i j)
-unfolding items
+items-within : (k : Kind) (n s i j : ℕ) → Within limit limit (drawn-items k n s i j)
+unfolding drawn-items
 items-within k n s i j = made-within (absence k i j) (upper (drawn s (suc (i * n + j))))
 
 module _ (m n s : ℕ) (some-m : 1 ≤ m) (few-m : m ≤ size-limit) (some-n : 1 ≤ n) (few-n : n ≤ size-limit) where
@@ -62,16 +62,16 @@ module _ (m n s : ℕ) (some-m : 1 ≤ m) (few-m : m ≤ size-limit) (some-n : 1
 abbrev thousands : Timing
 thousands i = pos (1000 * i)
 
-number-kept : (i j u : ℕ) → j < i → num (number u) ⊗ num (thousands j) ≼ num (thousands i)
+number-kept : (i j u : ℕ) → j < i → num (drawn-number u) ⊗ num (thousands j) ≼ num (thousands i)
 number-kept i j u h =
     let small = number-small u in
-    rw (num-⊗ (number u) (thousands j)) (num-≼ (omega (arith, up-add (number u) (thousands j))))
+    rw (num-⊗ (drawn-number u) (thousands j)) (num-≼ (omega (arith, up-add (drawn-number u) (thousands j))))
 
-below-kept : (i j u : ℕ) → made (absence below-diagonal i j) u ⊗ num (thousands j) ≼ num (thousands i)
-unfolding absence made
+below-kept : (i j u : ℕ) → drawn-item (absence below-diagonal i j) u ⊗ num (thousands j) ≼ num (thousands i)
+unfolding absence drawn-item
 below-kept i j u = go (ltb j i) refl
   where
-    go : (t : Bool) → ltb j i ≡ t → made (cond t by-sevens always) u ⊗ num (thousands j) ≼ num (thousands i)
+    go : (t : Bool) → ltb j i ≡ t → drawn-item (cond t by-sevens always) u ⊗ num (thousands j) ≼ num (thousands i)
     go true e = of-items (λ a. a ⊗ num (thousands j) ≼ num (thousands i)) (rw ⊗-nothing (≼-absent _)) (λ u. number-kept i j u (ltb-true j i e))
         by-sevens u
     go false e = rw ⊗-nothing (≼-absent _)
@@ -84,7 +84,7 @@ module _ (m n s : ℕ) where
   trimmed-kept false a i j h = rw ⊗-nothing (≼-absent _)
 
   pub made-keeps : Keeps (trimmed (sheet-from m n s)) thousands
-  unfolding sheet-from items
+  unfolding sheet-from drawn-items
   made-keeps =
       record {
         after-rules = λ i j h q. trimmed-kept (ltb i n) _ i j (trimmed-kept (ltb j n) _ i j (below-kept i j _));

@@ -11,7 +11,7 @@ use Rattle.writing.specs.Texts.{field, joined}
 use Rattle.writing.specs.Writing.{Puts}
 use Rattle.writing.proofs.PutLaws.{then, put-as}
 use Rattle.sheet_text.specs.SheetText.{rows-text, sheet-text}
-use Rattle.hiring.specs.Hiring.{drawn, made, absence, items, sheet-from, draws, first-there, all-there, below-diagonal}
+use Rattle.hiring.specs.Hiring.{drawn, drawn-item, absence, drawn-items, sheet-from, draws, first-there, all-there, below-diagonal}
 use Rattle.hiring.proofs.DrawLaws.{drawn-add}
 
 -- six texts as a sheet's text has them
@@ -21,10 +21,10 @@ in-two a b c d e f = simp (append-assoc, append-nil)
 -- the floor line, and the due line from the state that it left
 module _ (m n : ℕ) where
   abbrev floor-text : ℕ → List ℕ
-  floor-text x = rows-text (bytes "floor=") 1 m (items first-there m x)
+  floor-text x = rows-text (bytes "floor=") 1 m (drawn-items first-there m x)
 
   abbrev due-text : ℕ → List ℕ
-  due-text x = rows-text (bytes "due=") 1 n (items all-there n x)
+  due-text x = rows-text (bytes "due=") 1 n (drawn-items all-there n x)
 
   pub marks-put : {a b c : List ℕ} {at q r floors dues : ℕ} (s : ℕ) → Puts a b at q (floor-text s) → floors ≡ drawn s (1 * m) →
       Puts b c q r (due-text floors) → dues ≡ drawn floors (1 * n) → r ≤ at + 120 →
@@ -43,10 +43,10 @@ module _ (m n s : ℕ) where
   past-dues = drawn s (m * n + m + n)
 
   abbrev lag-text : ℕ → List ℕ
-  lag-text x = rows-text (bytes "lag=") m n (items first-there n x)
+  lag-text x = rows-text (bytes "lag=") m n (drawn-items first-there n x)
 
   abbrev after-text : ℕ → List ℕ
-  after-text x = rows-text (bytes "after=") n n (items below-diagonal n x)
+  after-text x = rows-text (bytes "after=") n n (drawn-items below-diagonal n x)
 
   abbrev panels-text : List ℕ
   panels-text = field (bytes "panels=") (natural m)
@@ -56,7 +56,7 @@ module _ (m n s : ℕ) where
 
   parts : panels-text ++ triggers-text ++ lag-text s ++ (floor-text m n past-lags ++ due-text m n past-floors) ++ after-text past-dues ≡
       sheet-text (sheet-from m n s)
-  unfolding sheet-text sheet-from rows-text each joined items made absence val
+  unfolding sheet-text sheet-from rows-text each joined drawn-items drawn-item absence val
   parts = in-two panels-text triggers-text (lag-text s) (floor-text m n past-lags) (due-text m n past-floors) (after-text past-dues)
 
   -- each kind of line is drawn from the state that the one before left

@@ -32,8 +32,8 @@ drawn s (suc k) = next (drawn s k)
 
 -- ---- one item
 -- "the remainder of u by 2,001, less 1,000"
-unfoldable pub number : ℕ → ℤ
-number u = pos (u % 2001) -ℤ pos 1000
+unfoldable pub drawn-number : ℕ → ℤ
+drawn-number u = pos (u % 2001) -ℤ pos 1000
 
 -- "The item is absent if u leaves remainder 0 by 7, otherwise it is" that number; or it is "never absent", or "always"
 pub data Absence : Type 0 where
@@ -41,10 +41,10 @@ pub data Absence : Type 0 where
   never : Absence
   always : Absence
 
-unfoldable pub made : Absence → ℕ → E
-made by-sevens u = cond (eqb (u % 7) 0) absent (num (number u))
-made never u = num (number u)
-made always u = absent
+unfoldable pub drawn-item : Absence → ℕ → E
+drawn-item by-sevens u = cond (eqb (u % 7) 0) absent (num (drawn-number u))
+drawn-item never u = num (drawn-number u)
+drawn-item always u = absent
 
 -- "the first lag of each panel, the first floor and every due mark are never absent; after items on and above the diagonal always are": by the kind of
 -- line, for the j-th item of the i-th line, both counted from 0
@@ -60,18 +60,18 @@ absence below-diagonal i j = cond (ltb j i) by-sevens always
 
 -- ---- one sheet
 -- "A draw is spent on every lag, floor, due and after item in sheet order": the lines of a kind, of n items each, drawn from state s on
-unfoldable pub items : Kind → ℕ → ℕ → Mat
-items k n s i j = made (absence k i j) (upper (drawn s (suc (i * n + j))))
+unfoldable pub drawn-items : Kind → ℕ → ℕ → Mat
+drawn-items k n s i j = drawn-item (absence k i j) (upper (drawn s (suc (i * n + j))))
 
 unfoldable pub sheet-from : ℕ → ℕ → ℕ → Sheet
 sheet-from m n s =
     record {
       panels = m;
       triggers = n;
-      lag = items first-there n s;
-      floor = items first-there m (drawn s (m * n)) 0;
-      due = λ j. val (items all-there n (drawn s (m * n + m)) 0 j);
-      after = items below-diagonal n (drawn s (m * n + m + n));
+      lag = drawn-items first-there n s;
+      floor = drawn-items first-there m (drawn s (m * n)) 0;
+      due = λ j. val (drawn-items all-there n (drawn s (m * n + m)) 0 j);
+      after = drawn-items below-diagonal n (drawn s (m * n + m + n));
       land = none;
       last = none;
     }

@@ -3,14 +3,11 @@ ghost use mathlib.Core.Path.{_≡_};
 ghost use Prim.Native.Nat.{ℕ, _+_, _*_, _%_, _^_, _≤_, _<_};
 ghost use Rattle.cue.specs.Sizes.{size-limit};
 ghost use Rattle.hiring.specs.Hiring.{stride, draws, chained};
+use crate::MOST;
+use crate::STRIDE;
 
-// What a draw adds to the state, and where a state wraps.
-const STRIDE: u64 = 2_654_435_769;
-
+// So many states there are: behind the last one comes 0 again.
 const STATES: u64 = 0x1_0000_0000;
-
-// The most panels and the most triggers.
-const MOST: usize = 6;
 
 // The state from which the sheet starts that k others of the chain precede, where `before` is the remainder of k by 2^32: as many draws at once
 // as k sheets take. With other sizes there is no chain, and the state stays.
@@ -42,5 +39,5 @@ fn advanced(state: u32, steps: u64) -> u32
     requires { ⌜ steps < 2 ^ 32 ⌝ }
     ensures { λ r. ⌜ r ≡ (state + steps * stride) % 2 ^ 32 ⌝ }
 {
-    ((state as u64 + steps * STRIDE % STATES) % STATES) as u32
+    ((state as u64 + steps * (STRIDE as u64) % STATES) % STATES) as u32
 }

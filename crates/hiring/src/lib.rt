@@ -12,7 +12,7 @@ ghost use Rattle.writing.specs.Texts.{field};
 ghost use Rattle.writing.specs.Writing.{Puts};
 ghost use Rattle.sheet_text.specs.SheetText.{rows-text, sheet-text};
 ghost use Rattle.hiring.specs.Hiring as hiring;
-ghost use Rattle.hiring.specs.Hiring.{next, drawn, made, absence, items, by-sevens, first-there, all-there, sheet-from};
+ghost use Rattle.hiring.specs.Hiring.{next, drawn, drawn-item, absence, drawn-items, by-sevens, first-there, all-there, sheet-from};
 ghost use Rattle.hiring.specs.Hiring.{draws, hiring, bytes-after, hire-answer};
 ghost use Rattle.hiring.specs.Inner.{kind-of, RowDrawn, RowsDrawn};
 use table_text::put_rows;
@@ -22,10 +22,10 @@ use writing::put_bytes;
 pub mod chain;
 
 // What a draw adds to the state.
-const STRIDE: u32 = 2_654_435_769;
+pub const STRIDE: u32 = 2_654_435_769;
 
 // The most panels and the most triggers.
-const MOST: usize = 6;
+pub const MOST: usize = 6;
 
 // No sheet of a load has more bytes.
 const LONGEST: usize = 1024;
@@ -142,8 +142,8 @@ fn put_sheet(text: &mut [u8], panels: usize, triggers: usize, state: u32) -> Put
 fn put_marks(text: &mut [u8], at: usize, panels: usize, triggers: usize, state: u32) -> Put
     requires { ⌜ (at + 160 ≤ length (now text)) × (panels ≤ size-limit) × (triggers ≤ size-limit) ⌝ }
     ensures text { λ r. ⌜ Puts (now (text .entry)) (now (text .exit)) at (r .end)
-        (rows-text (bytes "floor=") 1 panels (items first-there panels state) ++
-        rows-text (bytes "due=") 1 triggers (items all-there triggers (drawn state (1 * panels)))) ⌝ }
+        (rows-text (bytes "floor=") 1 panels (drawn-items first-there panels state) ++
+        rows-text (bytes "due=") 1 triggers (drawn-items all-there triggers (drawn state (1 * panels)))) ⌝ }
     ensures short { λ r. ⌜ r .end ≤ at + 120 ⌝ }
     ensures state { λ r. ⌜ r .state ≡ drawn (drawn state (1 * panels)) (1 * triggers) ⌝ }
 {
@@ -171,7 +171,7 @@ fn put_lines(
 ) -> Put
     requires { ⌜ (at + 60 * lines + 40 ≤ length (now text)) × (length (now key) ≤ 11) × (lines ≤ size-limit) × (count ≤ size-limit) ⌝ }
     ensures text { λ r. ⌜ Puts (now (text .entry)) (now (text .exit)) at (r .end)
-        (rows-text (now (key .entry)) lines count (items (kind-of kind) count state)) ⌝ }
+        (rows-text (now (key .entry)) lines count (drawn-items (kind-of kind) count state)) ⌝ }
     ensures short { λ r. ⌜ r .end ≤ at + 60 * lines ⌝ }
     ensures state { λ r. ⌜ r .state ≡ drawn state (lines * count) ⌝ }
 {
@@ -226,7 +226,7 @@ fn draw(state: u32) -> u32
 
 // The j-th item of the i-th line, made of a draw.
 fn item(kind: Lines, i: usize, j: usize, u: u32) -> u64
-    ensures { λ r. ⌜ r ≡ word (made (absence (kind-of kind) i j) u) ⌝ }
+    ensures { λ r. ⌜ r ≡ word (drawn-item (absence (kind-of kind) i j) u) ⌝ }
 {
     match kind {
         Lines::FirstThere => if j == 0 { number(u) } else { by_sevens(u) },
@@ -237,14 +237,14 @@ fn item(kind: Lines, i: usize, j: usize, u: u32) -> u64
 
 // An item that may be absent.
 fn by_sevens(u: u32) -> u64
-    ensures { λ r. ⌜ r ≡ word (made by-sevens u) ⌝ }
+    ensures { λ r. ⌜ r ≡ word (drawn-item by-sevens u) ⌝ }
 {
     if u % 7 == 0 { 0 } else { number(u) }
 }
 
 // The number of a draw, by its sign: a word is made of an unsigned number.
 fn number(u: u32) -> u64
-    ensures { λ r. ⌜ r ≡ word (num (hiring.number u)) ⌝ }
+    ensures { λ r. ⌜ r ≡ word (num (hiring.drawn-number u)) ⌝ }
 {
     let rest = (u % 2001) as u64;
     if rest < 1000 {

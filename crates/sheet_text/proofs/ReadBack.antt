@@ -12,7 +12,7 @@ use Rattle.sheet.specs.Text.{bytes}
 use Rattle.sheet.specs.Sheet.{got, refused, literal, table, sections, sizes, tables, land-kind, last-kind, Sheet, moments, sheet-of, sized}
 use Rattle.sheet.proofs.SectionLaws.{sized-read, finished-good, read-sized}
 use Rattle.sheet.proofs.Longest.{longest-is}
-use Rattle.sheet_text.specs.SheetText.{rows-text, sections-text, optional-text, one-line, numbers, if-given, sheet-text, trimmed, first-rows}
+use Rattle.sheet_text.specs.SheetText.{rows-text, sections-text, optional-text, one-line, number-line, if-given, sheet-text, trimmed, first-rows}
 use Rattle.sheet_text.specs.SheetText.{first-numbers, Sound, Read-back}
 use Rattle.sheet_text.proofs.LineBack.{section-rows, sections-rows, sections-back, optional-back}
 use Rattle.sheet_text.proofs.SoundFits.{size-tables, entry-tables, sizes-fit, tables-fit, land-fits, last-fits, text-short}
@@ -29,7 +29,7 @@ abbrev land-text : Sheet → List ℕ
 land-text t = optional-text (land-kind (t .panels) (t .triggers)) (t .land)
 
 abbrev last-text : Sheet → List ℕ
-last-text t = optional-text (last-kind (t .panels)) (if-given numbers (t .last))
+last-text t = optional-text (last-kind (t .panels)) (if-given number-line (t .last))
 
 -- what stands behind the sizes
 abbrev pub rest-text : Sheet → List ℕ
@@ -58,7 +58,7 @@ given-back m n none = refl
 given-back m n (some A) = ap some (table-back n m A)
 
 moments-back : (m : ℕ) (o : Option (ℕ → ℤ)) →
-    moments (if-given (λ A. table (section-rows (last-kind m) A)) (if-given numbers o)) ≡ if-given (first-numbers m) o
+    moments (if-given (λ A. table (section-rows (last-kind m) A)) (if-given number-line o)) ≡ if-given (first-numbers m) o
 moments-back m none = refl
 moments-back m (some b) = ap some (numbers-back m b)
 
@@ -70,7 +70,7 @@ module _ (t : Sheet) where
   land-read = if-given (λ A. table (section-rows (land-kind (t .panels) (t .triggers)) A)) (t .land)
 
   abbrev last-read : Option Mat
-  last-read = if-given (λ A. table (section-rows (last-kind (t .panels)) A)) (if-given numbers (t .last))
+  last-read = if-given (λ A. table (section-rows (last-kind (t .panels)) A)) (if-given number-line (t .last))
 
   sheet-back : sheet-of (t .panels) (t .triggers) rows-read land-read last-read ≡ trimmed t
   sheet-back =
@@ -93,8 +93,8 @@ module _ (t : Sheet) where
       let m = t .panels in
       let n = t .triggers in
       sized-read m n _ rows-read _ (sections-back (tables m n) (entry-tables t) (land-text t ++ (last-text t ++ [])) (tables-fit t S))
-      land-read _ (optional-back (land-kind m n) (t .land) (last-text t ++ []) (land-fits t S) (λ e. no-land m n (if-given numbers (t .last))))
-      last-read [] (optional-back (last-kind m) (if-given numbers (t .last)) [] (last-fits t S) (λ e. no-last m))
+      land-read _ (optional-back (land-kind m n) (t .land) (last-text t ++ []) (land-fits t S) (λ e. no-land m n (if-given number-line (t .last))))
+      last-read [] (optional-back (last-kind m) (if-given number-line (t .last)) [] (last-fits t S) (λ e. no-last m))
       ∙ finished-good m n rows-read land-read last-read [] refl (rows-there m n (t .lag) (S .lagged))
       (rows-there 1 m (one-line (t .floor)) (λ i h. S .floored)) ∙ ap (λ u. got u []) sheet-back
 

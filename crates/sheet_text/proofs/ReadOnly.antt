@@ -16,13 +16,13 @@ use Rattle.sheet.specs.Sheet.{lines, read}
 use Rattle.sheet.proofs.LineLaws.{none-at, bind-got, passed, there}
 use Rattle.sheet.proofs.SectionLaws.{row-long, row-passes, sections-of, optional-of, size-read}
 use Rattle.sheet.proofs.Good.{size-good, finished-got}
-use Rattle.sheet_text.specs.SheetText.{section-text, sections-text, optional-text, alone, one-line, numbers, if-given, sheet-text}
+use Rattle.sheet_text.specs.SheetText.{section-text, sections-text, optional-text, size-line, one-line, number-line, if-given, sheet-text}
 use Rattle.sheet_text.proofs.LineText.{rows-same}
 use Rattle.sheet_text.proofs.ReadBack.{tables-text, rest-text, text-parts}
 use Rattle.sheet_text.proofs.LineOnly.{tables-at, sections-only, optional-only}
 
 -- ---- a size, a line of entries and one of marks, as a sheet holds them: the same entries within the sizes, and so the same text
-size-same : {t : List (List E)} → RowsOf size 1 1 t → (i j : ℕ) → i < 1 → j < 1 → table t i j ≡ alone (count t) i j
+size-same : {t : List (List E)} → RowsOf size 1 1 t → (i j : ℕ) → i < 1 → j < 1 → table t i j ≡ size-line (count t) i j
 unfolding val
 size-same R zero zero h q = let (k, e, few) = size-read R in rw e
 size-same R zero (suc j) h q = absurd (let x : ⊥ = omega arith in x)
@@ -32,14 +32,15 @@ line-same : (A : Mat) (i j : ℕ) → i < 1 → A i j ≡ one-line (A 0) i j
 line-same A zero j h = refl
 line-same A (suc i) j h = absurd (let x : ⊥ = omega arith in x)
 
-marks-same : {n : ℕ} {t : List (List E)} → RowsOf mark 1 n t → (i j : ℕ) → i < 1 → j < n → table t i j ≡ numbers (λ j. val (table t 0 j)) i j
+marks-same : {n : ℕ} {t : List (List E)} → RowsOf mark 1 n t → (i j : ℕ) → i < 1 → j < n →
+    table t i j ≡ number-line (λ j. val (table t 0 j)) i j
 marks-same {t = t} R zero j h q =
     there (table t 0 j) (none-at absent? absent (getD t 0 []) j (row-passes R 0 (omega arith) .1) (let l = row-long R 0 (omega arith) in omega arith))
 marks-same R (suc i) j h q = absurd (let x : ⊥ = omega arith in x)
 
 sizes-same : (s : List ℕ) {ps : List (List (List E))} {x : List ℕ} → sections sizes s ≡ got ps x →
     sections-text sizes (tables-at sizes (part ps)) ≡
-    sections-text sizes (alone (count (part ps panels-line)) ∷ alone (count (part ps triggers-line)) ∷ [])
+    sections-text sizes (size-line (count (part ps panels-line)) ∷ size-line (count (part ps triggers-line)) ∷ [])
 sizes-same s e =
     ap₂ (λ p q. p ++ (q ++ [])) (rows-same (bytes "panels=") 1 1 _ _ (size-same (sections-of sizes s e panels-line refl)))
     (rows-same (bytes "triggers=") 1 1 _ _ (size-same (sections-of sizes s e triggers-line refl)))
@@ -54,7 +55,7 @@ module _ (m n : ℕ) where
       (rows-same (bytes "due=") 1 n _ _ (marks-same (sections-of (tables m n) s e due-line refl)))
 
   last-same : (s : List ℕ) (o : Option Mat) {x : List ℕ} → optional (last-kind m) s ≡ got o x →
-      optional-text (last-kind m) o ≡ optional-text (last-kind m) (if-given numbers (moments o))
+      optional-text (last-kind m) o ≡ optional-text (last-kind m) (if-given number-line (moments o))
   last-same s none e = refl
   last-same s (some c) e =
       let (t, R, same) = optional-of (last-kind m) s e in
@@ -91,5 +92,5 @@ read-only s t r e =
     whole : (ps : List (List (List E))) (x : List ℕ) → sections sizes s ≡ got ps x → t .panels ≡ count (part ps panels-line) →
         t .triggers ≡ count (part ps triggers-line) → x ≡ rest-text t → sheet-text t ≡ s
     whole ps x a p q rest =
-        text-parts t ∙ ap₂ (λ k l. sections-text sizes (alone k ∷ alone l ∷ []) ++ rest-text t) p q
+        text-parts t ∙ ap₂ (λ k l. sections-text sizes (size-line k ∷ size-line l ∷ []) ++ rest-text t) p q
         ∙ sym (sections-only sizes s (omega arith, (omega arith, tt)) a ∙ ap₂ _++_ (sizes-same s a) rest)

@@ -17,7 +17,7 @@ use Rattle.cue.specs.Sizes.{size-limit}
 use Rattle.sheet.specs.Text.{bytes}
 use Rattle.sheet.specs.Sheet.{size, entry, mark, limit, out-of-range, no-size, kind, sizes, tables, land-kind, last-kind, Sheet, given-table}
 use Rattle.sheet.proofs.Longest.{longest}
-use Rattle.sheet_text.specs.SheetText.{sections-text, optional-text, alone, one-line, numbers, if-given, sheet-text, Sound}
+use Rattle.sheet_text.specs.SheetText.{sections-text, optional-text, size-line, one-line, number-line, if-given, sheet-text, Sound}
 use Rattle.sheet_text.proofs.LineBack.{Fits, AllFit, MayFit}
 use Rattle.sheet_text.proofs.TextShort.{sections-short, optional-short}
 
@@ -32,17 +32,17 @@ size-right k more few = rw (le-ltb 6 k few, ne-eqb k 0 (λ e. let x : ⊥ = omeg
 
 -- ---- the sheet's tables
 abbrev pub size-tables : Sheet → List Mat
-size-tables t = alone (t .panels) ∷ alone (t .triggers) ∷ []
+size-tables t = size-line (t .panels) ∷ size-line (t .triggers) ∷ []
 
 abbrev pub entry-tables : Sheet → List Mat
-entry-tables t = t .lag ∷ one-line (t .floor) ∷ numbers (t .due) ∷ t .after ∷ []
+entry-tables t = t .lag ∷ one-line (t .floor) ∷ number-line (t .due) ∷ t .after ∷ []
 
 module _ (t : Sheet) (S : Sound t) where
   pub sizes-fit : AllFit sizes (size-tables t)
   sizes-fit =
       (size-fits "panels=" (t .panels) (S .panels-some) (S .panels-few), (size-fits "triggers=" (t .triggers) (S .triggers-some) (S .triggers-few), tt))
     where
-      size-fits : (key : String) (k : ℕ) → 1 ≤ k → k ≤ size-limit → Fits (kind key size 1 1) (alone k)
+      size-fits : (key : String) (k : ℕ) → 1 ≤ k → k ≤ size-limit → Fits (kind key size 1 1) (size-line k)
       size-fits key k h g = record { lines-some = omega arith; items-some = omega arith; allowed = λ i j p q. (refl, size-right k h g) }
 
   lag-fits : Fits (kind "lag=" entry (t .panels) (t .triggers)) (t .lag)
@@ -52,7 +52,7 @@ module _ (t : Sheet) (S : Sound t) where
   floor-fits : Fits (kind "floor=" entry 1 (t .panels)) (one-line (t .floor))
   floor-fits = record { lines-some = omega arith; items-some = S .panels-some; allowed = λ i j h q. within-near (t .floor j) (S .floors j q) }
 
-  due-fits : Fits (kind "due=" mark 1 (t .triggers)) (numbers (t .due))
+  due-fits : Fits (kind "due=" mark 1 (t .triggers)) (number-line (t .due))
   due-fits =
       record { lines-some = omega arith; items-some = S .triggers-some; allowed = λ i j h q. (within-near (num (t .due j)) (S .dues j q), refl) }
 
@@ -72,11 +72,11 @@ module _ (t : Sheet) (S : Sound t) where
       go (some c) w =
           record { lines-some = S .triggers-some; items-some = S .panels-some; allowed = λ i j h q. within-near (c i j) (w i j h q) }
 
-  pub last-fits : MayFit (last-kind (t .panels)) (if-given numbers (t .last))
+  pub last-fits : MayFit (last-kind (t .panels)) (if-given number-line (t .last))
   last-fits = go (t .last) (S .lasts)
     where
       go : (o : Option (ℕ → ℤ)) → ((b : ℕ → ℤ) → o ≡ some b → (i : ℕ) → i < t .panels → Within limit limit (num (b i))) →
-          MayFit (last-kind (t .panels)) (if-given numbers o)
+          MayFit (last-kind (t .panels)) (if-given number-line o)
       go none w = tt
       go (some b) w =
           record { lines-some = omega arith; items-some = S .panels-some; allowed = λ i j h q. (within-near (num (b j)) (w b refl j q), refl) }
@@ -90,11 +90,11 @@ module _ (t : Sheet) (S : Sound t) where
       omega (
         arith,
         four-long (sections-text sizes (size-tables t)) (sections-text (tables m n) (entry-tables t)) (optional-text (land-kind m n) (t .land))
-            (optional-text (last-kind m) (if-given numbers (t .last))),
+            (optional-text (last-kind m) (if-given number-line (t .last))),
         sections-short sizes (size-tables t) sizes-fit,
         sections-short (tables m n) (entry-tables t) tables-fit,
         optional-short (land-kind m n) (t .land) land-fits,
-        optional-short (last-kind m) (if-given numbers (t .last)) last-fits,
+        optional-short (last-kind m) (if-given number-line (t .last)) last-fits,
         S .panels-few,
         S .triggers-few,
         mul-le-mul (S .panels-few) (S .triggers-few),

@@ -13,7 +13,7 @@ use Rattle.maxplus.specs.Tables.{Vec, Mat}
 use Rattle.maxplus.proofs.EachLaws.{length-each, each-at}
 use Rattle.sheet.specs.Sheet.{absent?, any, all, row, table}
 use Rattle.sheet.proofs.LineLaws.{any-none, any-at}
-use Rattle.sheet_text.specs.SheetText.{first-entries, first-rows, first-numbers, numbers}
+use Rattle.sheet_text.specs.SheetText.{first-entries, first-rows, first-numbers, number-line}
 use Rattle.sheet_text.proofs.LineBack.{listed, listed-rows}
 
 -- ---- places
@@ -32,9 +32,9 @@ table-back m n A = fun-ext (λ i. fun-ext (λ j. ap (λ es. row es j) (listed-at
     go i j false = refl
 
 -- the numbers of a line, 0 behind its last item
-pub numbers-back : (n : ℕ) (f : ℕ → ℤ) → _≡_ {A = ℕ → ℤ} (λ j. val (table (listed-rows 1 n (numbers f)) 0 j)) (first-numbers n f)
+pub numbers-back : (n : ℕ) (f : ℕ → ℤ) → _≡_ {A = ℕ → ℤ} (λ j. val (table (listed-rows 1 n (number-line f)) 0 j)) (first-numbers n f)
 unfolding val
-numbers-back n f = fun-ext (λ j. ap (λ A. val (A 0 j)) (table-back 1 n (numbers f)) ∙ go j (ltb j n))
+numbers-back n f = fun-ext (λ j. ap (λ A. val (A 0 j)) (table-back 1 n (number-line f)) ∙ go j (ltb j n))
   where
     go : (j : ℕ) (b : Bool) → val (cond b (num (f j)) absent) ≡ cond b (f j) (pos 0)
     go j true = refl

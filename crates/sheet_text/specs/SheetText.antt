@@ -41,14 +41,14 @@ optional-text k none = []
 optional-text k (some A) = section-text k A
 
 -- a size; one line of entries; one line of numbers; what a sheet may have or not
-abbrev pub alone : ℕ → Mat
-alone k i j = num (pos k)
+abbrev pub size-line : ℕ → Mat
+size-line k i j = num (pos k)
 
 abbrev pub one-line : Vec → Mat
 one-line v i = v
 
-abbrev pub numbers : (ℕ → ℤ) → Mat
-numbers f i j = num (f j)
+abbrev pub number-line : (ℕ → ℤ) → Mat
+number-line f i j = num (f j)
 
 abbrev pub if-given : {A B : Type 0} → (A → B) → Option A → Option B
 if-given f none = none
@@ -59,9 +59,9 @@ unfoldable pub sheet-text : Sheet → List ℕ
 sheet-text t =
     let m = t .panels in
     let n = t .triggers in
-    sections-text sizes (alone m ∷ alone n ∷ []) ++
-    sections-text (tables m n) (t .lag ∷ one-line (t .floor) ∷ numbers (t .due) ∷ t .after ∷ []) ++
-    optional-text (land-kind m n) (t .land) ++ optional-text (last-kind m) (if-given numbers (t .last))
+    sections-text sizes (size-line m ∷ size-line n ∷ []) ++
+    sections-text (tables m n) (t .lag ∷ one-line (t .floor) ∷ number-line (t .due) ∷ t .after ∷ []) ++
+    optional-text (land-kind m n) (t .land) ++ optional-text (last-kind m) (if-given number-line (t .last))
 
 -- ---- what stands within the sizes, which is all that a text holds: outside them reading gives absent, and 0 for a number
 abbrev pub first-entries : ℕ → Vec → Vec

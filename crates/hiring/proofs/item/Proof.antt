@@ -3,7 +3,7 @@ use mathlib.Core.Path.{ap, sym, _∙_}
 use Prim.Native.Nat.{ℕ}
 use borrow.Author.Needs.{needs}
 use Rattle.words.specs.Words.{word}
-use Rattle.hiring.specs.Hiring.{made, absence}
+use Rattle.hiring.specs.Hiring.{drawn-item, absence}
 use Rattle.hiring.specs.Inner.{kind-of}
 use Rattle.hiring.specs.declared.Lines.{Lines}
 use Rattle.hiring.proofs.DrawLaws.{first-item, later-item, every-item, below-item, above-item}
@@ -12,7 +12,7 @@ use Rattle.hiring.proofs.item.Tie as tie
 
 -- the item of a kind that is known
 abbrev of-kind : tie.Start → Lines → ℕ
-of-kind c k = let a = c .args in word (made (absence (kind-of k) (a .i) (a .j)) (a .u))
+of-kind c k = let a = c .args in word (drawn-item (absence (kind-of k) (a .i) (a .j)) (a .u))
 
 enum-told : tie.Need-enum-told
 enum-told c = search needs
