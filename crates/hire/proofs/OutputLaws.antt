@@ -12,7 +12,6 @@ use lib.ListN.{length, drop, length-append}
 use lib.Seq.{take-at}
 use Rattle.cue.specs.Sizes.{size-limit}
 use Rattle.sheet.specs.Sheet.{got}
-use Rattle.sheet.proofs.Longest.{longest-is}
 use Rattle.sheet_text.specs.SheetText.{sheet-text}
 use Rattle.argument.specs.Whole.{word-limit}
 use Rattle.writing.specs.Texts.{refusal-text}
@@ -125,4 +124,4 @@ called w x room a e r later =
 -- ---- "a generator writes one sheet": with sizes 1 to 6 the program's space is enough
 pub sheet-written : (w : Wanted) → size? (w .panels) ≡ true → size? (w .triggers) ≡ true →
     hire-text (program-hire w) ≡ sheet-text (sheet-from (w .panels) (w .triggers) (chained (w .panels) (w .triggers) (w .state) (w .before)))
-sheet-written w p q = ap hire-text (room-enough (w .panels) (w .triggers) _ 2048 p q (omega (arith, longest-is)))
+sheet-written w p q = ap hire-text (room-enough (w .panels) (w .triggers) _ 2048 p q (omega arith))

@@ -14,7 +14,7 @@ use Rattle.sheet.specs.Sheet.{got, Sheet, read}
 use Rattle.sheet.specs.Cue.{sheet-caps, sheet-lines}
 use Rattle.sheet.specs.Meaning.{Timing, Keeps}
 use Rattle.sheet.proofs.Demands.{order-kept}
-use Rattle.sheet.proofs.Longest.{longest}
+use Rattle.sheet.proofs.Longest.{longest, longest-is}
 use Rattle.sheet.proofs.OrderedLaws.{ordered-got}
 use Rattle.sheet_text.specs.SheetText.{sheet-text, trimmed}
 use Rattle.sheet_text.proofs.ReadBack.{read-back}
@@ -73,7 +73,7 @@ room-enough m n s room p q h =
     let (some-m, few-m) = size-there m p in
     let (some-n, few-n) = size-there n q in
     let k = made-short m n s some-m few-m some-n few-n in
-    room-there m n s room p q (omega arith)
+    room-there m n s room p q (omega (arith, longest-is))
 
 -- no more bytes are written than a good sheet can have
 pub hired-few : (m n s room : ℕ) → hire-answer (hiring m n s room) .length ≤ longest

@@ -9,7 +9,6 @@ use Rattle.cue.specs.Written.{width}
 use Rattle.sheet.specs.Sheet.{got, Sheet, read}
 use Rattle.sheet.specs.Meaning.{Timing, Keeps}
 use Rattle.sheet.specs.Cue.{sheet-caps, sheet-lines}
-use Rattle.sheet.proofs.Longest.{longest}
 use Rattle.sheet_text.specs.SheetText.{sheet-text, trimmed}
 use Rattle.planning.specs.Planning.{planning}
 use Rattle.planning.specs.Demands.{Planned}
@@ -30,7 +29,7 @@ abbrev pub Every-accepted : Type 0
 Every-accepted = (m n s : ℕ) (lent text : List ℕ) (state : ℕ) → hiring m n s (length lent) ≡ hired text state →
     Accepted (trimmed (sheet-from m n s)) (front (hiring m n s (length lent)) lent)
 
--- 13 has no part where as many bytes are lent as the longest good sheet has
+-- 13 has no part where 1,133 bytes are lent, as many as the longest good sheet has
 abbrev pub Room-enough : Type 0
-Room-enough = (m n s room : ℕ) → size? m ≡ true → size? n ≡ true → longest ≤ room →
+Room-enough = (m n s room : ℕ) → size? m ≡ true → size? n ≡ true → 1133 ≤ room →
     hiring m n s room ≡ hired (sheet-text (sheet-from m n s)) (drawn s (draws m n))
