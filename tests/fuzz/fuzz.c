@@ -9,8 +9,8 @@
  * makes is tightest; the latest times that are no later than given ones are those that the meaning gives (latest.c); land lines without a
  * rule change nothing (land.c); the spare triggers are those that the tables of the sheet say, have no part in lines and kept bytes, may have
  * any time, and make no difference to the others (spares.c); a last line gives each line its cap, holds tested and latest times back, and
- * makes no difference else (last.c); and it is compared with a second sheet, often one that means the same or nearly so (pairs.c). Every
- * sixteenth sheet is one that the library makes, and a second generator too (hire.c).
+ * makes no difference else (last.c); and it is compared with a second sheet, often one that means the same or nearly so (pairs.c). Behind every
+ * sixteenth sheet come some that the library makes, and a second generator too (hire.c), and the last of these is tried like the others.
  * The last line is: N passed, M failed. A sheet that fails is written with its number, so that it can be tried alone.
  */
 #define _DEFAULT_SOURCE
@@ -41,7 +41,7 @@
 #define MOST_LINES 279936   /* no list has more: 6 to the power 7 */
 #define ANSWER_WORDS 20     /* more than any answer has */
 #define MOST_TIMES 8        /* times that are lent, at most */
-#define HIRED 16            /* one of so many sheets is made by the library */
+#define HIRED 16            /* behind one of so many sheets the library makes some */
 #define UNTOUCHED_WORD 0x5a5a5a5a
 #define UNTOUCHED INT64_C(0x5a5a5a5a5a5a5a5a)
 
@@ -500,28 +500,34 @@ static void check_pairs(struct random *random, const struct tables *tables, int 
     }
 }
 
-static void try_sheet(void)
+/* All that is tried on the sheet that stands in the text. */
+static void check_sheet(struct random *random)
 {
-    struct random random = random_for(seed, current);
     struct tables tables;
     uint32_t refusal;
-    wrong = NULL;
     other.length = 0;
-    if (current % HIRED == 0) {
-        check_hire(&random, &text);
-    } else {
-        make_sheet(&random, &text);
-    }
-    lend_sheet(&random);
+    lend_sheet(random);
     refusal = read_tables(text.bytes, text.length, &tables);
     wide = line_words(&tables);
     met.read[refusal]++;
     if (refusal != 0) {
-        check_refused(&random, refusal);
+        check_refused(random, refusal);
     } else {
-        check_good(&random, &tables);
+        check_good(random, &tables);
     }
-    check_pairs(&random, &tables, refusal == 0);
+    check_pairs(random, &tables, refusal == 0);
+}
+
+static void try_sheet(void)
+{
+    struct random random = random_for(seed, current);
+    wrong = NULL;
+    make_sheet(&random, &text);
+    check_sheet(&random);
+    if (wrong == NULL && current % HIRED == 0) {
+        check_hire(&random, &text);
+        check_sheet(&random);
+    }
 }
 
 /* ---- The run */
