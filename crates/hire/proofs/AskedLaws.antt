@@ -9,7 +9,7 @@ use lib.ListN.{length, take}
 use Rattle.sheet.specs.Sheet.{Got, got, refused}
 use Rattle.sheet.proofs.LineLaws.{true-not-false}
 use Rattle.writing.specs.Writing.{Writes}
-use Rattle.writing.proofs.TextLaws.{counted}
+use Rattle.advice.proofs.AdviceLaws.{answered}
 use Rattle.argument.specs.Whole.{sole}
 use Rattle.argument.specs.Inner.{whole-of}
 use Rattle.argument.specs.declared.whole.Whole.{Whole}
@@ -22,9 +22,6 @@ use Rattle.hire.specs.declared.Call.{Call}
 abbrev Both : (out errors : List ℕ) (r q : ℕ) (T S : List ℕ) → Type 0
 Both out errors r q T S = ((r ≤ length out) × (r ≡ length (take r out))) ×
     ((take r out ≡ T) × (((q ≤ length errors) × (q ≡ length (take q errors))) × (take q errors ≡ S)))
-
-both : {out errors T S : List ℕ} {r q : ℕ} → Writes out r T → Writes errors q S → Both out errors r q T S
-both t s = (counted _ _ (t .within), (t .text, (counted _ _ (s .within), s .text)))
 
 -- the call is that of the arguments
 pub call-is : (p t s k : List ℕ) {m n z w : Whole} {a : Call} →
@@ -42,7 +39,7 @@ module _ (p t s k out errors : List ℕ) (a : Call) (e : a ≡ held (asked p t s
     where
       go : (g : Got Wanted) → a ≡ held g → Both out errors 0 q (call-text g) (call-complaint g)
       go (got v x) f = absurd (true-not-false (sym (ap (λ (a : Call). a .good) f) ∙ h))
-      go (refused j) f = both {out = out} (record { within = omega arith; text = refl }) w
+      go (refused j) f = answered {out = out} (record { within = omega arith; text = refl }) refl w refl
 
   -- a good one
   pub good-out : {r q : ℕ} → a .good ≡ true →
@@ -52,5 +49,5 @@ module _ (p t s k out errors : List ℕ) (a : Call) (e : a ≡ held (asked p t s
   good-out {r} {q} h w = go (asked p t s k) e
     where
       go : (g : Got Wanted) → a ≡ held g → Both out errors r q (call-text g) (call-complaint g)
-      go (got v x) f = let (a, b) = w v f in both a b
+      go (got v x) f = let (a, b) = w v f in answered a refl b refl
       go (refused j) f = absurd (true-not-false (sym h ∙ ap (λ (a : Call). a .good) f))

@@ -1,7 +1,7 @@
 -- Laws of the generator: what its outcome is in each case, by the tests of the sizes and of the room; how its text comes to the front.
-use mathlib.Core.Path.{_≡_, refl, ap, sym, _∙_}
+use mathlib.Core.Path.{_≡_, ap, sym, _∙_}
 use mathlib.Core.List.{List, _++_}
-use mathlib.Core.Bool.{Bool, true, false, _&&_}
+use mathlib.Core.Bool.{true, false}
 use Prim.Native.Nat.{ℕ, _≤_, _<_}
 use native.Mathlib.Omega.{arith}
 use borrow.Author.Tests.{leb-true, le-leb, lt-leb}
@@ -12,12 +12,9 @@ use Rattle.writing.specs.Writing.{Puts}
 use Rattle.writing.proofs.PutLaws.{put-as, put-front}
 use Rattle.writing.proofs.TextLaws.{counted}
 use Rattle.sheet_text.specs.SheetText.{sheet-text}
+use Rattle.sheet_text.proofs.ItemOnly.{both}
 use Rattle.hiring.specs.Hiring.{drawn, sheet-from, draws, HireOutcome, hired, refused, size?, hiring, bytes-after, hire-answer}
 use Rattle.hiring.specs.declared.Hired.{Hired}
-
-pub both : (a b : Bool) → a && b ≡ true → (a ≡ true) × (b ≡ true)
-both true b e = (refl, e)
-both false b e = (e, cc)
 
 pub size-there : (k : ℕ) → size? k ≡ true → (1 ≤ k) × (k ≤ size-limit)
 size-there k e = let (p, q) = both (leb 1 k) (leb k size-limit) e in (leb-true 1 k p, leb-true k size-limit q)

@@ -17,12 +17,13 @@ use Rattle.sheet.proofs.Demands.{order-kept}
 use Rattle.sheet.proofs.Longest.{longest, longest-is}
 use Rattle.sheet.proofs.OrderedLaws.{ordered-got}
 use Rattle.sheet_text.specs.SheetText.{sheet-text, trimmed}
+use Rattle.sheet_text.proofs.ItemOnly.{both}
 use Rattle.sheet_text.proofs.ReadBack.{read-back}
 use Rattle.planning.specs.Planning.{plan-of, planning}
 use Rattle.planning.specs.Demands.{Planned}
 use Rattle.hiring.specs.Hiring.{drawn, sheet-from, draws, hired, refused, size?, hiring, hire-answer}
 use Rattle.hiring.specs.Loads.{front, Every-accepted, Room-enough}
-use Rattle.hiring.proofs.HireLaws.{both, size-there, room-there}
+use Rattle.hiring.proofs.HireLaws.{size-there, room-there}
 use Rattle.hiring.proofs.MadeLaws.{made-sound, made-short, made-keeps}
 
 -- ---- a sheet that was written

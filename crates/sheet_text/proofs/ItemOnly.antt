@@ -32,7 +32,7 @@ literal-only (b ∷ key) (c ∷ s) {r = r} e =
     cc
 
 -- ---- numerals
-both : (a b : Bool) → a && b ≡ true → (a ≡ true) × (b ≡ true)
+pub both : (a b : Bool) → a && b ≡ true → (a ≡ true) × (b ≡ true)
 both true b e = (refl, e)
 both false b e = (e, cc)
 
