@@ -32,8 +32,7 @@ use Rattle.cue.specs.Method.{selections, steps, need, seed, ray, candidate, can
 use Rattle.cue.proofs.Order.{keeps?}
 use Rattle.cue.proofs.Deviation.{tightest?}
 use Rattle.sheet.specs.Text.{bytes}
-use Rattle.sheet.specs.Sheet.{literal, value, behind, signed, item, ended, items, any, checked, rows, row, table, sections, optional, read, Sheet}
-use Rattle.sheet.specs.Meaning.{spare}
+use Rattle.sheet.specs.Sheet.{literal, value, behind, signed, item, ended, items, any, checked, rows, row, table, sections, optional, read, Sheet, spare}
 use Rattle.sheet.specs.Cue.{used, cue-size, order-table, cue-of, Orderly, orderly?, sheet-kept, sheet-byte, sheet-count, sheet-lines}
 use Rattle.sheet.specs.Overruns.{lowered}
 use Rattle.sheet.proofs.Spares.{cue-readable}

@@ -6,7 +6,7 @@ use lib.Dec.{T}
 use lib.IntN.{ℤ, pos, negsuc}
 use Rattle.maxplus.specs.Whole.{_≤z_, _<z_, _+z_, neg}
 use Rattle.maxplus.specs.Entry.{E, absent, num, _≼_, leqE, _⊗_, _⊕_, inv, unit, Present, present?, val}
-use Rattle.maxplus.proofs.WholeLaws.{z-eq, up-add, up-neg, z-refl, z-trans, z-anti, z-add, z-comm, z-assoc, z-dec, z-not, max-cases}
+use Rattle.maxplus.proofs.WholeLaws.{z-eq, up-add, up-neg, z-refl, z-trans, z-anti, z-add, z-comm, z-assoc, z-dec, z-not, neg-neg, max-cases}
 use Rattle.maxplus.proofs.WholeLaws.{leqz-yes, leqz-of}
 
 pub ≼-refl : (a : E) → a ≼ a
@@ -164,6 +164,11 @@ leqE-of (num a) (num b) h = leqz-of a b (h .un)
 pub inv-num : (a : ℤ) → inv (num a) ≡ num (neg a)
 unfolding inv
 inv-num a = refl
+
+pub inv-inv : (a : E) → inv (inv a) ≡ a
+unfolding inv
+inv-inv absent = refl
+inv-inv (num a) = ap num (neg-neg a)
 
 pub present-of : {z : ℤ} (a : E) → num z ≼ a → Present a
 present-of a h = (val a, val-of a h)

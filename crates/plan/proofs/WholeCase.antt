@@ -23,9 +23,9 @@ use Rattle.cue.specs.Cue.{overdue, shortfall}
 use Rattle.cue.specs.Method.{through, pullE, pull, leastE, least, floor-panels, serves-as-well, cut, walk, fixings, kept}
 use Rattle.cue.specs.Method.{selections, steps, need, seed, ray, candidate, candidates, lines}
 use Rattle.sheet.specs.Text.{bytes}
-use Rattle.sheet.specs.Sheet.{literal, value, behind, signed, item, ended, items, any, checked, rows, sections, optional, read}
+use Rattle.sheet.specs.Sheet.{literal, value, behind, signed, item, ended, items, any, checked, rows, sections, optional, read, spare}
 use Rattle.sheet.specs.Sheet as sheet
-use Rattle.sheet.specs.Meaning.{spare, line-landing}
+use Rattle.sheet.specs.Meaning.{line-landing}
 use Rattle.sheet.specs.Cue.{used, order-table, orderly?, sheet-lines, cap}
 use Rattle.sheet.specs.Ordered.{ordered}
 use Rattle.writing.specs.Numerals.{digits}

@@ -10,14 +10,14 @@ use lib.Dec.{leb}
 use lib.IntN.{ℤ}
 use lib.ListN.{length}
 use lib.Seq.{take-at}
-use Rattle.sheet.specs.Meaning.{Timing, spare, Keeps}
+use Rattle.sheet.specs.Meaning.{Timing, Keeps}
 use Rattle.cue.specs.Written.{width, list-words, lent-words}
 use Rattle.cue.proofs.LentLaws.{lent-words-length, uncapped-lent}
 use Rattle.sheet.proofs.ListLaws.{spare-shown}
 use Rattle.sheet.proofs.Caps.{reaches, cap-is, in-time-capped}
 use Rattle.sheet.proofs.TwoSheets.{SameLists}
 use Rattle.sheet.proofs.Demands as sheets
-use Rattle.sheet.specs.Sheet.{got, Sheet, read}
+use Rattle.sheet.specs.Sheet.{got, Sheet, read, spare}
 use Rattle.sheet.specs.Sheet as sheet
 use Rattle.sheet.specs.Cue.{used, order-table, Orderly, orderly?, sheet-least, sheet-steps, sheet-selections, sheet-caps, sheet-lines}
 use Rattle.sheet.specs.Cue.{most-steps}

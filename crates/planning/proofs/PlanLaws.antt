@@ -9,9 +9,8 @@ use lib.Dec.{leb}
 use lib.IntN.{ℤ}
 use lib.ListN.{length}
 use Rattle.maxplus.specs.Finite.{byte-of}
-use Rattle.sheet.specs.Sheet.{Got, got, Sheet, read}
+use Rattle.sheet.specs.Sheet.{Got, got, Sheet, read, spare}
 use Rattle.sheet.specs.Sheet as spec
-use Rattle.sheet.specs.Meaning.{spare}
 use Rattle.sheet.specs.Cue.{Orderly, sheet-least, sheet-steps, sheet-selections, sheet-caps, sheet-lines}
 use Rattle.walk.specs.declared.Counts.{Counts}
 use Rattle.laying.specs.Laying.{Lists}

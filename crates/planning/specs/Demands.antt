@@ -11,8 +11,8 @@ use Rattle.maxplus.specs.Entry.{absent, num, _≼_, Present}
 use Rattle.maxplus.specs.Finite.{In, byte-of}
 use Rattle.maxplus.specs.Line.{Line, at}
 use Rattle.cue.specs.Written.{lent-words, uncapped}
-use Rattle.sheet.specs.Sheet.{got, Sheet, read}
-use Rattle.sheet.specs.Meaning.{Timing, spare, Keeps, deviation, InTime, Weighed, line-landing, Cap, Capped, SameSpares, SameTimings}
+use Rattle.sheet.specs.Sheet.{got, Sheet, read, spare}
+use Rattle.sheet.specs.Meaning.{Timing, Keeps, deviation, InTime, Weighed, line-landing, Cap, Capped, SameSpares, SameTimings}
 use Rattle.sheet.specs.Cue.{sheet-lines, cap, sheet-caps, most-steps}
 use Rattle.planning.specs.Planning.{PlanOutcome, planned, full, refused, planning, space-after, plan-answer}
 

@@ -9,8 +9,7 @@ use lib.ListN.{length}
 use Rattle.maxplus.specs.Finite.{byte-of}
 use Rattle.maxplus.specs.Line.{Line}
 use Rattle.cue.specs.Written.{width, with-list}
-use Rattle.sheet.specs.Sheet.{Got, got, Sheet}
-use Rattle.sheet.specs.Meaning.{spare}
+use Rattle.sheet.specs.Sheet.{Got, got, Sheet, spare}
 use Rattle.sheet.specs.Cue.{sheet-least, sheet-steps, sheet-selections, sheet-caps, sheet-lines}
 use Rattle.sheet.specs.Ordered.{ordered}
 use Rattle.planning.specs.declared.CuePlan.{CuePlan}

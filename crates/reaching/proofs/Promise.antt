@@ -11,9 +11,9 @@ use lib.IntN.{ℤ}
 use lib.ListN.{length}
 use Rattle.maxplus.specs.Line.{Line}
 use Rattle.cue.specs.Written.{width}
-use Rattle.sheet.specs.Sheet.{Got, got, Sheet}
+use Rattle.sheet.specs.Sheet.{Got, got, Sheet, spare}
 use Rattle.sheet.specs.Sheet as sheet
-use Rattle.sheet.specs.Meaning.{Timing, spare}
+use Rattle.sheet.specs.Meaning.{Timing}
 use Rattle.sheet.specs.Cue.{sheet-least, sheet-steps, sheet-selections, sheet-caps, sheet-lines}
 use Rattle.sheet.specs.Good.{Good}
 use Rattle.sheet.specs.Admitted.{admitted}

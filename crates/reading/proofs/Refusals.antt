@@ -12,7 +12,7 @@ use Rattle.maxplus.specs.Whole.{neg}
 use Rattle.maxplus.specs.Entry.{E, absent, num}
 use Rattle.maxplus.specs.Tables.{Mat}
 use Rattle.sheet.specs.Sheet.{Got, got, refused, got?, _>>=_, literal, leading, value, behind, signed, item}
-use Rattle.sheet.specs.Sheet.{ending, ended, items, Rule, size, entry, mark, out-of-range, no-size, absent?, any, all, checked}
+use Rattle.sheet.specs.Sheet.{ending, ended, items, Content, size, entry, mark, out-of-range, no-size, absent?, any, all, checked}
 use Rattle.sheet.specs.Sheet.{line, rows, Section, section, sections, sizes, tables, part, count, panels-line, triggers-line, lag-lines, floor-line}
 use Rattle.sheet.specs.Sheet.{optional, land-kind, last-kind, sheet-of, finished, lines, read}
 
@@ -61,7 +61,7 @@ items-numbered zero s = tt
 items-numbered (suc k) s =
     then-numbered (ended k s) _ (ended-numbered k s) (λ e s. then-numbered (items k s) _ (items-numbered k s) (λ es s. tt))
 
-checked-numbered : (r : Rule) (es : List E) (s : List ℕ) → Numbered (checked r es s)
+checked-numbered : (r : Content) (es : List E) (s : List ℕ) → Numbered (checked r es s)
 unfolding checked
 checked-numbered size es s = if-numbered (any absent? es) (refused 2) _ (omega arith, omega arith)
     (if-numbered (any no-size es) (refused 3) (got es s) (omega arith, omega arith) tt)
@@ -69,12 +69,12 @@ checked-numbered entry es s = if-numbered (any out-of-range es) (refused 4) (got
 checked-numbered mark es s = if-numbered (any out-of-range es) (refused 4) _ (omega arith, omega arith)
     (if-numbered (any absent? es) (refused 5) (got es s) (omega arith, omega arith) tt)
 
-line-numbered : (key : List ℕ) (r : Rule) (k : ℕ) (s : List ℕ) → Numbered (line key r k s)
+line-numbered : (key : List ℕ) (r : Content) (k : ℕ) (s : List ℕ) → Numbered (line key r k s)
 unfolding line
 line-numbered key r k s = then-numbered (literal key s) _ (literal-numbered key s) (λ u s. then-numbered (items k s) _ (items-numbered k s)
     (λ es s. checked-numbered r es s))
 
-rows-numbered : (key : List ℕ) (r : Rule) (i k : ℕ) (s : List ℕ) → Numbered (rows key r i k s)
+rows-numbered : (key : List ℕ) (r : Content) (i k : ℕ) (s : List ℕ) → Numbered (rows key r i k s)
 unfolding rows
 rows-numbered key r zero k s = tt
 rows-numbered key r (suc i) k s = then-numbered (line key r k s) _ (line-numbered key r k s)
@@ -83,13 +83,13 @@ rows-numbered key r (suc i) k s = then-numbered (line key r k s) _ (line-numbere
 sections-numbered : (ks : List Section) (s : List ℕ) → Numbered (sections ks s)
 unfolding sections
 sections-numbered [] s = tt
-sections-numbered (k ∷ ks) s = then-numbered (section k s) _ (rows-numbered (k .key) (k .rule) (k .lines) (k .items) s)
+sections-numbered (k ∷ ks) s = then-numbered (section k s) _ (rows-numbered (k .key) (k .content) (k .lines) (k .items) s)
     (λ t s. then-numbered (sections ks s) _ (sections-numbered ks s) (λ ts s. tt))
 
 optional-numbered : (k : Section) (s : List ℕ) → Numbered (optional k s)
 unfolding optional
 optional-numbered k s = if-numbered (got? (literal (k .key) s)) _ (got none s)
-    (then-numbered (section k s) _ (rows-numbered (k .key) (k .rule) (k .lines) (k .items) s) (λ t s. tt)) tt
+    (then-numbered (section k s) _ (rows-numbered (k .key) (k .content) (k .lines) (k .items) s) (λ t s. tt)) tt
 
 finished-numbered : (m n : ℕ) (ts : List (List (List E))) (land last : Option Mat) (s : List ℕ) → Numbered (finished m n ts land last s)
 finished-numbered m n ts land last (b ∷ s) = (omega arith, omega arith)

@@ -124,19 +124,19 @@ first (k ∷ ks) es s = cond (any (has-fault k) es) (refused k) (first ks es s)
 abbrev listed : Faults → List ℕ
 listed K = take (K .count) (K .order)
 
-checked-first : (r : sheet.Rule) (es : List E) (s : List ℕ) → checked r es s ≡ first (listed (faults r)) es s
+checked-first : (r : sheet.Content) (es : List E) (s : List ℕ) → checked r es s ≡ first (listed (faults r)) es s
 unfolding checked
 checked-first sheet.size es s = refl
 checked-first sheet.entry es s = refl
 checked-first sheet.mark es s = refl
 
 -- there are at most two, each with a number
-pub faults-few : (r : sheet.Rule) → (faults r .count ≤ 2) × (length (faults r .order) ≡ 2)
+pub faults-few : (r : sheet.Content) → (faults r .count ≤ 2) × (length (faults r .order) ≡ 2)
 faults-few sheet.size = (omega arith, refl)
 faults-few sheet.entry = (omega arith, refl)
 faults-few sheet.mark = (omega arith, refl)
 
-kind-known : (r : sheet.Rule) (i : ℕ) → i < faults r .count → 0 < getD (faults r .order) i 0
+kind-known : (r : sheet.Content) (i : ℕ) → i < faults r .count → 0 < getD (faults r .order) i 0
 kind-known sheet.size zero h = omega arith
 kind-known sheet.size (suc zero) h = omega arith
 kind-known sheet.size (suc (suc i)) h = let x : ⊥ = omega arith in absurd x
@@ -148,7 +148,7 @@ kind-known sheet.mark (suc (suc i)) h = let x : ⊥ = omega arith in absurd x
 
 -- what the loop over the kinds keeps: the first i are no fault of the line, and the others give what the line is refused for
 pub record Asked (K : Faults) (ws : List ℕ) (n i : ℕ) : Type 0 where
-  pub left : (r : sheet.Rule) → K ≡ faults r → (es : List E) (s : List ℕ) → length es ≡ n → ws ≡ words-of es →
+  pub left : (r : sheet.Content) → K ≡ faults r → (es : List E) (s : List ℕ) → length es ≡ n → ws ≡ words-of es →
       checked r es s ≡ first (drop i (listed K)) es s
 
 pub asked-none : {K : Faults} {ws : List ℕ} {n : ℕ} → Asked K ws n 0
@@ -158,7 +158,7 @@ asked-none = record { left = λ r k es s l e. rw k (checked-first r es s) }
 abbrev pub kind-at : Faults → ℕ → ℕ
 kind-at K i = getD (K .order) i 0
 
-module _ {K : Faults} {ws : List ℕ} {n i : ℕ} (A : Asked K ws n i) (r : sheet.Rule) (k : K ≡ faults r) where
+module _ {K : Faults} {ws : List ℕ} {n i : ℕ} (A : Asked K ws n i) (r : sheet.Content) (k : K ≡ faults r) where
   pub asked-all : K .count ≤ i → FaultIs r ws n 0
   asked-all h =
       let none = drop-of-length-le (listed K) {i = i} (let l = length-take (K .count) (K .order) in omega arith) in
@@ -171,7 +171,7 @@ module _ {K : Faults} {ws : List ℕ} {n i : ℕ} (A : Asked K ws n i) (r : shee
         let l = length-take (K .count) (K .order) in
         rw (add-one i, drop-cons (listed K) i 0 (omega arith), getD-take)
 
-    decided : (r : sheet.Rule) → K ≡ faults r → (es : List E) (s : List ℕ) → length es ≡ n → ws ≡ words-of es → (b : Bool) →
+    decided : (r : sheet.Content) → K ≡ faults r → (es : List E) (s : List ℕ) → length es ≡ n → ws ≡ words-of es → (b : Bool) →
         any (has-fault (kind-at K i)) es ≡ b → checked r es s ≡ cond b (refused (kind-at K i)) (first (drop (i + 1) (listed K)) es s)
     decided r k es s l e b q = A .left r k es s l e ∙ ap (λ ks. first ks es s) next ∙ rw q
 
@@ -200,7 +200,7 @@ size-in-range (num (pos n)) h =
     rw (le-ltb limit n (omega arith))
 size-in-range (num (negsuc n)) h = absurd (true-not-false h)
 
-in-range : (r : sheet.Rule) (es : List E) → Passes r es → any out-of-range es ≡ false
+in-range : (r : sheet.Content) (es : List E) → Passes r es → any out-of-range es ≡ false
 in-range sheet.size es p = any-none out-of-range absent es (λ j h. size-in-range (row es j) (none-at no-size absent es j (p .1) h))
 in-range sheet.entry es p = p
 in-range sheet.mark es p = p .0
@@ -221,5 +221,5 @@ unfolding any mapL
 clip-same [] h = refl
 clip-same (e ∷ es) h = let (p, q) = none-or (out-of-range e) (any out-of-range es) h in rw (in-range-clip e p, clip-same es q)
 
-pub good-words : (r : sheet.Rule) (es : List E) → checked r es [] ≡ got es [] → words-of es ≡ strip (row es)
+pub good-words : (r : sheet.Content) (es : List E) → checked r es [] ≡ got es [] → words-of es ≡ strip (row es)
 good-words r es e = rw (clip-same es (in-range r es (checked-passes r es [] e .0)))

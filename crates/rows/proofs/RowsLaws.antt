@@ -10,7 +10,7 @@ use Rattle.maxplus.specs.Entry.{E, absent}
 use Rattle.maxplus.specs.Finite.{mapL}
 use Rattle.maxplus.proofs.EachLaws.{each-set, map-append, map-length}
 use Rattle.words.specs.Words.{word}
-use Rattle.sheet.specs.Sheet.{Got, got, refused, literal, ended, items, Rule, line, rows, row, table, Section}
+use Rattle.sheet.specs.Sheet.{Got, got, refused, literal, ended, items, Content, line, rows, row, table, Section}
 use Rattle.rows.specs.Grid.{strip, strips}
 use Rattle.rows.specs.Inner.{clip, LiteralAt, words-of, verdict, FaultIs, Found, Reads, RowsAre, OptionalIs}
 use Rattle.rows.specs.declared.Place.{Place}
@@ -50,7 +50,7 @@ module _ (k n : ℕ) (x : List ℕ) (h : k < n) where
       let r : n - (k + 1) ≡ n - k - 1 = omega arith in
       rw (q, p, r) (front e (items (n - k - 1) y))
 
-module _ (key : List ℕ) (r : Rule) (n : ℕ) (x : List ℕ) where
+module _ (key : List ℕ) (r : Content) (n : ℕ) (x : List ℕ) where
   pub line-key : (f : ℕ) → literal key x ≡ refused f → line key r n x ≡ refused f
   unfolding line
   line-key f e = rw e
@@ -107,7 +107,7 @@ module _ {s : List ℕ} {from n : ℕ} where
               onto-onto (I .es) (e ∷ []) (items (n - (k + 1)) (drop next s));
         }
 
-    module _ (h : n ≤ k) {r : Rule} {f : ℕ} (F : FaultIs r ws n f) where
+    module _ (h : n ≤ k) {r : Content} {f : ℕ} (F : FaultIs r ws n f) where
       many : length (I .es) ≡ n
       many = let l = I .long in let q = I .few in omega arith
 
@@ -122,7 +122,7 @@ module _ {s : List ℕ} {from n : ℕ} where
       items-words z = I .words ∙ good-words r (I .es) (F .checks (I .es) [] many (I .words) ∙ verdict-good f (I .es) [] z)
 
 -- ---- what the loop over lines keeps: i of the lines are read, from `from` to `at`, and their words stored
-pub record RowsRead (s key : List ℕ) (from : ℕ) (r : Rule) (lines n : ℕ) (ws : List (List ℕ)) (at i : ℕ) : Type 0 where
+pub record RowsRead (s key : List ℕ) (from : ℕ) (r : Content) (lines n : ℕ) (ws : List (List ℕ)) (at i : ℕ) : Type 0 where
   pub t : List (List E)
   pub few : i ≤ lines
   pub within : at ≤ length s
@@ -130,7 +130,7 @@ pub record RowsRead (s key : List ℕ) (from : ℕ) (r : Rule) (lines n : ℕ) (
   pub words : ws ≡ strips (table t)
   pub left : rows key r lines n (drop from s) ≡ onto t (rows key r (lines - i) n (drop at s))
 
-module _ {s key : List ℕ} {from : ℕ} {r : Rule} {lines n : ℕ} where
+module _ {s key : List ℕ} {from : ℕ} {r : Content} {lines n : ℕ} where
   pub rows-none : {ws : List (List ℕ)} → from ≤ length s → ws ≡ strips (table []) → RowsRead s key from r lines n ws from 0
   rows-none h e =
       record {
@@ -181,9 +181,9 @@ module _ {A W : Type 0} {Holds : A → W → Type 0} {part : Got A} {s : List �
   reads-found h f = record { fault = λ n. absurd (n h); found = λ h. f }
 
 -- ---- lines that may be missing
-module _ (key : List ℕ) (r : Rule) (lines n : ℕ) where
+module _ (key : List ℕ) (r : Content) (lines n : ℕ) where
   abbrev lines-of : Section
-  lines-of = record { key = key; rule = r; lines = lines; items = n }
+  lines-of = record { key = key; content = r; lines = lines; items = n }
 
   pub lines-missing : (s : List ℕ) (from : ℕ) {held : List (List ℕ)} → LiteralAt s from key false → from ≤ length s →
       held ≡ strips (λ i j. absent) → OptionalIs key r lines n s from (record { refusal = 0; given = false; next = from }) held

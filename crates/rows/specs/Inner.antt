@@ -13,7 +13,7 @@ use Rattle.maxplus.specs.Tables.{Mat}
 use Rattle.sheet.specs.Sheet.{Got, got, refused, limit, literal, absent?, no-size, out-of-range, checked, row, table, optional, given, given-table}
 use Rattle.rows.specs.Grid.{strip, strips}
 use Rattle.rows.specs.declared.Items.{Items}
-use Rattle.rows.specs.declared.Items.the-variants as rule
+use Rattle.rows.specs.declared.Items.the-variants as content
 use Rattle.rows.specs.declared.Faults.{Faults}
 use Rattle.rows.specs.declared.Place.{Place}
 use Rattle.rows.specs.declared.Optional.{Optional}
@@ -27,17 +27,17 @@ abbrev pub LiteralAt : List ℕ → ℕ → List ℕ → Bool → Type 0
 LiteralAt s at key true = (literal key (drop at s) ≡ got tt (drop (at + length key) s)) × (at + length key ≤ length s)
 LiteralAt s at key false = literal key (drop at s) ≡ refused 2
 
-abbrev pub rule-of : Items → sheet.Rule
-rule-of rule.Size = sheet.size
-rule-of rule.Entry = sheet.entry
-rule-of rule.Mark = sheet.mark
+abbrev pub content-of : Items → sheet.Content
+content-of content.Size = sheet.size
+content-of content.Entry = sheet.entry
+content-of content.Mark = sheet.mark
 
 -- the words of a line's entries, clipped
 abbrev pub words-of : List E → List ℕ
 words-of es = strip (row (mapL clip es))
 
 -- the kinds of fault that a line's entries can have, in order
-abbrev pub faults : sheet.Rule → Faults
+abbrev pub faults : sheet.Content → Faults
 faults sheet.size = record { count = 2; order = 2 ∷ 3 ∷ [] }
 faults sheet.entry = record { count = 1; order = 4 ∷ 0 ∷ [] }
 faults sheet.mark = record { count = 2; order = 4 ∷ 5 ∷ [] }
@@ -51,8 +51,8 @@ abbrev pub verdict : {A : Type 0} → ℕ → A → List ℕ → Got A
 verdict zero a s = got a s
 verdict (suc k) a s = refused (suc k)
 
--- k is the refusal of a line of n words by the rule r, for whatever entries the words stand
-pub record FaultIs (r : sheet.Rule) (ws : List ℕ) (n k : ℕ) : Type 0 where
+-- k is the refusal of a line of n words, where r is what they may be, for whatever entries the words stand
+pub record FaultIs (r : sheet.Content) (ws : List ℕ) (n k : ℕ) : Type 0 where
   pub checks : (es : List E) (s : List ℕ) → length es ≡ n → ws ≡ words-of es → checked r es s ≡ verdict k es s
 
 -- What a function that reads the bytes s gives for a part of the sheet: the number of its refusal; or 0, the part in words, and the place
@@ -76,6 +76,6 @@ pub record GivenAs (there : Bool) (c : Option Mat) (ws : List (List ℕ)) : Type
   pub is : there ≡ given c
   pub words : ws ≡ strips (given-table c)
 
-abbrev pub OptionalIs : List ℕ → sheet.Rule → ℕ → ℕ → List ℕ → ℕ → Optional → List (List ℕ) → Type 0
+abbrev pub OptionalIs : List ℕ → sheet.Content → ℕ → ℕ → List ℕ → ℕ → Optional → List (List ℕ) → Type 0
 OptionalIs key r lines n s from o held =
-    Reads (GivenAs (o .given)) (optional (record { key = key; rule = r; lines = lines; items = n }) (drop from s)) s (o .refusal) (o .next) held
+    Reads (GivenAs (o .given)) (optional (record { key = key; content = r; lines = lines; items = n }) (drop from s)) s (o .refusal) (o .next) held

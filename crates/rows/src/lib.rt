@@ -6,7 +6,7 @@ ghost use Rattle.words.specs.Words.{entry};
 ghost use Rattle.sheet.specs.Sheet.{limit, ended, no-size, out-of-range};
 ghost use Rattle.sheet.specs.Sheet as sheet;
 ghost use Rattle.items.specs.Inner.{ItemIs};
-ghost use Rattle.rows.specs.Inner.{LiteralAt, FaultIs, RowsAre, OptionalIs, faults, has-fault, rule-of};
+ghost use Rattle.rows.specs.Inner.{LiteralAt, FaultIs, RowsAre, OptionalIs, faults, has-fault, content-of};
 ghost use Rattle.cue.specs.Sizes.{size-limit};
 use items::Item;
 use items::item_at;
@@ -60,13 +60,13 @@ pub fn read_rows(
     s: &[u8],
     from: usize,
     key: &[u8],
-    rule: Items,
+    content: Items,
     lines: usize,
     count: usize,
     rows: &mut [[u64; 6]; 6],
 ) -> Place
     requires { ⌜ (from ≤ length (now s)) × (lines ≤ size-limit) × (count ≤ size-limit) ⌝ }
-    ensures { λ r. ⌜ RowsAre (sheet.rows (now (key .entry)) (rule-of rule) lines count (drop from (now (s .entry)))) (now (s .entry)) r
+    ensures { λ r. ⌜ RowsAre (sheet.rows (now (key .entry)) (content-of content) lines count (drop from (now (s .entry)))) (now (s .entry)) r
         (now (rows .exit)) ⌝ }
 {
     let cleared = [[0u64; 6]; 6];
@@ -95,7 +95,7 @@ pub fn read_rows(
             }
             k += 1;
         }
-        refusal = first_fault(rule, &row, count);
+        refusal = first_fault(content, &row, count);
         if refusal != 0 {
             break 'lines;
         }
@@ -113,13 +113,13 @@ pub fn read_optional(
     s: &[u8],
     from: usize,
     key: &[u8],
-    rule: Items,
+    content: Items,
     lines: usize,
     count: usize,
     rows: &mut [[u64; 6]; 6],
 ) -> Optional
     requires { ⌜ (from ≤ length (now s)) × (lines ≤ size-limit) × (count ≤ size-limit) ⌝ }
-    ensures { λ r. ⌜ OptionalIs (now (key .entry)) (rule-of rule) lines count (now (s .entry)) from r (now (rows .exit)) ⌝ }
+    ensures { λ r. ⌜ OptionalIs (now (key .entry)) (content-of content) lines count (now (s .entry)) from r (now (rows .exit)) ⌝ }
 {
     if !literal_at(s, from, key) {
         let cleared = [[0u64; 6]; 6];
@@ -130,7 +130,7 @@ pub fn read_optional(
             next: from,
         };
     }
-    let read = read_rows(s, from, key, rule, lines, count, rows);
+    let read = read_rows(s, from, key, content, lines, count, rows);
     Optional {
         refusal: read.refusal,
         given: true,
@@ -177,11 +177,11 @@ fn literal_at(s: &[u8], at: usize, key: &[u8]) -> bool
 }
 
 // The refusal of a line whose items have their form, or 0: for each kind of fault in order, for each item, left at the first hit.
-fn first_fault(rule: Items, row: &[u64; 6], count: usize) -> u8
+fn first_fault(content: Items, row: &[u64; 6], count: usize) -> u8
     requires { ⌜ count ≤ size-limit ⌝ }
-    ensures { λ r. ⌜ FaultIs (rule-of rule) (now (row .entry)) count r ⌝ }
+    ensures { λ r. ⌜ FaultIs (content-of content) (now (row .entry)) count r ⌝ }
 {
-    let faults = faults_of(rule);
+    let faults = faults_of(content);
     let many = faults.count;
     let order = faults.order;
     let mut fault: u8 = 0;
@@ -201,10 +201,10 @@ fn first_fault(rule: Items, row: &[u64; 6], count: usize) -> u8
     fault
 }
 
-fn faults_of(rule: Items) -> Faults
-    ensures { λ r. ⌜ r ≡ faults (rule-of rule) ⌝ }
+fn faults_of(content: Items) -> Faults
+    ensures { λ r. ⌜ r ≡ faults (content-of content) ⌝ }
 {
-    match rule {
+    match content {
         Items::Size => Faults {
             count: 2,
             order: [ABSENT_SIZE, NO_SIZE],

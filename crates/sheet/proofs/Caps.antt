@@ -24,8 +24,8 @@ use Rattle.maxplus.proofs.LayoutLaws.{layout-place}
 use Rattle.cue.specs.Vectors as vectors
 use Rattle.cue.specs.Method.{lines}
 use Rattle.cue.proofs.Reaches.{⊗-present, line-reaches}
-use Rattle.sheet.specs.Sheet.{Sheet}
-use Rattle.sheet.specs.Meaning.{Timing, landing, spare, Tightest, InTime, Weighed, line-landing, Allowed, Cap, Capped}
+use Rattle.sheet.specs.Sheet.{Sheet, spare}
+use Rattle.sheet.specs.Meaning.{Timing, landing, Tightest, InTime, Weighed, line-landing, Allowed, Cap, Capped}
 use Rattle.sheet.specs.Cue.{used, cue-size, trigger-at, cue-of, Orderly, sheet-lines, cap}
 use Rattle.sheet.specs.Overruns.{overrun}
 use Rattle.sheet.specs.Good.{Good}

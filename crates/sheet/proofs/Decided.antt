@@ -9,8 +9,8 @@ use Rattle.maxplus.proofs.WholeLaws.{same-whole?}
 use Rattle.maxplus.proofs.FiniteLaws.{dec-×, all-dec, same-test?, same-list?}
 use Rattle.cue.specs.Written.{list-words}
 use Rattle.cue.proofs.Deviation as theory
-use Rattle.sheet.specs.Sheet.{Got, got, refused, Sheet, read}
-use Rattle.sheet.specs.Meaning.{Timing, spare, Tightest, TightestInTime, SameSpares, SameTimings}
+use Rattle.sheet.specs.Sheet.{Got, got, refused, Sheet, read, spare}
+use Rattle.sheet.specs.Meaning.{Timing, Tightest, TightestInTime, SameSpares, SameTimings}
 use Rattle.sheet.specs.Asked.{TightestOn, Alike}
 use Rattle.sheet.specs.Cue.{cue-size, cue-of, Orderly, orderly?, sheet-lines}
 use Rattle.sheet.specs.Good.{Good}
@@ -28,7 +28,7 @@ tightest-on? : (t : Sheet) → Good t → (X : Timing) → Dec (Tightest t X)
 tightest-on? t G X = go (orderly? t)
   where
     go : Dec (Orderly t) → Dec (Tightest t X)
-    go (yes o) = map-dec (tightest-cue t X .1) (tightest-cue t X .0) (theory.tightest? (cue-size t) (cue-of t) (G .readable) o (at-used t X))
+    go (yes o) = map-dec (tightest-cue t (G .measured) X .1) (tightest-cue t (G .measured) X .0) (theory.tightest? (cue-size t) (cue-of t) (G .readable) o (at-used t X))
     go (no f) = no (none-tightest t f X)
 
 in-time-on? : (t : Sheet) → Good t → (X : Timing) → Dec (TightestInTime t X)

@@ -29,11 +29,11 @@ module _ (t : Sheet) (G : Good t) (o : Orderly t) where
   -- demand 2: Δ is the least deviation of any timing that keeps the order, and some timing has it
   pub deviation-at-least : (X : Timing) → Keeps t X → num (sheet-least t) ≼ deviation t X
   deviation-at-least X k =
-      theory.deviation-at-least (cue-size t) (cue-of t) (G .readable) o (at-used t X) (keeps-cue t X .0 k) ▸ ≼-back (deviation-cue t X)
+      theory.deviation-at-least (cue-size t) (cue-of t) (G .readable) o (at-used t X) (keeps-cue t X .0 k) ▸ ≼-back (deviation-cue t (G .measured) X)
 
   pub deviation-reached : (X : Timing) × Keeps t X × (deviation t X ≡ num (sheet-least t))
   deviation-reached = let (Y, k, d) = theory.deviation-reached (cue-size t) (cue-of t) (G .readable) o in
-      (over t anyhow Y, over-keeps t anyhow Y k, over-deviation t anyhow Y ∙ d)
+      (over t anyhow Y, over-keeps t anyhow Y k, over-deviation t anyhow Y (G .measured) ∙ d)
 
   -- "those that keep the order and reach the least deviation are the tightest ones"
   pub tightest-test : (X : Timing) → Tightest t X ↔ (Keeps t X × (deviation t X ≡ num (sheet-least t)))
@@ -45,8 +45,8 @@ module _ (t : Sheet) (G : Good t) (o : Orderly t) where
   -- and the lines make the tightest timings, with whole-number weights, one for each line, in the components that are not spare
   pub demand-2 : (X : Timing) → Tightest t X ↔ Weighed t (sheet-lines t) X
   demand-2 X = let both = theory.demand-2 (cue-size t) (cue-of t) (G .readable) o (at-used t X) in (
-    λ h. weighed-cue t X .1 (both .0 (tightest-cue t X .0 h)),
-    λ w. tightest-cue t X .1 (both .1 (weighed-cue t X .0 w)),
+    λ h. weighed-cue t X .1 (both .0 (tightest-cue t (G .measured) X .0 h)),
+    λ w. tightest-cue t (G .measured) X .1 (both .1 (weighed-cue t X .0 w)),
   )
 
   -- "sorted by component 1, then 2 and so on, absent lowest", the components in their places

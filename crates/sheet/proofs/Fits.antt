@@ -1,7 +1,7 @@
 -- All finite results of a sheet that is read fit signed 32 bits (specs/Fits): cue's sizes at the limits on a sheet's entries, and the sums
 -- that a tested timing makes with them.
 use mathlib.Core.Path.{_≡_, refl}
-use mathlib.Core.Bool.{Bool, true, false, cond}
+use mathlib.Core.Bool.{false}
 use mathlib.Core.List.{[], _∷_}
 use mathlib.Core.Option.{some}
 use Prim.Native.Nat.{ℕ, _+_, _*_, _≤_, _<_}
@@ -10,29 +10,33 @@ use native.Mathlib.Nat.{le-trans}
 use borrow.Author.Tests.{ltb-false}
 use lib.Dec.{ltb}
 use lib.IntN.{ℤ, pos}
-use Rattle.maxplus.specs.Whole.{up, dn, neg}
-use Rattle.maxplus.specs.Entry.{absent, num, _⊗_, inv}
+use Rattle.maxplus.specs.Whole.{up, dn}
+use Rattle.maxplus.specs.Entry.{num, _⊗_}
 use Rattle.maxplus.specs.Finite.{In, each}
 use Rattle.maxplus.specs.Line.{Line, at}
 use Rattle.maxplus.specs.Tables.{sup, mv}
 use Rattle.maxplus.proofs.EntryLaws.{num-inj}
-use Rattle.maxplus.proofs.PackingLaws.{rank-few}
+use Rattle.maxplus.proofs.PackingLaws.{rank-few, placed}
 use Rattle.maxplus.proofs.EachLaws.{each-at, length-each}
+use Rattle.cue.specs.Cue.{timing}
+use Rattle.cue.specs.Cue as cue
+use Rattle.cue.specs.Vectors as vectors
 use Rattle.cue.specs.Results.{Above, Below, Within, Signed32}
 use Rattle.cue.proofs.Bounds.{above-⊗, below-⊗, above-sup, below-sup, above-inv, below-inv, power-within, times-le, signed32, results-six, results-32}
 use Rattle.cue.proofs.Walk.{steps-bound}
 use Rattle.cue.proofs.Few.{geometric-mono, selections-few, steps-few, lines-few}
 use Rattle.sheet.specs.Sheet.{Sheet, limit}
 use Rattle.sheet.specs.Sizes.{order-limit, star-size, through-size, mark-down, least-up, need-down, line-down, cap-down, cap-up}
-use Rattle.sheet.specs.Meaning.{Timing, landing, spare, overdue, shortfall, deviation}
+use Rattle.sheet.specs.Meaning.{Timing, landing, deviation}
 use Rattle.sheet.specs.Times.{far-limit, beyond, some-beyond}
-use Rattle.sheet.specs.Cue.{used, cue-size, cue-of, Orderly, sheet-lines, cap}
+use Rattle.sheet.specs.Cue.{used, cue-size, trigger-at, cue-of, Orderly, sheet-lines, cap}
 use Rattle.sheet.specs.Overruns.{overrun}
 use Rattle.sheet.specs.Good.{Good}
 use Rattle.sheet.specs.Fits.{Fits, All-fit}
 use Rattle.sheet.proofs.LineLaws.{none-or, none-at}
-use Rattle.sheet.proofs.WithinLaws.{within-absent, within-⊗, within-inv, within-sup}
+use Rattle.sheet.proofs.WithinLaws.{within-⊗, within-inv, within-sup}
 use Rattle.sheet.proofs.Good.{read-good}
+use Rattle.sheet.proofs.Seam.{at-used, landing-cue, deviation-cue}
 use Rattle.sheet.proofs.ListLaws.{lines-many, components-within}
 use Rattle.sheet.proofs.Overruns.{overrun-within}
 use Rattle.sheet.proofs.Caps.{cap-overruns}
@@ -57,22 +61,21 @@ module _ (t : Sheet) (G : Good t) (X : Timing) (e : some-beyond (t .triggers) X 
   unfolding landing mv
   landing-within i h = within-sup (t .triggers) _ (λ j q. within-⊗ (G .lags i j h q) (near X (t .triggers) e j q))
 
-  overdue-within : Within (far-limit + limit) (far-limit + limit) (overdue t X)
-  unfolding overdue inv
-  overdue-within = within-sup (t .triggers) _ (λ j q. part j q (spare t j))
-    where
-      part : (j : ℕ) → j < t .triggers → (b : Bool) →
-          Within (far-limit + limit) (far-limit + limit) (cond b absent (num (X j) ⊗ num (neg (t .due j))))
-      part j q true = within-absent
-      part j q false = within-⊗ (near X (t .triggers) e j q) (within-inv (G .dues j q))
+  -- on the cue, whose marks are within the limit by either rule
+  overdue-within : Within (far-limit + limit) (far-limit + limit) (cue.overdue (cue-size t) (timing (cue-of t .due)) (timing (at-used t X)))
+  unfolding cue.overdue
+  overdue-within = within-sup (cue-size t) _ (λ k q. within-⊗
+      (near X (t .triggers) e (trigger-at t k) (placed (used t) (t .triggers) k q .below)) (within-inv (G .limited .dues k q)))
 
-  shortfall-within : Within (limit + (limit + far-limit)) (limit + (limit + far-limit)) (shortfall t X)
-  unfolding shortfall
-  shortfall-within = within-sup (t .panels) _ (λ i h. within-⊗ (G .limited .floors i h) (within-inv (landing-within i h)))
+  shortfall-within : Within (limit + (limit + far-limit)) (limit + (limit + far-limit))
+      (cue.shortfall (t .panels) (cue-size t) (cue-of t .lag) (cue-of t .floor) (timing (at-used t X)))
+  unfolding cue.shortfall
+  shortfall-within = within-sup (t .panels) _ (λ i h. within-⊗ (G .limited .floors i h)
+      (within-inv (rw (landing-cue t X i h) at (landing-within i h))))
 
   deviation-fits : Signed32 (deviation t X)
-  unfolding deviation
-  deviation-fits = signed32 (omega arith) (omega arith) (within-⊗ overdue-within shortfall-within)
+  deviation-fits = rw (deviation-cue t (G .measured) X)
+      (unfold vectors.deviation in signed32 (omega arith) (omega arith) (within-⊗ overdue-within shortfall-within))
 
 -- ---- caps
 module _ (t : Sheet) (G : Good t) (o : Orderly t) (b : ℕ → ℤ) (e : t .last ≡ some b) (c : Line (t .triggers)) (h : In c (sheet-lines t)) where

@@ -1,31 +1,32 @@
 -- Every sheet that reading gives is good: by one law about sections, used once for each kind of line.
 use mathlib.Core.Path.{_≡_, refl, ap, sym}
 use mathlib.Core.List.{List, [], _∷_}
-use mathlib.Core.Bool.{Bool, true, false, cond, not}
+use mathlib.Core.Bool.{Bool, true, false, cond, not, _&&_}
 use mathlib.Core.Option.{Option, none, some, Option·some-injective, Option·none-ne-some}
 use Prim.Native.Nat.{ℕ, _≤_, _<_}
 use native.Mathlib.Omega.{arith}
-use lib.Dec.{ltb}
-use lib.IntN.{ℤ}
+use lib.Dec.{T, ltb}
+use lib.IntN.{ℤ, pos}
 use lib.ListN.{length, getD}
 use borrow.Author.Tests.{ltb-false}
-use Rattle.maxplus.specs.Whole.{up, dn}
+use Rattle.maxplus.specs.Whole.{up, dn, neg}
 use Rattle.maxplus.specs.Entry.{E, absent, num, val, Present}
-use Rattle.maxplus.specs.Tables.{Mat}
-use Rattle.maxplus.proofs.EntryLaws.{num-inj}
+use Rattle.maxplus.specs.Finite.{each}
+use Rattle.maxplus.specs.Tables.{Vec, Mat}
+use Rattle.maxplus.proofs.EntryLaws.{num-inj, inv-num}
+use Rattle.maxplus.proofs.EachLaws.{each-at, length-each}
 use Rattle.maxplus.proofs.PackingLaws.{rank-few}
 use Rattle.cue.specs.Results.{Within}
-use Rattle.sheet.specs.Sheet.{got, refused, Rule, size, entry, mark, limit, out-of-range, absent?, any, all, table, Sheet, sections}
-use Rattle.sheet.specs.Sheet.{sizes, tables, part}
-use Rattle.sheet.specs.Sheet.{count, panels-line, triggers-line, lag-lines, floor-line, due-line, after-lines, optional, land-kind, last-kind}
-use Rattle.sheet.specs.Sheet.{given-table, moments}
-use Rattle.sheet.specs.Sheet.{sheet-of, finished, lines, read}
-use Rattle.sheet.specs.Cue.{used}
-use Rattle.sheet.specs.Good.{RowsOf, Good}
+use Rattle.sheet.specs.Sheet.{got, refused, Content, size, entry, mark, limit, out-of-range, absent?, any, all, table, Sheet, Measure, by-marks}
+use Rattle.sheet.specs.Sheet.{by-spread, sections, sizes, tables, part, count, panels-line, triggers-line, lag-lines, floor-line, due-line}
+use Rattle.sheet.specs.Sheet.{after-lines, optional, land-kind, last-kind, given-table, moments, measure-of, sheet-of, lagless, spare, some-lagless}
+use Rattle.sheet.specs.Sheet.{ruled, finished, lines, read}
+use Rattle.sheet.specs.Cue.{floor-by, due-by, used}
+use Rattle.sheet.specs.Good.{RowsOf, Measured, Good}
 use Rattle.sheet.proofs.LineLaws.{true-not-false, none-or, none-at, at-any, not-got, bind-got, passed, there}
 use Rattle.sheet.proofs.SectionLaws.{row-long, row-passes, sections-of, optional-of, size-read}
-use Rattle.sheet.proofs.WithinLaws.{within-absent}
-use Rattle.sheet.proofs.Spares.{cue-readable}
+use Rattle.sheet.proofs.WithinLaws.{within-absent, within-inv, within-sup}
+use Rattle.sheet.proofs.Spares.{some-of, cue-readable}
 use Rattle.sheet.proofs.Seam.{cue-limited}
 use Rattle.cue.specs.Sizes.{size-limit}
 
@@ -38,7 +39,7 @@ in-range (num z) h =
     let d = ltb-false limit (dn z) (p .1) in
     record { low = record { above = λ y e. rw (← num-inj e) (omega arith) }; high = record { below = λ y e. rw (← num-inj e) (omega arith) } }
 
-module _ {r : Rule} {m n : ℕ} {t : List (List E)} (R : RowsOf r m n t) (i : ℕ) (h : i < m) where
+module _ {r : Content} {m n : ℕ} {t : List (List E)} (R : RowsOf r m n t) (i : ℕ) (h : i < m) where
   entry-within : any out-of-range (getD t i []) ≡ false → (j : ℕ) → j < n → Within limit limit (table t i j)
   entry-within g j q = in-range (table t i j) (none-at out-of-range absent (getD t i []) j g (let l = row-long R i h in omega arith))
 
@@ -84,42 +85,112 @@ last-within m s (some c) e b f i h =
     let (t, R, same) = optional-of (last-kind m) s e in
     rw (← ap (λ g. g i) (Option·some-injective _ b f)) (rw (← same) (dues-within R i h))
 
+-- ---- the marks: those of a sheet, and those of rule 2
+module _ (two : Bool) (m n : ℕ) (s : List ℕ) {ts : List (List (List E))} {x : List ℕ} (e : sections (tables two m n) s ≡ got ts x) where
+  dues-of : (p : Vec) (q : ℕ → ℤ) → measure-of two ts ≡ by-marks p q → (j : ℕ) → j < n → Within limit limit (num (q j))
+  dues-of = go two e
+    where
+      go : (two : Bool) → sections (tables two m n) s ≡ got ts x → (p : Vec) (q : ℕ → ℤ) → measure-of two ts ≡ by-marks p q → (j : ℕ) → j < n →
+          Within limit limit (num (q j))
+      go true e p q f j h = absurd (let z : _≡_ {A = ℕ} 0 1 = cc in omega arith)
+      go false e p q f j h =
+          let c : (λ j. val (table (part ts due-line) 0 j)) ≡ q = cc in
+          rw (← c) (dues-within (sections-of (tables false m n) s e due-line refl) j h)
+
+  floors-within : (i : ℕ) → i < m → Within limit limit (floor-by (measure-of two ts) i)
+  floors-within = go two e
+    where
+      go : (two : Bool) → sections (tables two m n) s ≡ got ts x → (i : ℕ) → i < m → Within limit limit (floor-by (measure-of two ts) i)
+      go true e i h = in-range (num (pos 0)) refl
+      go false e i h = table-within (sections-of (tables false m n) s e floor-line refl) 0 i (omega arith) h
+
+  some-floor : 1 ≤ m → any (all absent?) (part ts floor-line) ≡ false → (i : ℕ) × (i < m) × Present (floor-by (measure-of two ts) i)
+  some-floor some-m = go two e
+    where
+      go : (two : Bool) → sections (tables two m n) s ≡ got ts x → any (all absent?) (part ts floor-line) ≡ false →
+          (i : ℕ) × (i < m) × Present (floor-by (measure-of two ts) i)
+      go true e g = (0, omega arith, (pos 0, refl))
+      go false e g = some-there (sections-of (tables false m n) s e floor-line refl) 0 (omega arith) g
+
+-- a sheet's own due marks are as large as they are read, those of rule 2 as a lag
+due-within : (t : Sheet) → ((i j : ℕ) → i < t .panels → j < t .triggers → Within limit limit (t .lag i j)) →
+    ((p : Vec) (q : ℕ → ℤ) → t .measure ≡ by-marks p q → (j : ℕ) → j < t .triggers → Within limit limit (num (q j))) →
+    (j : ℕ) → j < t .triggers → Within limit limit (num (due-by t (t .measure) j))
+unfolding val neg
+due-within t lags dues j h = go (t .measure) dues
+  where
+    number : (a : E) → Within limit limit a → Within limit limit (num (neg (val a)))
+    number absent w = in-range (num (pos 0)) refl
+    number (num z) w = rw (inv-num z) at (within-inv w)
+
+    go : (M : Measure) → ((p : Vec) (q : ℕ → ℤ) → M ≡ by-marks p q → (j : ℕ) → j < t .triggers → Within limit limit (num (q j))) →
+        Within limit limit (num (due-by t M j))
+    go (by-marks p q) d = d p q refl j h
+    go by-spread d = number _ (within-sup (t .panels) _ (λ i k. lags i j k h))
+
+-- where 14 is not met
+lags-there : (t : Sheet) → some-lagless t ≡ false → Measured t by-spread
+lags-there t e j h s =
+    let c : (not (spare t j) && lagless t j) ≡ false = rw (each-at (t .triggers) j (λ j. j) 0 h) at
+    (none-at (λ j. not (spare t j) && lagless t j) 0 (each (t .triggers) (λ j. j ∷ [])) j e (rw (length-each (t .triggers) (λ j. j)) h)) in
+    reached (lagless t j) (not-both (not (spare t j)) (lagless t j) s c) refl
+  where
+    not-both : (a b : Bool) → T a → a && b ≡ false → b ≡ false
+    not-both true b p e = e
+    not-both false b p e = absurd p
+
+    reached : (b : Bool) → b ≡ false → lagless t j ≡ b → (i : ℕ) × (i < t .panels) × Present (t .lag i j)
+    reached true e f = absurd (true-not-false e)
+    reached false e f = some-of (t .panels) (λ i. t .lag i j) f
+
 -- ---- the sheet
-module _ (m n : ℕ) (few-m : m ≤ size-limit) (some-n : 1 ≤ n) (few-n : n ≤ size-limit) (s : List ℕ) {ts : List (List (List E))} {x : List ℕ}
-    (e : sections (tables m n) s ≡ got ts x) where
+module _ (two : Bool) (m n : ℕ) (some-m : 1 ≤ m) (few-m : m ≤ size-limit) (some-n : 1 ≤ n) (few-n : n ≤ size-limit) (s : List ℕ)
+    {ts : List (List (List E))} {x : List ℕ} (e : sections (tables two m n) s ≡ got ts x) where
   parts-good : (land last : Option Mat) {y z : List ℕ} → optional (land-kind m n) x ≡ got land y → optional (last-kind m) y ≡ got last z →
-      any (all absent?) (part ts lag-lines) ≡ false → any (all absent?) (part ts floor-line) ≡ false → Good (sheet-of m n ts land last)
-  parts-good land last {y} f g no-lag no-floor =
-      let lags = sections-of (tables m n) s e lag-lines refl in
-      let floors = sections-of (tables m n) s e floor-line refl in
-      let dues = sections-of (tables m n) s e due-line refl in
-      let afters = sections-of (tables m n) s e after-lines refl in
+      any (all absent?) (part ts lag-lines) ≡ false → any (all absent?) (part ts floor-line) ≡ false →
+      two && some-lagless (sheet-of two m n ts land last) ≡ false → Good (sheet-of two m n ts land last)
+  parts-good land last {y} f g no-lag no-floor no-lagless =
+      let t = sheet-of two m n ts land last in
+      let lags = sections-of (tables two m n) s e lag-lines refl in
+      let afters = sections-of (tables two m n) s e after-lines refl in
       record {
         panels-few = few-m;
         triggers-some = some-n;
         triggers-few = few-n;
-        few = let h = rank-few (used (sheet-of m n ts land last)) n in omega arith;
-        readable = cue-readable (sheet-of m n ts land last) (some-there floors 0 (omega arith) no-floor) (λ i h. some-there lags i h no-lag);
+        few = let h = rank-few (used t) n in omega arith;
+        readable = cue-readable t (some-floor two m n s e some-m no-floor) (λ i h. some-there lags i h no-lag);
         lags = table-within lags;
-        dues = dues-within dues;
+        measured = measured two no-lagless;
+        dues = dues-of two m n s e;
         afters = table-within afters;
         lands = land-within m n x land f;
         lasts = last-within m y last g;
-        limited = cue-limited (sheet-of m n ts land last) (table-within lags) (λ i q. table-within floors 0 i (omega arith) q) (dues-within dues)
+        limited = cue-limited t (table-within lags) (floors-within two m n s e) (due-within t (table-within lags) (dues-of two m n s e))
             (table-within afters) (land-within m n x land f);
       }
+    where
+      measured : (b : Bool) → b && some-lagless (sheet-of two m n ts land last) ≡ false → Measured (sheet-of two m n ts land last) (measure-of b ts)
+      measured true h = lags-there (sheet-of two m n ts land last) h
+      measured false h = tt
 
--- what is known once the end is reached: nothing is left, each panel has a lag, some panel a floor
-pub finished-got : (m n : ℕ) (ts : List (List (List E))) (l d : Option Mat) (y : List ℕ) {t : Sheet} {x : List ℕ} →
-    finished m n ts l d y ≡ got t x →
-    (y ≡ []) × (any (all absent?) (part ts lag-lines) ≡ false) × (any (all absent?) (part ts floor-line) ≡ false) × (sheet-of m n ts l d ≡ t)
-finished-got m n ts l d (b ∷ y) e = absurd (not-got e)
-finished-got m n ts l d [] {t} e =
-    let end = got (sheet-of m n ts l d) [] in
-    let (f, g) = passed (any (all absent?) (part ts lag-lines)) 6 (cond (any (all absent?) (part ts floor-line)) (refused 7) end) e in
-    let (h, k) = passed (any (all absent?) (part ts floor-line)) 7 end g in
-    let c : sheet-of m n ts l d ≡ t = cc in
-    (refl, f, h, c)
+-- what is known once the end is reached: nothing is left, each panel has a lag, some panel a floor, and under rule 2 each trigger that is not
+-- spare a lag
+pub record Ended (two : Bool) (m n : ℕ) (ts : List (List (List E))) (l d : Option Mat) (y : List ℕ) (t : Sheet) : Type 0 where
+  pub none-left : y ≡ []
+  pub lagged : any (all absent?) (part ts lag-lines) ≡ false
+  pub floored : any (all absent?) (part ts floor-line) ≡ false
+  pub measured : two && some-lagless (sheet-of two m n ts l d) ≡ false
+  pub is : sheet-of two m n ts l d ≡ t
+
+pub finished-got : (two : Bool) (m n : ℕ) (ts : List (List (List E))) (l d : Option Mat) (y : List ℕ) {t : Sheet} {x : List ℕ} →
+    finished two m n ts l d y ≡ got t x → Ended two m n ts l d y t
+finished-got two m n ts l d (b ∷ y) e = absurd (not-got e)
+finished-got two m n ts l d [] {t} e =
+    let last = cond (two && some-lagless (sheet-of two m n ts l d)) (refused 14) (got (sheet-of two m n ts l d) []) in
+    let (f, g) = passed (any (all absent?) (part ts lag-lines)) 6 (cond (any (all absent?) (part ts floor-line)) (refused 7) last) e in
+    let (h, i) = passed (any (all absent?) (part ts floor-line)) 7 last g in
+    let (j, k) = passed (two && some-lagless (sheet-of two m n ts l d)) 14 (got (sheet-of two m n ts l d) []) i in
+    record { none-left = refl; lagged = f; floored = h; measured = j; is = cc }
 
 pub size-good : {t : List (List E)} → RowsOf size 1 1 t → (1 ≤ count t) × (count t ≤ size-limit)
 unfolding val
@@ -130,11 +201,13 @@ pub read-good : (s : List ℕ) (t : Sheet) (x : List ℕ) → read s ≡ got t x
 unfolding read lines
 read-good s t x e =
     let f = passed (ltb 2048 (length s)) 1 (lines s) e .1 in
-    let (ps, y, a, g) = bind-got (sections sizes s) f in
-    let m = size-good (sections-of sizes s a panels-line refl) in
-    let n = size-good (sections-of sizes s a triggers-line refl) in
-    let (ts, z, b, h) = bind-got (sections (tables (count (part ps panels-line)) (count (part ps triggers-line))) y) g in
+    let (two, u, r, p) = bind-got (ruled s) f in
+    let (ps, y, a, g) = bind-got (sections sizes u) p in
+    let m = size-good (sections-of sizes u a panels-line refl) in
+    let n = size-good (sections-of sizes u a triggers-line refl) in
+    let (ts, z, b, h) = bind-got (sections (tables two (count (part ps panels-line)) (count (part ps triggers-line))) y) g in
     let (l, v, d, i) = bind-got (optional (land-kind (count (part ps panels-line)) (count (part ps triggers-line))) z) h in
     let (o, w, j, k) = bind-got (optional (last-kind (count (part ps panels-line))) v) i in
-    let (_, p, q, c) = finished-got (count (part ps panels-line)) (count (part ps triggers-line)) ts l o w k in
-    rw (← c) (parts-good (count (part ps panels-line)) (count (part ps triggers-line)) (m .1) (n .0) (n .1) y b l o d j p q)
+    let end = finished-got two (count (part ps panels-line)) (count (part ps triggers-line)) ts l o w k in
+    rw (← end .is) (parts-good two (count (part ps panels-line)) (count (part ps triggers-line)) (m .0) (m .1) (n .0) (n .1) y b l o d j
+    (end .lagged) (end .floored) (end .measured))

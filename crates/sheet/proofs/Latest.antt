@@ -58,13 +58,13 @@ module _ (t : Sheet) (good : Good t) (o : Orderly t) (G : Timing) where
     later : (Y : Timing) → Tightest t Y → NoLater (t .triggers) Y G → T (used t j) ⊎ T (not (used t j)) → Y j ≤z over t G best j
     later Y y k (inl u) = let (e, q) = in-use u Y in
         rw (filled-rank (used t) G best j u) (rw e at
-        (best-is .latest (at-used t Y) (tightest-cue t Y .0 y) (λ i p. k (trigger-at t i) (placed (used t) (t .triggers) i p .below))
+        (best-is .latest (at-used t Y) (tightest-cue t (good .measured) Y .0 y) (λ i p. k (trigger-at t i) (placed (used t) (t .triggers) i p .below))
         (rank (used t) j) q))
     later Y y k (inr u) = rw (filled-other (used t) G best j u) (k j h)
 
   latest-tightest : LatestOf (t .triggers) (Tightest t) G (over t G best)
   latest-tightest = record {
-    such = over-tightest t G best (best-is .such);
+    such = over-tightest t (good .measured) G best (best-is .such);
     no-later = λ j h. no-later j h (test (used t j));
     latest = λ Y y k j h. later j h Y y k (test (used t j));
   }
@@ -73,17 +73,17 @@ pub latest-one : {t : Sheet} {G X Y : Timing} → Latest t G X → Latest t G Y 
 latest-one h k = laws.latest-one h k
 
 -- only the first n components count
-tightest-same : (t : Sheet) → {X Y : Timing} → ((j : ℕ) → j < t .triggers → X j ≡ Y j) → Tightest t X → Tightest t Y
-tightest-same t {X} {Y} e h = tightest-cue t Y .1 (tightest-ext (cue-size t) (cue-of t)
-    (λ k q. e (trigger-at t k) (placed (used t) (t .triggers) k q .below)) (tightest-cue t X .0 h))
+tightest-same : (t : Sheet) → Good t → {X Y : Timing} → ((j : ℕ) → j < t .triggers → X j ≡ Y j) → Tightest t X → Tightest t Y
+tightest-same t good {X} {Y} e h = tightest-cue t (good .measured) Y .1 (tightest-ext (cue-size t) (cue-of t)
+    (λ k q. e (trigger-at t k) (placed (used t) (t .triggers) k q .below)) (tightest-cue t (good .measured) X .0 h))
 
 in-time-same : (t : Sheet) → {X Y : Timing} → ((j : ℕ) → j < t .triggers → X j ≡ Y j) → InTime t X → InTime t Y
 in-time-same t {X} {Y} e h = in-time-early t Y .1 (λ j q. rw (← e j q) (in-time-early t X .0 h j q))
 
-pub latest-same : (t : Sheet) → {G X Y : Timing} → ((j : ℕ) → j < t .triggers → X j ≡ Y j) →
+pub latest-same : (t : Sheet) → Good t → {G X Y : Timing} → ((j : ℕ) → j < t .triggers → X j ≡ Y j) →
     Latest t G X → Latest t G Y
-latest-same t {G} {X} {Y} e h = record {
-  such = record { tightest = tightest-same t e (h .such .tightest); in-time = in-time-same t e (h .such .in-time) };
+latest-same t good {G} {X} {Y} e h = record {
+  such = record { tightest = tightest-same t good e (h .such .tightest); in-time = in-time-same t e (h .such .in-time) };
   no-later = λ j q. rw (← e j q) (h .no-later j q);
   latest = λ Z u k j q. rw (← e j q) (h .latest Z u k j q);
 }
@@ -107,7 +107,7 @@ over-lowered t G Y j h = go (test (used t j))
 
 pub latest-formula : (t : Sheet) → Good t → Orderly t → (G : Timing) → Latest t G (latest-on t G)
 unfolding latest-on
-latest-formula t good o G = latest-same t (over-lowered t G _) (latest-in-time t (latest-tightest t good o (lowered t G)))
+latest-formula t good o G = latest-same t good (over-lowered t G _) (latest-in-time t (latest-tightest t good o (lowered t G)))
 
 module _ (s : List ℕ) (count : ℕ) (G : Timing) (t : Sheet) (r : List ℕ) (e : admitted s count G ≡ got t r) where
   abbrev admits : Admits s count G t r

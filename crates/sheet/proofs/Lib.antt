@@ -14,5 +14,6 @@ pub mod Demands
 pub mod Caps
 pub mod Decided
 pub mod Fits
+pub mod Spread
 pub mod Latest
 pub mod Longest

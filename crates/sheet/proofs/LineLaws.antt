@@ -1,5 +1,5 @@
 -- Laws of a sheet's lines: members of a list that pass a test, what was not refused, what was read in front of what is left, lists with one
--- more at the end, and entries that pass their line's rule.
+-- more at the end, and entries that their line allows.
 use mathlib.Core.Path.{_≡_, refl, ap, sym}
 use mathlib.Core.List.{List, [], _∷_, _++_, append-assoc}
 use mathlib.Core.Bool.{Bool, true, false, cond, _||_}
@@ -11,7 +11,7 @@ use lib.IntN.{pos, negsuc}
 use lib.ListN.{length, getD}
 use Rattle.maxplus.specs.Entry.{E, absent, num, val}
 use Rattle.sheet.specs.Good.{Passes}
-use Rattle.sheet.specs.Sheet.{Got, got, refused, _>>=_, Rule, size, entry, mark, out-of-range, no-size, absent?, any, checked}
+use Rattle.sheet.specs.Sheet.{Got, got, refused, _>>=_, Content, size, entry, mark, out-of-range, no-size, absent?, any, checked}
 use Rattle.cue.specs.Sizes.{size-limit}
 
 -- ---- members that pass a test
@@ -96,8 +96,8 @@ module _ {A : Type 0} where
   at-other (b ∷ l) a d zero h = refl
   at-other (b ∷ l) a d (suc j) h = at-other l a d j (λ x. h (ap suc x))
 
--- ---- entries that pass their line's rule
-pub checked-passes : (r : Rule) (es : List E) (s : List ℕ) {fs : List E} {x : List ℕ} → checked r es s ≡ got fs x →
+-- ---- entries that their line allows
+pub checked-passes : (r : Content) (es : List E) (s : List ℕ) {fs : List E} {x : List ℕ} → checked r es s ≡ got fs x →
     Passes r es × (got es s ≡ got fs x)
 unfolding checked
 checked-passes size es s e =

@@ -25,9 +25,9 @@ use Rattle.cue.specs.Results.{Within, Signed32, Fitting}
 use Rattle.cue.proofs.Bounds.{results-six, results-32}
 use Rattle.cue.proofs.Cone.{mark-cone}
 use Rattle.cue.proofs.Extreme.{lines-meet}
-use Rattle.sheet.specs.Sheet.{Sheet, limit}
+use Rattle.sheet.specs.Sheet.{Sheet, limit, spare}
 use Rattle.sheet.specs.Sizes.{order-limit, line-down}
-use Rattle.sheet.specs.Meaning.{Timing, spare, Weighed}
+use Rattle.sheet.specs.Meaning.{Timing, Weighed}
 use Rattle.sheet.specs.Cue.{used, cue-size, trigger-at, cue-of, Orderly, sheet-lines}
 use Rattle.sheet.specs.Good.{Good}
 use Rattle.sheet.proofs.WithinLaws.{within-absent}

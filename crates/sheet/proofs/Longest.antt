@@ -19,26 +19,26 @@ use Rattle.cue.specs.Sizes.{size-limit}
 use Rattle.sheet.specs.Text.{bytes}
 use Rattle.sheet.specs.Good.{Passes}
 use Rattle.sheet.specs.Sheet.{Got, got, refused, got?, _>>=_, literal, digit, leading, value, behind, signed, item, ending, ended, items, line, rows}
-use Rattle.sheet.specs.Sheet.{Rule, size, entry, mark, limit, out-of-range, absent?, no-size, any, checked, table, Section, kind, sizes, tables}
+use Rattle.sheet.specs.Sheet.{Content, size, entry, mark, limit, out-of-range, absent?, no-size, any, checked, table, Section, kind, sizes, tables}
 use Rattle.sheet.specs.Sheet.{panels-line, triggers-line, section, sections, optional, land-kind, last-kind, part, count, Sheet}
-use Rattle.sheet.specs.Sheet.{lines, read}
+use Rattle.sheet.specs.Sheet.{ruled, lines, read}
 use Rattle.sheet.proofs.LineLaws.{none-or, not-got, bind-got, passed, checked-passes, size-there}
 use Rattle.sheet.proofs.SectionLaws.{sections-of}
 use Rattle.sheet.proofs.Good.{size-good, finished-got}
 
 -- ---- how many bytes each part can have
 -- the digits behind an item's minus: none in a size, which has no minus; six in an entry or a mark, as in -100000
-abbrev pub places : Rule → ℕ
+abbrev pub places : Content → ℕ
 places size = 0
 places entry = 6
 places mark = 6
 
 -- an item (a minus and its digits, or one digit more and no minus) with the comma or LF behind it; a line; all lines of a kind, of several kinds
-abbrev pub item-most : Rule → ℕ
+abbrev pub item-most : Content → ℕ
 item-most r = places r + 2
 
 abbrev pub line-most : Section → ℕ
-line-most k = length (k .key) + k .items * item-most (k .rule)
+line-most k = length (k .key) + k .items * item-most (k .content)
 
 abbrev pub section-most : Section → ℕ
 section-most k = k .lines * line-most k
@@ -47,9 +47,9 @@ abbrev pub sections-most : List Section → ℕ
 sections-most [] = 0
 sections-most (k ∷ ks) = section-most k + sections-most ks
 
--- a sheet with six panels, six triggers, land lines and a last line
+-- a sheet with six panels, six triggers, land lines and a last line, with marks: under rule 2 more is left out than the line of the rule has
 abbrev pub longest : ℕ
-longest = sections-most sizes + sections-most (tables size-limit size-limit) + section-most (land-kind size-limit size-limit) +
+longest = sections-most sizes + sections-most (tables false size-limit size-limit) + section-most (land-kind size-limit size-limit) +
     section-most (last-kind size-limit)
 
 pub longest-is : longest ≡ 1133
@@ -156,14 +156,14 @@ ended-takes l k s =
     then-takes (literal-takes (ending k) y) (λ u x q.
     got-takes e x (λ h. omega (arith, p h, q tt, one-ending k))))
 
--- ---- entries that pass their line's rule have no more digits than it allows
+-- ---- entries that their line allows have no more digits than that
 range-narrow : (e : E) → out-of-range e ≡ false → Narrow (places entry) e
 range-narrow absent h = tt
 range-narrow (num z) h =
     let (a, b) = none-or (ltb limit (up z)) (ltb limit (dn z)) h in
     (omega (arith, ltb-false limit (up z) a), omega (arith, ltb-false limit (dn z) b))
 
-passes-narrow : (r : Rule) (e : E) (es : List E) → Passes r (e ∷ es) → Narrow (places r) e × Passes r es
+passes-narrow : (r : Content) (e : E) (es : List E) → Passes r (e ∷ es) → Narrow (places r) e × Passes r es
 unfolding any
 passes-narrow size e es (h, g) =
     let (a, b) = none-or (absent? e) (any absent? es) h in
@@ -176,7 +176,7 @@ passes-narrow mark e es (h, g) =
     (range-narrow e a, (b, none-or (absent? e) (any absent? es) g .1))
 
 -- ---- lines
-items-take : (r : Rule) (k : ℕ) (s : List ℕ) → Taken (Passes r) (k * item-most r) (length s) (items k s)
+items-take : (r : Content) (k : ℕ) (s : List ℕ) → Taken (Passes r) (k * item-most r) (length s) (items k s)
 unfolding items
 items-take r zero s = got-takes [] s (λ h. omega arith)
 items-take r (suc k) s =
@@ -184,19 +184,19 @@ items-take r (suc k) s =
     then-takes (items-take r k y) (λ es x q.
     got-takes (e ∷ es) x (λ h. let (a, b) = passes-narrow r e es h in omega (arith, p a, q b, suc-mul k (item-most r)))))
 
-checked-takes : (r : Rule) (es : List E) (x : List ℕ) {w n : ℕ} → (Passes r es → n ≤ length x + w) → Taken Any w n (checked r es x)
+checked-takes : (r : Content) (es : List E) (x : List ℕ) {w n : ℕ} → (Passes r es → n ≤ length x + w) → Taken Any w n (checked r es x)
 checked-takes r es x h =
     record { took = λ fs y e p. let (a, b) = checked-passes r es x e in let d : x ≡ y = cc in omega (arith, h a, ap length d) }
 
 module _ (k : Section) where
-  line-takes : (s : List ℕ) → Taken Any (line-most k) (length s) (line (k .key) (k .rule) (k .items) s)
+  line-takes : (s : List ℕ) → Taken Any (line-most k) (length s) (line (k .key) (k .content) (k .items) s)
   unfolding line
   line-takes s =
       then-takes (literal-takes (k .key) s) (λ u y p.
-      then-takes (items-take (k .rule) (k .items) y) (λ es x q.
-      checked-takes (k .rule) es x (λ h. omega (arith, p tt, q h))))
+      then-takes (items-take (k .content) (k .items) y) (λ es x q.
+      checked-takes (k .content) es x (λ h. omega (arith, p tt, q h))))
 
-  rows-take : (i : ℕ) (s : List ℕ) → Taken Any (i * line-most k) (length s) (rows (k .key) (k .rule) i (k .items) s)
+  rows-take : (i : ℕ) (s : List ℕ) → Taken Any (i * line-most k) (length s) (rows (k .key) (k .content) i (k .items) s)
   unfolding rows
   rows-take zero s = got-takes [] s (λ h. omega arith)
   rows-take (suc i) s =
@@ -223,38 +223,58 @@ sections-take (k ∷ ks) s =
 
 -- ---- the sheet
 -- fewer and shorter lines take no more
-kind-most : (key : String) (r : Rule) {i j m n : ℕ} → i ≤ m → j ≤ n → section-most (kind key r i j) ≤ section-most (kind key r m n)
+kind-most : (key : String) (r : Content) {i j m n : ℕ} → i ≤ m → j ≤ n → section-most (kind key r i j) ≤ section-most (kind key r m n)
 kind-most key r h g = mul-le-mul h (let q = mul-le-mul g (le-refl (item-most r)) in omega arith)
 
-tables-most : (m n : ℕ) → m ≤ size-limit → n ≤ size-limit → sections-most (tables m n) ≤ sections-most (tables size-limit size-limit)
-tables-most m n h g =
+-- the bytes of the line of a rule
+abbrev pub rule-most : Bool → ℕ
+rule-most two = cond two (length (bytes "rule=2\n")) 0
+
+ruled-takes : (s : List ℕ) {two : Bool} {x : List ℕ} → ruled s ≡ got two x → length s ≤ length x + rule-most two
+unfolding ruled
+ruled-takes s {two} {x} e = go (got? (literal (bytes "rule=") s)) e
+  where
+    go : (b : Bool) → cond b (literal (bytes "rule=2\n") s >>= λ _ s. got true s) (got false s) ≡ got two x → length s ≤ length x + rule-most two
+    go true e =
+        let (u, y, p, q) = bind-got (literal (bytes "rule=2\n") s) e in
+        let (c, d) : (true ≡ two) × (y ≡ x) = (cc, cc) in
+        rw (← c, ← d) (literal-takes (bytes "rule=2\n") s .took u y p tt)
+    go false e = let (c, d) : (false ≡ two) × (s ≡ x) = (cc, cc) in rw (← c, ← d) (omega arith)
+
+tables-most : (two : Bool) (m n : ℕ) → m ≤ size-limit → n ≤ size-limit →
+    rule-most two + sections-most (tables two m n) ≤ sections-most (tables false size-limit size-limit)
+unfolding bytes
+tables-most false m n h g =
     omega (arith, kind-most "lag=" entry h g, kind-most "floor=" entry (le-refl 1) h, kind-most "due=" mark (le-refl 1) g, kind-most "after=" entry g g)
+tables-most true m n h g = omega (arith, kind-most "lag=" entry h g, kind-most "after=" entry g g)
 
 -- no good sheet has more bytes
 pub longest-good : (s : List ℕ) (t : Sheet) (r : List ℕ) → read s ≡ got t r → length s ≤ longest
 unfolding read lines
 longest-good s t r e =
     let f = passed (ltb 2048 (length s)) 1 (lines s) e .1 in
-    let (ps, x, a, g) = bind-got (sections sizes s) f in
+    let (two, v, w, j) = bind-got (ruled s) f in
+    let (ps, x, a, g) = bind-got (sections sizes v) j in
     let m = count (part ps panels-line) in
     let n = count (part ps triggers-line) in
-    let few-m = size-good (sections-of sizes s a panels-line refl) .1 in
-    let few-n = size-good (sections-of sizes s a triggers-line refl) .1 in
-    let (ts, y, b, h) = bind-got (sections (tables m n) x) g in
+    let few-m = size-good (sections-of sizes v a panels-line refl) .1 in
+    let few-n = size-good (sections-of sizes v a triggers-line refl) .1 in
+    let (ts, y, b, h) = bind-got (sections (tables two m n) x) g in
     let (l, z, c, i) = bind-got (optional (land-kind m n) y) h in
     let (o, u, d, k) = bind-got (optional (last-kind m) z) i in
-    let first = sections-take sizes s .took ps x a tt in
-    let next = sections-take (tables m n) x .took ts y b tt in
+    let first = sections-take sizes v .took ps x a tt in
+    let next = sections-take (tables two m n) x .took ts y b tt in
     let lands = optional-takes (land-kind m n) y .took l z c tt in
     let lasts = optional-takes (last-kind m) z .took o u d tt in
     omega (
       arith,
+      ruled-takes s w,
       first,
       next,
-      tables-most m n few-m few-n,
+      tables-most two m n few-m few-n,
       lands,
       kind-most "land=" entry few-n few-m,
       lasts,
       kind-most "last=" mark (le-refl 1) few-m,
-      ap length (finished-got m n ts l o u k .0),
+      ap length (finished-got two m n ts l o u k .none-left),
     )

@@ -19,10 +19,10 @@ use Rattle.maxplus.proofs.FiniteLaws.{all-dec}
 use Rattle.maxplus.proofs.SupLaws.{sup-ub, sup-lub, sup-ext, sup-comm, sup-⊗r}
 use Rattle.cue.specs.Cue.{timing, overdue}
 use Rattle.cue.specs.Results.{Within}
-use Rattle.sheet.specs.Sheet.{Sheet}
+use Rattle.sheet.specs.Sheet.{Sheet, spare}
 use Rattle.sheet.specs.Sizes.{cap-down}
 use Rattle.sheet.specs.Times.{far-limit}
-use Rattle.sheet.specs.Meaning.{Timing, landing, spare, InTime}
+use Rattle.sheet.specs.Meaning.{Timing, landing, InTime}
 use Rattle.sheet.specs.Overruns.{overrun, overruns-by, overruns, lower, lowered}
 use Rattle.sheet.specs.Good.{Good}
 use Rattle.sheet.proofs.WithinLaws.{within-absent, within-more, within-⊗, within-inv, within-sup}

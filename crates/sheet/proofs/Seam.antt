@@ -7,13 +7,14 @@ use mathlib.Core.Option.{Option, none, some}
 use Prim.Native.Nat.{ℕ, _<_}
 use native.Mathlib.Omega.{arith}
 use lib.Dec.{T}
-use lib.IntN.{pos}
+use lib.IntN.{ℤ, pos}
 use Rattle.maxplus.specs.Whole.{neg}
 use Rattle.maxplus.specs.Entry.{E, absent, num, _≼_, _⊗_, _⊕_, inv}
 use Rattle.maxplus.specs.Tables.{sup, Vec, Mat, mv, mm}
 use Rattle.maxplus.specs.Packing.{rank, filled}
-use Rattle.maxplus.proofs.EntryLaws.{_▸_, ≼-refl, ≼-anti, ≼-absent, ≼-of, ≼-back, ⊕-l, ⊕-r, ⊕-lub, ⊗-left, ⊗-comm, ⊗-nothing, distrib}
-use Rattle.maxplus.proofs.SupLaws.{sup-lub, sup-ext}
+use Rattle.maxplus.proofs.WholeLaws.{neg-neg}
+use Rattle.maxplus.proofs.EntryLaws.{_▸_, ≼-refl, ≼-anti, ≼-absent, ≼-of, ≼-back, ⊕-l, ⊕-r, ⊕-lub, ⊗-left, ⊗-comm, ⊗-nothing, ⊗-unit, distrib, val-of, inv-inv}
+use Rattle.maxplus.proofs.SupLaws.{sup-ub, sup-lub, sup-ext, sup-⊗r, sup-comm}
 use Rattle.maxplus.proofs.TableLaws.{mv-mm, mv-at, mv-ext}
 use Rattle.maxplus.proofs.FiniteLaws.{test, cond-yes, cond-no}
 use Rattle.maxplus.proofs.PackingLaws.{rank-more, placed, place-rank, sup-places, filled-place}
@@ -21,10 +22,12 @@ use Rattle.cue.specs.Cue.{timing}
 use Rattle.cue.specs.Cue as cue
 use Rattle.cue.specs.Vectors as vectors
 use Rattle.cue.specs.Results.{Within, Limited}
-use Rattle.sheet.specs.Sheet.{Sheet, limit, given, given-table}
+use Rattle.sheet.specs.Sheet.{Sheet, Measure, by-marks, by-spread, limit, given, given-table, spare}
 use Rattle.sheet.specs.Sizes.{order-limit}
-use Rattle.sheet.specs.Meaning.{Timing, landing, spare, Keeps, overdue, shortfall, deviation, Tightest}
-use Rattle.sheet.specs.Cue.{used, cue-size, trigger-at, order-table, cue-of}
+use Rattle.sheet.specs.Meaning.{Timing, landing, Keeps, overdue, shortfall, latest-landing, earliest-landing, spread, deviation-by, deviation}
+use Rattle.sheet.specs.Meaning.{Tightest}
+use Rattle.sheet.specs.Cue.{used, cue-size, trigger-at, order-table, floor-by, due-by, cue-of}
+use Rattle.sheet.specs.Good.{Measured}
 use Rattle.sheet.proofs.LineLaws.{true-not-false}
 use Rattle.sheet.proofs.WithinLaws.{within-more, within-⊗, within-⊕, within-sup}
 use Rattle.sheet.proofs.Spares.{spare-idle, used-not-spare, unused-idle, order-row, order-column}
@@ -96,7 +99,8 @@ module _ (t : Sheet) where
       (within-sup (t .panels) _ (λ p hp. within-more (omega arith) (within-⊗ (lands i p h hp) (lags p j hp q))))
 
   pub cue-limited : ((i j : ℕ) → i < t .panels → j < t .triggers → Within limit limit (t .lag i j)) →
-      ((i : ℕ) → i < t .panels → Within limit limit (t .floor i)) → ((j : ℕ) → j < t .triggers → Within limit limit (num (t .due j))) →
+      ((i : ℕ) → i < t .panels → Within limit limit (floor-by (t .measure) i)) →
+      ((j : ℕ) → j < t .triggers → Within limit limit (num (due-by t (t .measure) j))) →
       ((i j : ℕ) → i < t .triggers → j < t .triggers → Within limit limit (t .after i j)) →
       ((i j : ℕ) → i < t .triggers → j < t .panels → Within limit limit (land i j)) →
       Limited (cue-size t) limit order-limit (cue-of t)
@@ -138,28 +142,67 @@ module _ (t : Sheet) where
   keeps-cue X = (λ k. keeps-used (timing X) .0 (keeps-order X .0 k), λ k. keeps-order X .1 (keeps-used (timing X) .1 k))
 
   -- a spare trigger reaches no panel
-  landing-cue : (X : Timing) (i : ℕ) → i < t .panels → landing t X i ≡ vectors.landing (cue-size t) (cue-of t) (timing (at-used X)) i
+  pub landing-cue : (X : Timing) (i : ℕ) → i < t .panels → landing t X i ≡ vectors.landing (cue-size t) (cue-of t) (timing (at-used X)) i
   unfolding landing mv
   landing-cue X i hi = sup-places (used t) (t .triggers) (λ j. t .lag i j ⊗ num (X j))
       (λ j hj u. ap (λ e. e ⊗ num (X j)) (unused-idle t j hj u .no-lag i hi) ∙ ⊗-nothing _)
 
   -- a spare trigger's due mark is not looked at
-  overdue-cue : (X : Timing) → overdue t X ≡ cue.overdue (cue-size t) (timing (cue-of t .due)) (timing (at-used X))
+  overdue-cue : (q : ℕ → ℤ) (X : Timing) → overdue t q X ≡ cue.overdue (cue-size t) (timing (at-used q)) (timing (at-used X))
   unfolding overdue cue.overdue inv
-  overdue-cue X = sup-places (used t) (t .triggers) part (λ j hj u. cond-yes (spare t j) absent _ (spare-idle t j .1 (unused-idle t j hj u))) ∙
+  overdue-cue q X = sup-places (used t) (t .triggers) part (λ j hj u. cond-yes (spare t j) absent _ (spare-idle t j .1 (unused-idle t j hj u))) ∙
       sup-ext (cue-size t) (λ k hk. cond-no (spare t (trigger-at t k)) absent _
       (used-not-spare t (trigger-at t k) .0 (placed (used t) (t .triggers) k hk .passes) .1))
     where
       part : ℕ → E
-      part j = cond (spare t j) absent (num (X j) ⊗ num (neg (t .due j)))
+      part j = cond (spare t j) absent (num (X j) ⊗ num (neg (q j)))
 
-  shortfall-cue : (X : Timing) → shortfall t X ≡ cue.shortfall (t .panels) (cue-size t) (cue-of t .lag) (t .floor) (timing (at-used X))
+  shortfall-cue : (p : Vec) (X : Timing) → shortfall t p X ≡ cue.shortfall (t .panels) (cue-size t) (cue-of t .lag) p (timing (at-used X))
   unfolding shortfall cue.shortfall
-  shortfall-cue X = sup-ext (t .panels) (λ i hi. ap (λ e. t .floor i ⊗ inv e) (landing-cue X i hi))
+  shortfall-cue p X = sup-ext (t .panels) (λ i hi. ap (λ e. p i ⊗ inv e) (landing-cue X i hi))
 
-  pub deviation-cue : (X : Timing) → deviation t X ≡ vectors.deviation (cue-size t) (cue-of t) (timing (at-used X))
+  -- ---- document 02, No. 7: the marks of rule 2 measure the spread
+  module _ (reached : Measured t by-spread) (X : Timing) where
+    abbrev farthest : ℕ → E
+    farthest k = sup (t .panels) (λ i. t .lag i (trigger-at t k))
+
+    -- each trigger in use has a lag (14), so that minus its due mark is its largest lag
+    farthest-due : (k : ℕ) → k < cue-size t → inv (num (due-by t by-spread (trigger-at t k))) ≡ farthest k
+    unfolding inv
+    farthest-due k hk =
+        let p = placed (used t) (t .triggers) k hk in
+        let (i, hi, (z, e)) = reached (trigger-at t k) (p .below) (used-not-spare t (trigger-at t k) .0 (p .passes) .1) in
+        ap num (neg-neg _) ∙ sym (val-of (farthest k) (≼-back e ▸ sup-ub (t .panels) (λ i. t .lag i (trigger-at t k)) i hi))
+
+    -- x(j) and the largest lag of j are the latest landing that j makes, so that the largest of these is the latest of all
+    latest-cue : latest-landing t X ≡ cue.overdue (cue-size t) (timing (at-used (due-by t by-spread))) (timing (at-used X))
+    unfolding latest-landing cue.overdue mv
+    latest-cue = sup-ext (t .panels) (λ i hi. landing-cue X i hi) ∙
+        sup-comm (t .panels) (cue-size t) (λ i k. t .lag i (trigger-at t k) ⊗ num (X (trigger-at t k))) ∙
+        sup-ext (cue-size t) (λ k hk. sym (sup-⊗r (t .panels) (num (X (trigger-at t k))) (λ i. t .lag i (trigger-at t k))) ∙ ⊗-comm (farthest k) _ ∙
+        ap (λ e. num (X (trigger-at t k)) ⊗ e) (sym (farthest-due k hk)))
+
+    -- with floors of 0 the largest p(i) − y(i) is minus the earliest landing
+    earliest-cue : inv (earliest-landing t X) ≡
+        cue.shortfall (t .panels) (cue-size t) (cue-of t .lag) (floor-by by-spread) (timing (at-used X))
+    unfolding earliest-landing cue.shortfall
+    earliest-cue = inv-inv _ ∙ sup-ext (t .panels) (λ i hi. ap inv (landing-cue X i hi) ∙ sym (⊗-unit _))
+
+    -- the marks of rule 2 as those of a sheet: "every floor counts as 0 and due j as minus the largest lag of trigger j"
+    pub spread-marks : spread t X ≡ overdue t (due-by t by-spread) X ⊗ shortfall t (floor-by by-spread) X
+    unfolding spread
+    spread-marks = ap₂ _⊗_ (latest-cue ∙ sym (overdue-cue (due-by t by-spread) X)) (earliest-cue ∙ sym (shortfall-cue (floor-by by-spread) X))
+
+  -- ---- either source of marks
+  pub deviation-cue : Measured t (t .measure) → (X : Timing) → deviation t X ≡ vectors.deviation (cue-size t) (cue-of t) (timing (at-used X))
   unfolding deviation vectors.deviation
-  deviation-cue X = ap₂ _⊗_ (overdue-cue X) (shortfall-cue X)
+  deviation-cue m X = go (t .measure) m
+    where
+      go : (M : Measure) → Measured t M → deviation-by t M X ≡
+          cue.overdue (cue-size t) (timing (at-used (due-by t M))) (timing (at-used X)) ⊗
+          cue.shortfall (t .panels) (cue-size t) (cue-of t .lag) (floor-by M) (timing (at-used X))
+      go (by-marks p q) m = ap₂ _⊗_ (overdue-cue q X) (shortfall-cue p X)
+      go by-spread m = unfold spread in ap₂ _⊗_ (latest-cue m X) (earliest-cue m X)
 
   -- ---- times of the cue's triggers as a timing of the sheet, G at the spare ones
   abbrev pub over : (G Y : Timing) → Timing
@@ -175,21 +218,21 @@ module _ (t : Sheet) where
     pub over-keeps : vectors.Keeps (cue-size t) (cue-of t .order) (timing Y) → Keeps t (over G Y)
     over-keeps h = keeps-cue (over G Y) .1 (keeps-ext (cue-size t) (cue-of t) over-same h)
 
-    pub over-deviation : deviation t (over G Y) ≡ vectors.deviation (cue-size t) (cue-of t) (timing Y)
-    over-deviation = deviation-cue (over G Y) ∙ sym (deviation-ext (cue-size t) (cue-of t) over-same)
+    pub over-deviation : Measured t (t .measure) → deviation t (over G Y) ≡ vectors.deviation (cue-size t) (cue-of t) (timing Y)
+    over-deviation m = deviation-cue m (over G Y) ∙ sym (deviation-ext (cue-size t) (cue-of t) over-same)
 
-  pub tightest-cue : (X : Timing) → Tightest t X ↔ vectors.Tightest (cue-size t) (cue-of t) (at-used X)
-  tightest-cue X = (
+  pub tightest-cue : Measured t (t .measure) → (X : Timing) → Tightest t X ↔ vectors.Tightest (cue-size t) (cue-of t) (at-used X)
+  tightest-cue m X = (
     λ h. record {
       keeps = keeps-cue X .0 (h .keeps);
-      least = λ Y k. ≼-back (deviation-cue X) ▸ h .least (over anyhow Y) (over-keeps anyhow Y k) ▸ ≼-of (over-deviation anyhow Y);
+      least = λ Y k. ≼-back (deviation-cue m X) ▸ h .least (over anyhow Y) (over-keeps anyhow Y k) ▸ ≼-of (over-deviation anyhow Y m);
     },
     λ h. record {
       keeps = keeps-cue X .1 (h .keeps);
-      least = λ Y k. ≼-of (deviation-cue X) ▸ h .least (at-used Y) (keeps-cue Y .0 k) ▸ ≼-back (deviation-cue Y);
+      least = λ Y k. ≼-of (deviation-cue m X) ▸ h .least (at-used Y) (keeps-cue Y .0 k) ▸ ≼-back (deviation-cue m Y);
     },
   )
 
   -- times that are tightest on the cue are tightest on the sheet, whatever stands at the spare triggers
-  pub over-tightest : (G Y : Timing) → vectors.Tightest (cue-size t) (cue-of t) Y → Tightest t (over G Y)
-  over-tightest G Y h = tightest-cue (over G Y) .1 (tightest-ext (cue-size t) (cue-of t) (λ k q. sym (over-at G Y k q)) h)
+  pub over-tightest : Measured t (t .measure) → (G Y : Timing) → vectors.Tightest (cue-size t) (cue-of t) Y → Tightest t (over G Y)
+  over-tightest m G Y h = tightest-cue m (over G Y) .1 (tightest-ext (cue-size t) (cue-of t) (λ k q. sym (over-at G Y k q)) h)

@@ -6,18 +6,18 @@ use Prim.Native.Nat.{ℕ, _^_, _<_}
 use native.Mathlib.Omega.{arith}
 use lib.Dec.{T, ltb, ltb→lt, lt→ltb, T-not, not-T}
 use lib.IntN.{ℤ}
-use Rattle.maxplus.specs.Entry.{E, absent, num, _≼_, _⊗_, Present, present?}
+use Rattle.maxplus.specs.Entry.{E, absent, num, _≼_, _⊗_, Present, present?, val}
 use Rattle.maxplus.specs.Finite.{countIf, byte-of}
 use Rattle.maxplus.specs.Tables.{sup, Vec, mm}
-use Rattle.maxplus.proofs.EntryLaws.{_▸_, ≼-anti, ≼-absent, ≼-of, ⊕-l, ⊕-r, ⊕-lub, ⊗-absent, ⊗-nothing, absent-not}
-use Rattle.maxplus.proofs.SupLaws.{sup-ub, sup-lub}
+use Rattle.maxplus.proofs.EntryLaws.{_▸_, ≼-anti, ≼-absent, ≼-of, ≼-back, ⊕-l, ⊕-r, ⊕-lub, ⊗-absent, ⊗-nothing, absent-not, val-of}
+use Rattle.maxplus.proofs.SupLaws.{sup-ub, sup-lub, sup-at}
 use Rattle.maxplus.specs.Packing.{rank}
 use Rattle.maxplus.proofs.FiniteLaws.{test, both, sum-ext}
 use Rattle.maxplus.proofs.PackingLaws.{rank-more, place-rank}
 use Rattle.cue.specs.Vectors.{Readable}
-use Rattle.sheet.specs.Sheet.{Sheet, given-table}
-use Rattle.sheet.specs.Meaning.{none-present, spare}
-use Rattle.sheet.specs.Cue.{order-table, used, cue-size, trigger-at, cue-of}
+use Rattle.sheet.specs.Sheet.{Sheet, given-table, none-present, spare}
+use Rattle.sheet.proofs.LineLaws.{true-not-false}
+use Rattle.sheet.specs.Cue.{floor-by, order-table, used, cue-size, trigger-at, cue-of}
 
 absent-yes : (a : E) → T (not (present? a)) → a ≡ absent
 absent-yes absent h = refl
@@ -39,6 +39,14 @@ none-absent n f = (
   λ h j hj. ≼-anti (sup-ub n f j hj ▸ ≼-of (absent-yes (sup n f) h)) (≼-absent _),
   λ h. absent-of (sup n f) (sup-lub n f (λ j hj. ≼-of (h j hj))),
 )
+
+-- one is present where not none is
+pub some-of : (n : ℕ) (f : Vec) → none-present n f ≡ false → (i : ℕ) × (i < n) × Present (f i)
+some-of n f e = go (sup n f) refl e
+  where
+    go : (a : E) → sup n f ≡ a → not (present? a) ≡ false → (i : ℕ) × (i < n) × Present (f i)
+    go absent q h = absurd (true-not-false h)
+    go (num z) q h = let (i, k, p) = sup-at n f (≼-back q) in (i, k, (val (f i), val-of (f i) p))
 
 module _ (t : Sheet) where
   open Sheet t using (panels, triggers, lag, after, land)
@@ -139,7 +147,7 @@ module _ (t : Sheet) where
       (sup-lub panels _ (λ p hp. ≼-of (ap (λ e. given-table land i p ⊗ e) (h .no-lag p hp) ∙ ⊗-absent _)))) (≼-absent _)
 
   -- ---- a panel has a lag, so the trigger that reaches it is in use
-  pub cue-readable : ((i : ℕ) × (i < panels) × Present (t .floor i)) → ((i : ℕ) → i < panels → (j : ℕ) × (j < triggers) × Present (lag i j)) →
+  pub cue-readable : ((i : ℕ) × (i < panels) × Present (floor-by (t .measure) i)) → ((i : ℕ) → i < panels → (j : ℕ) × (j < triggers) × Present (lag i j)) →
       Readable (cue-size t) (cue-of t)
   cue-readable floored lagged = record { trigger = let (k, q, p) = reached (floored .0) (floored .1) in omega arith; floored = floored; lagged = reached }
     where

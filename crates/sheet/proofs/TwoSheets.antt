@@ -24,8 +24,8 @@ use Rattle.cue.specs.Results.{Fitting}
 use Rattle.cue.specs.Written.{list-words}
 use Rattle.cue.proofs.WrittenLaws.{list-words-one}
 use Rattle.cue.proofs.Demands as theory
-use Rattle.sheet.specs.Sheet.{Sheet}
-use Rattle.sheet.specs.Meaning.{Timing, spare, SameSpares, SameTimings}
+use Rattle.sheet.specs.Sheet.{Sheet, spare}
+use Rattle.sheet.specs.Meaning.{Timing, Tightest, SameSpares, SameTimings}
 use Rattle.sheet.specs.Cue.{used, cue-size, only, whole-cue, cue-of, Orderly, sheet-lines}
 use Rattle.sheet.specs.Good.{Good}
 use Rattle.sheet.proofs.Seam.{at-used, tightest-ext, tightest-cue}
@@ -95,9 +95,15 @@ module _ (t u : Sheet) (G : Good t) (H : Good u) (o : Orderly t) (p : Orderly u)
 
   pub lists-timings : SameSpares t u → SameLists t u ↔ SameTimings t u
   lists-timings same = let both = lists-agree same in (
-    λ e X. let b = both .0 e X in (λ h. tightest-cue u X .1 (b .0 (tightest-cue t X .0 h)), λ h. tightest-cue t X .1 (b .1 (tightest-cue u X .0 h))),
-    λ f. both .1 (λ X. let b = f X in (λ h. tightest-cue u X .0 (b .0 (tightest-cue t X .1 h)), λ h. tightest-cue t X .0 (b .1 (tightest-cue u X .1 h)))),
+    λ e X. let b = both .0 e X in (λ h. second X .1 (b .0 (first X .0 h)), λ h. first X .1 (b .1 (second X .0 h))),
+    λ f. both .1 (λ X. let b = f X in (λ h. second X .0 (b .0 (first X .1 h)), λ h. first X .0 (b .1 (second X .1 h)))),
   )
+    where
+      first : (X : Timing) → Tightest t X ↔ cue.Tightest (cue-size t) (cue-of t) (at-used t X)
+      first = tightest-cue t (G .measured)
+
+      second : (X : Timing) → Tightest u X ↔ cue.Tightest (cue-size u) (cue-of u) (at-used u X)
+      second = tightest-cue u (H .measured)
 
   -- ---- equal lists show the same triggers
   shows-same : SameLists t u → (j : ℕ) → Shown (t .triggers) (sheet-lines t) j ↔ Shown (u .triggers) (sheet-lines u) j

@@ -4,20 +4,20 @@ use mathlib.Core.List.{List}
 use mathlib.Core.Option.{Option, none, some}
 use Prim.Native.Nat.{ℕ}
 use lib.Dec.{ltb}
-use lib.IntN.{ℤ}
+use lib.IntN.{ℤ, pos}
 use lib.ListN.{length}
 use Rattle.maxplus.specs.Finite.{sum, countIf, byte-of, mapL}
 use Rattle.maxplus.specs.Line.{Line}
 use Rattle.maxplus.specs.Packing.{rank, place, filled, layout}
 use Rattle.maxplus.specs.Whole.{neg}
 use Rattle.maxplus.specs.Entry.{num, _⊗_, _⊕_, val}
-use Rattle.maxplus.specs.Tables.{sup, Mat, mm, NoGain}
+use Rattle.maxplus.specs.Tables.{sup, Vec, Mat, mm, NoGain}
 use Rattle.maxplus.proofs.StarLaws.{no-gain?}
 use Rattle.cue.specs.Cue.{Cue}
 use Rattle.cue.specs.Method.{least, floor-panels, kept, steps, selections, lines}
 use Rattle.cue.specs.Sizes.{geometric}
-use Rattle.sheet.specs.Sheet.{Sheet, given-table}
-use Rattle.sheet.specs.Meaning.{spare, line-landing}
+use Rattle.sheet.specs.Sheet.{Sheet, Measure, by-marks, by-spread, given-table, spare}
+use Rattle.sheet.specs.Meaning.{line-landing}
 
 -- "Plans are worked out over the others" (document 02, No. 4): the triggers of the sheet that are not spare, in sheet order
 unfoldable pub used : Sheet → ℕ → Bool
@@ -34,9 +34,19 @@ trigger-at t k = place (used t) (t .triggers) k
 unfoldable pub order-table : Sheet → Mat
 order-table t i j = t .after i j ⊕ mm (t .panels) (given-table (t .land)) (t .lag) i j
 
+-- the marks that the method goes by: the sheet's, or those of rule 2, "every floor counts as 0 and due j as minus the largest lag of trigger j"
+-- (document 02, No. 7)
+abbrev pub floor-by : Measure → Vec
+floor-by (by-marks p q) = p
+floor-by by-spread = λ i. num (pos 0)
+
+abbrev pub due-by : Sheet → Measure → ℕ → ℤ
+due-by t (by-marks p q) = q
+due-by t by-spread = λ j. neg (val (sup (t .panels) (λ i. t .lag i j)))
+
 -- the tables of all triggers, spare ones too
 abbrev pub whole-cue : Sheet → Cue
-whole-cue t = record { panels = t .panels; lag = t .lag; floor = t .floor; due = t .due; order = order-table t }
+whole-cue t = record { panels = t .panels; lag = t .lag; floor = floor-by (t .measure); due = due-by t (t .measure); order = order-table t }
 
 -- those of the triggers at ι 0, ι 1 and so on alone
 abbrev pub only : (ℕ → ℕ) → Cue → Cue

@@ -5,6 +5,7 @@ pub mod Sizes
 pub mod Meaning
 pub mod Asked
 pub mod Cue
+pub mod Spread
 pub mod Overruns
 pub mod Good
 pub mod Ordered

@@ -1,30 +1,26 @@
 -- What a sheet means (document 01, "One cue in one house", and document 02). Nothing here knows of star, selections or lines.
 use mathlib.Core.Logic.{_↔_}
 use mathlib.Core.Path.{_≡_}
-use mathlib.Core.Bool.{Bool, cond, not, _&&_}
+use mathlib.Core.Bool.{cond, not}
 use mathlib.Core.List.{List}
 use mathlib.Core.Option.{some}
 use Prim.Native.Nat.{ℕ, _<_}
 use lib.Dec.{T}
 use lib.IntN.{ℤ}
 use Rattle.maxplus.specs.Whole.{_≤z_, neg}
-use Rattle.maxplus.specs.Entry.{E, absent, num, _≼_, _⊗_, inv, present?}
+use Rattle.maxplus.specs.Entry.{E, absent, num, _≼_, _⊗_, inv}
 use Rattle.maxplus.specs.Finite.{In}
 use Rattle.maxplus.specs.Tables.{sup, supL, Vec, mv}
 use Rattle.maxplus.specs.Line.{Line, at}
 use Rattle.maxplus.specs.Latest.{LatestOf}
-use Rattle.sheet.specs.Sheet.{Sheet, given-table}
+use Rattle.sheet.specs.Sheet.{Sheet, Measure, by-marks, by-spread, given-table, spare}
 
 -- "A timing is n whole numbers x, milliseconds, of any size": X 0 … X (n − 1), whatever stands past them
 abbrev pub Timing : Type 0
 Timing = ℕ → ℤ
 
--- none of f 0 … f (n − 1) is present: the largest of them is absent
-abbrev pub none-present : ℕ → Vec → Bool
-none-present n f = not (present? (sup n f))
-
 module _ (S : Sheet) where
-  open Sheet S using (panels, triggers, lag, floor, due, after, land, last)
+  open Sheet S using (panels, triggers, lag, measure, after, land, last)
 
   -- "Landing y(i) is the largest a(i,j) + x(j)."
   unfoldable pub landing : Timing → Vec
@@ -36,24 +32,31 @@ module _ (S : Sheet) where
     pub after-rules : (i j : ℕ) → i < triggers → j < triggers → after i j ⊗ num (X j) ≼ num (X i)
     pub land-rules : (i j : ℕ) → i < triggers → j < panels → given-table land i j ⊗ landing X j ≼ num (X i)
 
-  -- "A trigger is now spare if it has no lag to any panel, no present after entry in its row or column, and no present land entry in its row"
-  -- (document 02, No. 4)
-  unfoldable pub spare : ℕ → Bool
-  spare j =
-      none-present panels (λ i. lag i j) && none-present triggers (λ k. after j k) && none-present triggers (λ k. after k j) &&
-      none-present panels (λ i. given-table land j i)
-
-  -- "The largest x(j) − q(j) is taken over triggers that are not spare": an absent one adds nothing to a largest
-  unfoldable pub overdue : Timing → E
-  overdue X = sup triggers (λ j. cond (spare j) absent (num (X j) ⊗ num (neg (due j))))
+  -- "The largest x(j) − q(j) is taken over triggers that are not spare" (document 02, No. 4): an absent one adds nothing to a largest
+  unfoldable pub overdue : (q : ℕ → ℤ) → Timing → E
+  overdue q X = sup triggers (λ j. cond (spare S j) absent (num (X j) ⊗ num (neg (q j))))
 
   -- "the largest p(i) − y(i) over panels with a floor": an absent floor adds nothing to a largest
-  unfoldable pub shortfall : Timing → E
-  shortfall X = sup panels (λ i. floor i ⊗ inv (landing X i))
+  unfoldable pub shortfall : (p : Vec) → Timing → E
+  shortfall p X = sup panels (λ i. p i ⊗ inv (landing X i))
 
-  -- "Deviation is the largest x(j) − q(j) plus the largest p(i) − y(i) over panels with a floor."
+  -- "the spread of landings, latest less earliest" (document 02, No. 7); the earliest is the least: minus the largest of minus a landing
+  unfoldable pub latest-landing : Timing → E
+  latest-landing X = sup panels (λ i. landing X i)
+
+  unfoldable pub earliest-landing : Timing → E
+  earliest-landing X = inv (sup panels (λ i. inv (landing X i)))
+
+  unfoldable pub spread : Timing → E
+  spread X = latest-landing X ⊗ inv (earliest-landing X)
+
+  -- "Deviation is the largest x(j) − q(j) plus the largest p(i) − y(i) over panels with a floor"; "Houses now measure a cue by the spread"
+  abbrev pub deviation-by : Measure → Timing → E
+  deviation-by (by-marks p q) X = overdue q X ⊗ shortfall p X
+  deviation-by by-spread X = spread X
+
   unfoldable pub deviation : Timing → E
-  deviation X = overdue X ⊗ shortfall X
+  deviation X = deviation-by measure X
 
   -- "It is tightest when it keeps the order and no timing that does has a smaller deviation."
   pub record Tightest (X : Timing) : Type 0 where
@@ -78,7 +81,7 @@ module _ (S : Sheet) where
   -- for each line; "Every statement on combinations … is about the components that are not spare"
   pub record Weighed (L : List (Line triggers)) (X : Timing) : Type 0 where
     pub weight : Line triggers → ℤ
-    pub is : (j : ℕ) → j < triggers → T (not (spare j)) → num (X j) ≡ supL L (λ c. num (weight c) ⊗ at triggers c j)
+    pub is : (j : ℕ) → j < triggers → T (not (spare S j)) → num (X j) ≡ supL L (λ c. num (weight c) ⊗ at triggers c j)
 
   -- the landings of a line: absent at a panel that it does not reach
   unfoldable pub line-landing : Line triggers → Vec

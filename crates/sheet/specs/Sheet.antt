@@ -9,7 +9,8 @@ use lib.ListN.{length, getD}
 use lib.IntN.{ℤ, pos}
 use Rattle.maxplus.specs.Whole.{up, dn, neg}
 use Rattle.maxplus.specs.Entry.{E, absent, num, val, present?}
-use Rattle.maxplus.specs.Tables.{Vec, Mat}
+use Rattle.maxplus.specs.Finite.{each}
+use Rattle.maxplus.specs.Tables.{sup, Vec, Mat}
 use Rattle.sheet.specs.Text.{bytes}
 
 -- What a part of the sheet gives: a value and the bytes behind it, or a refusal's number.
@@ -76,10 +77,10 @@ items zero s = got [] s
 items (suc k) s = ended k s >>= λ e s. items k s >>= λ es s. got (e ∷ es) s
 
 -- what a line's entries may be: a size, an entry of a table or of the floor line, a due mark
-pub data Rule : Type 0 where
-  size : Rule
-  entry : Rule
-  mark : Rule
+pub data Content : Type 0 where
+  size : Content
+  entry : Content
+  mark : Content
 
 -- "decimal whole numbers from −100,000 to 100,000"
 abbrev pub limit : ℕ
@@ -107,16 +108,16 @@ module _ {A : Type 0} where
   all f l = not (any (λ a. not (f a)) l)
 
 -- "in one line 2 before 3 before 4 before 5. 2: … an absent size. 3: a size not 1 to 6. 4: an entry out of range. 5: an absent due mark."
-unfoldable pub checked : Rule → List E → List ℕ → Got (List E)
+unfoldable pub checked : Content → List E → List ℕ → Got (List E)
 checked size es s = cond (any absent? es) (refused 2) (cond (any no-size es) (refused 3) (got es s))
 checked entry es s = cond (any out-of-range es) (refused 4) (got es s)
 checked mark es s = cond (any out-of-range es) (refused 4) (cond (any absent? es) (refused 5) (got es s))
 
 -- a line of k items, and several lines with one key, in rows
-unfoldable pub line : List ℕ → Rule → ℕ → List ℕ → Got (List E)
+unfoldable pub line : List ℕ → Content → ℕ → List ℕ → Got (List E)
 line key r k s = literal key s >>= λ _ s. items k s >>= λ es s. checked r es s
 
-unfoldable pub rows : List ℕ → Rule → ℕ → ℕ → List ℕ → Got (List (List E))
+unfoldable pub rows : List ℕ → Content → ℕ → ℕ → List ℕ → Got (List (List E))
 rows key r zero k s = got [] s
 rows key r (suc i) k s = line key r k s >>= λ es s. rows key r i k s >>= λ t s. got (es ∷ t) s
 
@@ -130,20 +131,29 @@ table t i = row (getD t i [])
 -- A kind of line: its key, what its items may be, how many lines, how many items in each.
 pub record Section : Type 0 where
   pub key : List ℕ
-  pub rule : Rule
+  pub content : Content
   pub lines : ℕ
   pub items : ℕ
 
-abbrev pub kind : String → Rule → ℕ → ℕ → Section
-kind key r lines items = record { key = bytes key; rule = r; lines = lines; items = items }
+abbrev pub kind : String → Content → ℕ → ℕ → Section
+kind key r lines items = record { key = bytes key; content = r; lines = lines; items = items }
+
+-- "A sheet may begin with rule=2; without it the old rule holds, and any other value there is refused as 2" (document 02, No. 7): whether
+-- rule 2 holds
+unfoldable pub ruled : List ℕ → Got Bool
+ruled s = cond (got? (literal (bytes "rule=") s)) (literal (bytes "rule=2\n") s >>= λ _ s. got true s) (got false s)
 
 -- "Lines in order: panels, triggers, m lines lag, floor, due, n lines after. A lag, due or after line has n items, the floor line m, a size
--- line one"
+-- line one"; "Under rule 2 the floor and due lines are left out"
 abbrev pub sizes : List Section
 sizes = kind "panels=" size 1 1 ∷ kind "triggers=" size 1 1 ∷ []
 
-abbrev pub tables : ℕ → ℕ → List Section
-tables m n = kind "lag=" entry m n ∷ kind "floor=" entry 1 m ∷ kind "due=" mark 1 n ∷ kind "after=" entry n n ∷ []
+abbrev pub mark-lines : Bool → ℕ
+mark-lines two = cond two 0 1
+
+abbrev pub tables : Bool → ℕ → ℕ → List Section
+tables two m n =
+    kind "lag=" entry m n ∷ kind "floor=" entry (mark-lines two) m ∷ kind "due=" mark (mark-lines two) n ∷ kind "after=" entry n n ∷ []
 
 -- their places, counted from 0
 abbrev pub panels-line : ℕ
@@ -166,7 +176,7 @@ after-lines = 3
 
 -- the lines of one kind, as rows; of one kind after the other
 abbrev pub section : Section → List ℕ → Got (List (List E))
-section k s = rows (k .key) (k .rule) (k .lines) (k .items) s
+section k s = rows (k .key) (k .content) (k .lines) (k .items) s
 
 unfoldable pub sections : List Section → List ℕ → Got (List (List (List E)))
 sections [] s = got [] s
@@ -188,12 +198,16 @@ last-kind m = kind "last=" mark 1 m
 abbrev pub part : List (List (List E)) → ℕ → List (List E)
 part ts k = getD ts k []
 
+-- "Houses now measure a cue by the spread of landings … while old contracts keep the marks": floors and due marks
+pub data Measure : Type 0 where
+  by-marks : (floor : Vec) (due : ℕ → ℤ) → Measure
+  by-spread : Measure
+
 pub record Sheet : Type 0 where
   pub panels : ℕ
   pub triggers : ℕ
   pub lag : Mat
-  pub floor : Vec
-  pub due : ℕ → ℤ
+  pub measure : Measure
   pub after : Mat
   pub land : Option Mat
   pub last : Option (ℕ → ℤ)
@@ -216,34 +230,60 @@ moments none = none
 moments (some c) = some (λ i. val (c 0 i))
 
 -- The tables of a sheet. The rows of a kind are used here and in the refusals below, nowhere else.
-abbrev pub sheet-of : ℕ → ℕ → List (List (List E)) → (land last : Option Mat) → Sheet
-sheet-of m n ts land last =
+abbrev pub measure-of : Bool → List (List (List E)) → Measure
+measure-of true ts = by-spread
+measure-of false ts = by-marks (table (part ts floor-line) 0) (λ j. val (table (part ts due-line) 0 j))
+
+abbrev pub sheet-of : Bool → ℕ → ℕ → List (List (List E)) → (land last : Option Mat) → Sheet
+sheet-of two m n ts land last =
     record {
       panels = m;
       triggers = n;
       lag = table (part ts lag-lines);
-      floor = table (part ts floor-line) 0;
-      due = λ j. val (table (part ts due-line) 0 j);
+      measure = measure-of two ts;
       after = table (part ts after-lines);
       land = land;
       last = moments last;
     }
 
--- "After the lines: bytes left over are 2; then 6: a panel with no lag; then 7: no floor at all."
-abbrev pub finished : ℕ → ℕ → List (List (List E)) → (land last : Option Mat) → List ℕ → Got Sheet
-finished m n ts land last (b ∷ s) = refused 2
-finished m n ts land last [] =
+-- none of f 0 … f (n − 1) is present: the largest of them is absent
+abbrev pub none-present : ℕ → Vec → Bool
+none-present n f = not (present? (sup n f))
+
+module _ (S : Sheet) where
+  open Sheet S using (panels, triggers, lag, after, land)
+
+  -- "no lag to any panel"
+  abbrev pub lagless : ℕ → Bool
+  lagless j = none-present panels (λ i. lag i j)
+
+  -- "A trigger is now spare if it has no lag to any panel, no present after entry in its row or column, and no present land entry in its row"
+  -- (document 02, No. 4)
+  unfoldable pub spare : ℕ → Bool
+  spare j =
+      lagless j && none-present triggers (λ k. after j k) && none-present triggers (λ k. after k j) &&
+      none-present panels (λ i. given-table land j i)
+
+  -- "a trigger that is not spare and has no lag" (document 02, No. 7)
+  abbrev pub some-lagless : Bool
+  some-lagless = any (λ j. not (spare j) && lagless j) (each triggers (λ j. j ∷ []))
+
+-- "After the lines: bytes left over are 2; then 6: a panel with no lag; then 7: no floor at all"; "under rule 2, as 14, after 7"
+abbrev pub finished : Bool → ℕ → ℕ → List (List (List E)) → (land last : Option Mat) → List ℕ → Got Sheet
+finished two m n ts land last (b ∷ s) = refused 2
+finished two m n ts land last [] =
     cond (any (all absent?) (part ts lag-lines)) (refused 6)
     (cond (any (all absent?) (part ts floor-line)) (refused 7)
-    (got (sheet-of m n ts land last) []))
+    (cond (two && some-lagless (sheet-of two m n ts land last)) (refused 14)
+    (got (sheet-of two m n ts land last) [])))
 
 -- the rest of a sheet with m panels and n triggers
-abbrev pub sized : ℕ → ℕ → List ℕ → Got Sheet
-sized m n s = sections (tables m n) s >>= λ ts s. optional (land-kind m n) s >>= λ land s. optional (last-kind m) s >>= λ last s.
-    finished m n ts land last s
+abbrev pub sized : Bool → ℕ → ℕ → List ℕ → Got Sheet
+sized two m n s = sections (tables two m n) s >>= λ ts s. optional (land-kind m n) s >>= λ land s. optional (last-kind m) s >>= λ last s.
+    finished two m n ts land last s
 
 unfoldable pub lines : List ℕ → Got Sheet
-lines s = sections sizes s >>= λ ps s. sized (count (part ps panels-line)) (count (part ps triggers-line)) s
+lines s = ruled s >>= λ two s. sections sizes s >>= λ ps s. sized two (count (part ps panels-line)) (count (part ps triggers-line)) s
 
 -- "1: over 2,048 bytes. Then line by line"
 unfoldable pub read : List ℕ → Got Sheet

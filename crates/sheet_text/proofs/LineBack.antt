@@ -11,7 +11,7 @@ use Rattle.maxplus.specs.Finite.{each}
 use Rattle.maxplus.specs.Tables.{Vec, Mat}
 use Rattle.maxplus.proofs.EachLaws.{length-each, each-at}
 use Rattle.sheet.specs.Good.{Passes}
-use Rattle.sheet.specs.Sheet.{got, refused, literal, ending, items, Rule, size, entry, mark, out-of-range, no-size, absent?, any, checked, line, rows}
+use Rattle.sheet.specs.Sheet.{got, refused, literal, ending, items, Content, size, entry, mark, out-of-range, no-size, absent?, any, checked, line, rows}
 use Rattle.sheet.specs.Sheet.{table, Section, section, sections, optional}
 use Rattle.sheet.proofs.LineLaws.{any-none}
 use Rattle.sheet.proofs.SectionLaws.{optional-none, optional-some}
@@ -20,8 +20,8 @@ use Rattle.sheet_text.specs.SheetText.{row-text, rows-text, section-text
 use Rattle.sheet_text.proofs.LineText.{each-first, ends, row-ends, first-line-on}
 use Rattle.sheet_text.proofs.ItemBack.{ended-back}
 
--- ---- what a rule allows
-abbrev pub Allowed : Rule → E → Type 0
+-- ---- what a line allows
+abbrev pub Allowed : Content → E → Type 0
 Allowed size e = (absent? e ≡ false) × (no-size e ≡ false)
 Allowed entry e = out-of-range e ≡ false
 Allowed mark e = (out-of-range e ≡ false) × (absent? e ≡ false)
@@ -37,7 +37,7 @@ module _ (n : ℕ) (v : Vec) where
   none-listed : (f : E → Bool) → ((j : ℕ) → j < n → f (v j) ≡ false) → any f (listed n v) ≡ false
   none-listed f h = any-none f absent (listed n v) (λ j q. let p : j < n = omega (arith, length-each n v) in rw (each-at n j v absent p) (h j p))
 
-  listed-passes : (r : Rule) → ((j : ℕ) → j < n → Allowed r (v j)) → Passes r (listed n v)
+  listed-passes : (r : Content) → ((j : ℕ) → j < n → Allowed r (v j)) → Passes r (listed n v)
   listed-passes size h = (none-listed absent? (λ j q. h j q .0), none-listed no-size (λ j q. h j q .1))
   listed-passes entry h = none-listed out-of-range h
   listed-passes mark h = (none-listed out-of-range (λ j q. h j q .0), none-listed absent? (λ j q. h j q .1))
@@ -56,13 +56,13 @@ items-back (suc k) v s =
     rw (split, ended-back k (v 0) (ends k (λ j. v (suc j)) ++ s), items-back k (λ j. v (suc j)) s)
     (ap (λ l. got l s) (sym (each-first k (λ j. v j ∷ []))))
 
-checked-back : (r : Rule) (es : List E) (s : List ℕ) → Passes r es → checked r es s ≡ got es s
+checked-back : (r : Content) (es : List E) (s : List ℕ) → Passes r es → checked r es s ≡ got es s
 unfolding checked
 checked-back size es s (p, q) = rw (p, q)
 checked-back entry es s p = rw p
 checked-back mark es s (p, q) = rw (p, q)
 
-module _ (key : List ℕ) (r : Rule) (n : ℕ) (some : 1 ≤ n) where
+module _ (key : List ℕ) (r : Content) (n : ℕ) (some : 1 ≤ n) where
   line-back : (v : Vec) (s : List ℕ) → ((j : ℕ) → j < n → Allowed r (v j)) → line key r n (row-text key n v ++ s) ≡ got (listed n v) s
   unfolding line
   line-back v s allowed =
@@ -83,13 +83,13 @@ module _ (key : List ℕ) (r : Rule) (n : ℕ) (some : 1 ≤ n) where
 pub record Fits (k : Section) (A : Mat) : Type 0 where
   pub lines-some : 1 ≤ k .lines
   pub items-some : 1 ≤ k .items
-  pub allowed : (i j : ℕ) → i < k .lines → j < k .items → Allowed (k .rule) (A i j)
+  pub allowed : (i j : ℕ) → i < k .lines → j < k .items → Allowed (k .content) (A i j)
 
 abbrev pub section-rows : Section → Mat → List (List E)
 section-rows k A = listed-rows (k .lines) (k .items) A
 
 section-back : (k : Section) (A : Mat) (s : List ℕ) → Fits k A → section k (section-text k A ++ s) ≡ got (section-rows k A) s
-section-back k A s F = rows-back (k .key) (k .rule) (k .items) (F .items-some) (k .lines) A s (F .allowed)
+section-back k A s F = rows-back (k .key) (k .content) (k .items) (F .items-some) (k .lines) A s (F .allowed)
 
 -- ---- one kind after the other
 abbrev pub AllFit : List Section → List Mat → Type 0

@@ -7,7 +7,7 @@ use Prim.Native.Nat.{ℕ, zero, suc, _≤_}
 use Rattle.maxplus.specs.Entry.{E}
 use Rattle.maxplus.specs.Finite.{each}
 use Rattle.maxplus.specs.Tables.{Mat}
-use Rattle.sheet.specs.Sheet.{got, got?, _>>=_, literal, ending, ended, items, Rule, line, rows, row, table, Section, section, sections, optional, part}
+use Rattle.sheet.specs.Sheet.{got, got?, _>>=_, literal, ending, ended, items, Content, line, rows, row, table, Section, section, sections, optional, part}
 use Rattle.sheet.proofs.LineLaws.{bind-got, checked-passes}
 use Rattle.writing.specs.Numerals.{item}
 use Rattle.sheet_text.specs.SheetText.{row-text, rows-text, section-text, sections-text, optional-text}
@@ -29,7 +29,7 @@ items-only (suc k) s {es} {r} q =
     let b : y ≡ r = cc in
     items-more k s e x fs y (ended-only k s p) (items-only k x g) ∙ ap₂ (λ es r. ends (suc k) (row es) ++ r) a b
 
-module _ (key : List ℕ) (r : Rule) (n : ℕ) (more : 1 ≤ n) where
+module _ (key : List ℕ) (r : Content) (n : ℕ) (more : 1 ≤ n) where
   line-only : (s : List ℕ) {es : List E} {x : List ℕ} → line key r n s ≡ got es x → s ≡ row-text key n (row es) ++ x
   unfolding line
   line-only s {es} {x} q =
@@ -59,7 +59,7 @@ module _ (key : List ℕ) (r : Rule) (n : ℕ) (more : 1 ≤ n) where
 -- ---- the lines of a kind, of one kind after the other, of a kind that a sheet may have or not
 section-only : (k : Section) (s : List ℕ) → 1 ≤ k .items → {t : List (List E)} {x : List ℕ} → section k s ≡ got t x →
     s ≡ section-text k (table t) ++ x
-section-only k s more q = rows-only (k .key) (k .rule) (k .items) more (k .lines) s q
+section-only k s more q = rows-only (k .key) (k .content) (k .items) more (k .lines) s q
 
 -- the tables of as many kinds as there are, by their places
 abbrev pub tables-at : List Section → (ℕ → List (List E)) → List Mat

@@ -14,7 +14,7 @@ use Rattle.maxplus.specs.Entry.{E, absent, num}
 use Rattle.maxplus.specs.Finite.{each}
 use Rattle.maxplus.specs.Tables.{Vec, Mat}
 use Rattle.sheet.specs.Text.{bytes}
-use Rattle.sheet.specs.Sheet.{Rule, size, entry, mark, limit, out-of-range, Section}
+use Rattle.sheet.specs.Sheet.{Content, size, entry, mark, limit, out-of-range, Section}
 use Rattle.sheet.proofs.LineLaws.{none-or, size-there}
 use Rattle.sheet.proofs.Longest.{places, item-most, section-most, sections-most, one-ending}
 use Rattle.writing.specs.Numerals.{item}
@@ -29,12 +29,12 @@ range-short absent h = omega arith
 range-short (num (pos v)) h = signed-length 5 (pos v) (omega (arith, ltb-false limit v (none-or (ltb limit v) false h .0)))
 range-short (num (negsuc v)) h = signed-length 5 (negsuc v) (omega (arith, ltb-false limit (suc v) h))
 
-item-short : (r : Rule) (e : E) → Allowed r e → length (item e) ≤ suc (places r)
+item-short : (r : Content) (e : E) → Allowed r e → length (item e) ≤ suc (places r)
 item-short size e (there, right) = let (m, q, few) = size-there e there right in rw (q, natural-small (suc m) (omega arith)) (omega arith)
 item-short entry e h = range-short e h
 item-short mark e (h, there) = range-short e h
 
-module _ (r : Rule) where
+module _ (r : Content) where
   ends-short : (k : ℕ) (v : Vec) → ((j : ℕ) → j < k → Allowed r (v j)) → length (ends k v) ≤ k * item-most r
   unfolding ends
   ends-short zero v h = omega arith
@@ -64,7 +64,7 @@ module _ (r : Rule) where
         )
 
 section-short : (k : Section) (A : Mat) → Fits k A → length (section-text k A) ≤ section-most k
-section-short k A F = rows-short (k .rule) (k .key) (k .items) (F .items-some) (k .lines) A (F .allowed)
+section-short k A F = rows-short (k .content) (k .key) (k .items) (F .items-some) (k .lines) A (F .allowed)
 
 pub sections-short : (ks : List Section) (As : List Mat) → AllFit ks As → length (sections-text ks As) ≤ sections-most ks
 sections-short [] As F = omega arith

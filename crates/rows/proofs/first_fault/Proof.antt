@@ -8,7 +8,7 @@ use borrow.Author.Count.{below-more}
 use borrow.Author.Needs.{needs}
 use lib.ListN.{getD}
 use Rattle.words.specs.Words.{entry}
-use Rattle.rows.specs.Inner.{rule-of, has-fault}
+use Rattle.rows.specs.Inner.{content-of, has-fault}
 use Rattle.rows.proofs.FaultLaws.{faults-few, Asked, asked-none, asked-hit, asked-more, asked-all}
 use Rattle.rows.proofs.first_fault.Statement.{statement}
 use Rattle.rows.proofs.first_fault.Tie as tie
@@ -35,7 +35,7 @@ in-items c = c .before .before
 
 -- there are two kinds at most
 few : (c : tie.After-faults-of Inv-loop μ-loop Inv-kinds μ-kinds) → c .faults-of .result .count ≤ 2
-few c = rw (c .faults-of .ensures) (faults-few (rule-of (c .before .args .rule)) .0)
+few c = rw (c .faults-of .ensures) (faults-few (content-of (c .before .args .content)) .0)
 
 faults-of-requires : tie.Need-faults-of-requires Inv-loop μ-loop Inv-kinds μ-kinds
 faults-of-requires c κs = search needs
@@ -80,7 +80,7 @@ kinds-again c =
     let l = c .before .loop in
     let k = c .before .before in
     let s = asked (k .before) in (
-      asked-more (k .before .kinds .inv .0) (rule-of (s .before .args .rule)) (s .faults-of .ensures) (k .kinds-test .taken) (s .before .pre)
+      asked-more (k .before .kinds .inv .0) (content-of (s .before .args .content)) (s .faults-of .ensures) (k .kinds-test .taken) (s .before .pre)
           (λ j h. l .inv .1 j (omega arith)),
       omega arith,
       l .inv .2,
@@ -90,14 +90,14 @@ returns : tie.Need-returns Inv-loop μ-loop Inv-kinds μ-kinds
 returns c =
     let l = c .before .kinds in
     let s = asked (c .before) in
-    rw (l .inv .2) (asked-all (l .inv .0) (rule-of (s .before .args .rule)) (s .faults-of .ensures) (c .kinds-test .left))
+    rw (l .inv .2) (asked-all (l .inv .0) (content-of (s .before .args .content)) (s .faults-of .ensures) (c .kinds-test .left))
 
 returns-2 : tie.Need-returns-2 Inv-loop μ-loop Inv-kinds μ-kinds
 returns-2 c =
     let l = in-items (c .before) in
     let k = l .before .before in
     let s = asked (k .before) in
-    asked-hit (k .before .kinds .inv .0) (rule-of (s .before .args .rule)) (s .faults-of .ensures) (k .kinds-test .taken) (s .before .pre)
+    asked-hit (k .before .kinds .inv .0) (content-of (s .before .args .content)) (s .faults-of .ensures) (k .kinds-test .taken) (s .before .pre)
     (l .before .loop .k) (l .loop-test .taken) (sym (c .before .faulty .ensures) ∙ c .if1 .taken)
 
 pub first-fault-spec : {M : Type 1} → statement M
