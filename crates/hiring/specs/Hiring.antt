@@ -10,7 +10,7 @@ use lib.ListN.{length, drop}
 use Rattle.maxplus.specs.Entry.{E, absent, num, val}
 use Rattle.maxplus.specs.Tables.{Mat}
 use Rattle.cue.specs.Sizes.{size-limit}
-use Rattle.sheet.specs.Sheet.{Sheet}
+use Rattle.sheet.specs.Sheet.{Sheet, by-marks}
 use Rattle.sheet_text.specs.SheetText.{sheet-text}
 use Rattle.hiring.specs.declared.Hired.{Hired}
 
@@ -69,8 +69,7 @@ sheet-from m n s =
       panels = m;
       triggers = n;
       lag = drawn-items first-there n s;
-      floor = drawn-items first-there m (drawn s (m * n)) 0;
-      due = λ j. val (drawn-items all-there n (drawn s (m * n + m)) 0 j);
+      measure = by-marks (drawn-items first-there m (drawn s (m * n)) 0) (λ j. val (drawn-items all-there n (drawn s (m * n + m)) 0 j));
       after = drawn-items below-diagonal n (drawn s (m * n + m + n));
       land = none;
       last = none;

@@ -18,7 +18,7 @@ use Rattle.maxplus.proofs.EachLaws.{each-at, length-each}
 use Rattle.maxplus.proofs.PackingLaws.{rank-few}
 use Rattle.cue.specs.Results.{Within}
 use Rattle.sheet.specs.Sheet.{got, refused, Content, size, entry, mark, limit, out-of-range, absent?, any, all, table, Sheet, Measure, by-marks}
-use Rattle.sheet.specs.Sheet.{by-spread, sections, sizes, tables, part, count, panels-line, triggers-line, lag-lines, floor-line, due-line}
+use Rattle.sheet.specs.Sheet.{by-spread, own-due, sections, sizes, tables, part, count, panels-line, triggers-line, lag-lines, floor-line, due-line}
 use Rattle.sheet.specs.Sheet.{after-lines, optional, land-kind, last-kind, given-table, moments, measure-of, sheet-of, lagless, spare, some-lagless}
 use Rattle.sheet.specs.Sheet.{ruled, finished, lines, read}
 use Rattle.sheet.specs.Cue.{floor-by, due-by, used}
@@ -87,15 +87,12 @@ last-within m s (some c) e b f i h =
 
 -- ---- the marks: those of a sheet, and those of rule 2
 module _ (two : Bool) (m n : ℕ) (s : List ℕ) {ts : List (List (List E))} {x : List ℕ} (e : sections (tables two m n) s ≡ got ts x) where
-  dues-of : (p : Vec) (q : ℕ → ℤ) → measure-of two ts ≡ by-marks p q → (j : ℕ) → j < n → Within limit limit (num (q j))
+  dues-of : (j : ℕ) → j < n → Within limit limit (own-due (measure-of two ts) j)
   dues-of = go two e
     where
-      go : (two : Bool) → sections (tables two m n) s ≡ got ts x → (p : Vec) (q : ℕ → ℤ) → measure-of two ts ≡ by-marks p q → (j : ℕ) → j < n →
-          Within limit limit (num (q j))
-      go true e p q f j h = absurd (let z : _≡_ {A = ℕ} 0 1 = cc in omega arith)
-      go false e p q f j h =
-          let c : (λ j. val (table (part ts due-line) 0 j)) ≡ q = cc in
-          rw (← c) (dues-within (sections-of (tables false m n) s e due-line refl) j h)
+      go : (two : Bool) → sections (tables two m n) s ≡ got ts x → (j : ℕ) → j < n → Within limit limit (own-due (measure-of two ts) j)
+      go true e j h = within-absent
+      go false e j h = dues-within (sections-of (tables false m n) s e due-line refl) j h
 
   floors-within : (i : ℕ) → i < m → Within limit limit (floor-by (measure-of two ts) i)
   floors-within = go two e
@@ -114,7 +111,7 @@ module _ (two : Bool) (m n : ℕ) (s : List ℕ) {ts : List (List (List E))} {x 
 
 -- a sheet's own due marks are as large as they are read, those of rule 2 as a lag
 due-within : (t : Sheet) → ((i j : ℕ) → i < t .panels → j < t .triggers → Within limit limit (t .lag i j)) →
-    ((p : Vec) (q : ℕ → ℤ) → t .measure ≡ by-marks p q → (j : ℕ) → j < t .triggers → Within limit limit (num (q j))) →
+    ((j : ℕ) → j < t .triggers → Within limit limit (own-due (t .measure) j)) →
     (j : ℕ) → j < t .triggers → Within limit limit (num (due-by t (t .measure) j))
 unfolding val neg
 due-within t lags dues j h = go (t .measure) dues
@@ -123,9 +120,8 @@ due-within t lags dues j h = go (t .measure) dues
     number absent w = in-range (num (pos 0)) refl
     number (num z) w = rw (inv-num z) at (within-inv w)
 
-    go : (M : Measure) → ((p : Vec) (q : ℕ → ℤ) → M ≡ by-marks p q → (j : ℕ) → j < t .triggers → Within limit limit (num (q j))) →
-        Within limit limit (num (due-by t M j))
-    go (by-marks p q) d = d p q refl j h
+    go : (M : Measure) → ((j : ℕ) → j < t .triggers → Within limit limit (own-due M j)) → Within limit limit (num (due-by t M j))
+    go (by-marks p q) d = d j h
     go by-spread d = number _ (within-sup (t .panels) _ (λ i k. lags i j k h))
 
 -- where 14 is not met

@@ -9,11 +9,11 @@ use lib.ListN.{length}
 use lib.IntN.{ℤ}
 use lib.Dec.{T}
 use Rattle.maxplus.specs.Entry.{E, num, Present}
-use Rattle.maxplus.specs.Tables.{Vec}
 use Rattle.maxplus.specs.Finite.{In}
 use Rattle.cue.specs.Vectors.{Readable}
 use Rattle.cue.specs.Results.{Within, Limited}
-use Rattle.sheet.specs.Sheet.{Content, size, entry, mark, limit, absent?, no-size, out-of-range, any, Sheet, Measure, by-marks, by-spread, given-table, spare}
+use Rattle.sheet.specs.Sheet.{Content, size, entry, mark, limit, absent?, no-size, out-of-range, any, Sheet, Measure, by-marks, by-spread}
+use Rattle.sheet.specs.Sheet.{own-due, given-table, spare}
 use Rattle.sheet.specs.Sizes.{order-limit}
 use Rattle.sheet.specs.Cue.{cue-size, cue-of}
 use Rattle.cue.specs.Sizes.{size-limit}
@@ -43,7 +43,7 @@ pub record Good (t : Sheet) : Type 0 where
   pub readable : Readable (cue-size t) (cue-of t)
   pub lags : (i j : ℕ) → i < t .panels → j < t .triggers → Within limit limit (t .lag i j)
   pub measured : Measured t (t .measure)
-  pub dues : (p : Vec) (q : ℕ → ℤ) → t .measure ≡ by-marks p q → (j : ℕ) → j < t .triggers → Within limit limit (num (q j))
+  pub dues : (j : ℕ) → j < t .triggers → Within limit limit (own-due (t .measure) j)
   pub afters : (i j : ℕ) → i < t .triggers → j < t .triggers → Within limit limit (t .after i j)
   pub lands : (i j : ℕ) → i < t .triggers → j < t .panels → Within limit limit (given-table (t .land) i j)
   pub lasts : (b : ℕ → ℤ) → t .last ≡ some b → (i : ℕ) → i < t .panels → Within limit limit (num (b i))

@@ -203,6 +203,19 @@ pub data Measure : Type 0 where
   by-marks : (floor : Vec) (due : ℕ → ℤ) → Measure
   by-spread : Measure
 
+abbrev pub by-spread? : Measure → Bool
+by-spread? (by-marks p q) = false
+by-spread? by-spread = true
+
+-- the marks that stand on the sheet itself: none under rule 2
+abbrev pub own-floor : Measure → Vec
+own-floor (by-marks p q) = p
+own-floor by-spread = λ i. absent
+
+abbrev pub own-due : Measure → Vec
+own-due (by-marks p q) = λ j. num (q j)
+own-due by-spread = λ j. absent
+
 pub record Sheet : Type 0 where
   pub panels : ℕ
   pub triggers : ℕ

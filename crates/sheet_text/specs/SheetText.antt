@@ -11,7 +11,10 @@ use Rattle.maxplus.specs.Finite.{each}
 use Rattle.maxplus.specs.Tables.{Vec, Mat}
 use Rattle.cue.specs.Results.{Within}
 use Rattle.cue.specs.Sizes.{size-limit}
-use Rattle.sheet.specs.Sheet.{got, limit, Section, sizes, tables, land-kind, last-kind, Sheet, given-table, read}
+use Rattle.sheet.specs.Text.{bytes}
+use Rattle.sheet.specs.Sheet.{got, limit, Section, sizes, tables, land-kind, last-kind, Measure, by-marks, by-spread, by-spread?, own-floor, own-due}
+use Rattle.sheet.specs.Sheet.{Sheet, given-table, read}
+use Rattle.sheet.specs.Good.{Measured}
 use Rattle.writing.specs.Numerals.{item}
 use Rattle.writing.specs.Texts.{field, joined}
 
@@ -50,17 +53,24 @@ one-line v i = v
 abbrev pub number-line : (ℕ → ℤ) → Mat
 number-line f i j = num (f j)
 
+-- the line of a rule: "A sheet may begin with rule=2" (document 02, No. 7)
+abbrev pub rule-text : Measure → List ℕ
+rule-text (by-marks p q) = []
+rule-text by-spread = bytes "rule=2\n"
+
 abbrev pub if-given : {A B : Type 0} → (A → B) → Option A → Option B
 if-given f none = none
 if-given f (some a) = some (f a)
 
--- "Lines in order: panels, triggers, m lines lag, floor, due, n lines after", then any land lines and the last line
+-- "Lines in order: panels, triggers, m lines lag, floor, due, n lines after", behind any line of a rule, under which there are no floor and due
+-- lines; then any land lines and the last line
 unfoldable pub sheet-text : Sheet → List ℕ
 sheet-text t =
     let m = t .panels in
     let n = t .triggers in
-    sections-text sizes (size-line m ∷ size-line n ∷ []) ++
-    sections-text (tables m n) (t .lag ∷ one-line (t .floor) ∷ number-line (t .due) ∷ t .after ∷ []) ++
+    rule-text (t .measure) ++ sections-text sizes (size-line m ∷ size-line n ∷ []) ++
+    sections-text (tables (by-spread? (t .measure)) m n)
+    (t .lag ∷ one-line (own-floor (t .measure)) ∷ one-line (own-due (t .measure)) ∷ t .after ∷ []) ++
     optional-text (land-kind m n) (t .land) ++ optional-text (last-kind m) (if-given number-line (t .last))
 
 -- ---- what stands within the sizes, which is all that a text holds: outside them reading gives absent, and 0 for a number
@@ -73,6 +83,10 @@ first-rows lines items A i j = first-entries lines (λ i. first-entries items (A
 abbrev pub first-numbers : ℕ → (ℕ → ℤ) → ℕ → ℤ
 first-numbers k f j = cond (ltb j k) (f j) (pos 0)
 
+abbrev pub first-marks : (m n : ℕ) → Measure → Measure
+first-marks m n (by-marks p q) = by-marks (first-entries m p) (first-numbers n q)
+first-marks m n by-spread = by-spread
+
 abbrev pub trimmed : Sheet → Sheet
 trimmed t =
     let m = t .panels in
@@ -81,27 +95,32 @@ trimmed t =
       panels = m;
       triggers = n;
       lag = first-rows m n (t .lag);
-      floor = first-entries m (t .floor);
-      due = first-numbers n (t .due);
+      measure = first-marks m n (t .measure);
       after = first-rows n n (t .after);
       land = if-given (first-rows n m) (t .land);
       last = if-given (first-numbers m) (t .last);
     }
 
--- ---- the tables of a sheet that is read: sizes 1 to 6, every entry within the limit, a lag for each panel, a floor
+-- ---- the tables of a sheet that is read: sizes 1 to 6, every entry within the limit, a lag for each panel; by the marks a floor, and under rule
+-- 2 a lag for each trigger that is not spare
+abbrev pub Floored : Sheet → Measure → Type 0
+Floored t (by-marks p q) = (i : ℕ) × (i < t .panels) × Present (p i)
+Floored t by-spread = Unit {0}
+
 pub record Sound (t : Sheet) : Type 0 where
   pub panels-some : 1 ≤ t .panels
   pub panels-few : t .panels ≤ size-limit
   pub triggers-some : 1 ≤ t .triggers
   pub triggers-few : t .triggers ≤ size-limit
   pub lags : (i j : ℕ) → i < t .panels → j < t .triggers → Within limit limit (t .lag i j)
-  pub floors : (i : ℕ) → i < t .panels → Within limit limit (t .floor i)
-  pub dues : (j : ℕ) → j < t .triggers → Within limit limit (num (t .due j))
+  pub floors : (i : ℕ) → i < t .panels → Within limit limit (own-floor (t .measure) i)
+  pub dues : (j : ℕ) → j < t .triggers → Within limit limit (own-due (t .measure) j)
   pub afters : (i j : ℕ) → i < t .triggers → j < t .triggers → Within limit limit (t .after i j)
   pub lands : (i j : ℕ) → i < t .triggers → j < t .panels → Within limit limit (given-table (t .land) i j)
   pub lasts : (b : ℕ → ℤ) → t .last ≡ some b → (i : ℕ) → i < t .panels → Within limit limit (num (b i))
   pub lagged : (i : ℕ) → i < t .panels → (j : ℕ) × (j < t .triggers) × Present (t .lag i j)
-  pub floored : (i : ℕ) × (i < t .panels) × Present (t .floor i)
+  pub floored : Floored t (t .measure)
+  pub measured : Measured t (t .measure)
 
 -- ---- what is written is read back
 -- the text of such tables is a sheet, and reading it gives them as they stand within the sizes
