@@ -23,7 +23,7 @@ use Rattle.reading.specs.Inner.{EmptyWords}
 use Rattle.cue.specs.Sizes.{size-limit}
 
 -- the word of an entry within the limit stands for it, and so does that of an absent one past the last
-word-back : (e : E) → out-of-range e ≡ false → entry (word e) ≡ e
+pub word-back : (e : E) → out-of-range e ≡ false → entry (word e) ≡ e
 word-back absent h = entry-word absent (λ z q. absurd (absent-not q))
 word-back (num x) h =
     let b = ltb-false limit (dn x) (none-or (ltb limit (up x)) _ h .1) in
@@ -42,7 +42,7 @@ inside (e ∷ es) (suc j) h = let q = inside es j h in omega arith
 
 module _ (ws : List (List ℕ)) (lines n : ℕ) (t : List (List E)) (six : lines ≤ size-limit) (few : n ≤ size-limit) (R : RowsOf sheet.entry lines n t)
     (w : ws ≡ strips (table t)) where
-  entry-there : (k j : ℕ) → k < lines → j < 6 → present? (entry (getD (getD ws k []) j 0)) ≡ present? (table t k j)
+  pub entry-there : (k j : ℕ) → k < lines → j < 6 → present? (entry (getD (getD ws k []) j 0)) ≡ present? (table t k j)
   entry-there k j h q =
       let w = ap (λ l. getD (getD l k []) j 0) w ∙ ap (λ r. getD r j 0) (strips-at (table t) k (omega arith)) ∙ strip-at (table t k) j q in
       ap (λ w. present? (entry w)) w ∙ ap present? (word-back (table t k j) (row-in-range (getD t k []) j (row-passes R k h)))

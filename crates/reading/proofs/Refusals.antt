@@ -1,7 +1,7 @@
--- Every refusal of reading has a number of document 01, 1 to 7, so that 0 can stand for none.
+-- Every refusal of reading has a number, 1 to 7 or 14, so that 0 can stand for none.
 use mathlib.Core.Path.{_≡_, subst}
 use mathlib.Core.List.{List, [], _∷_}
-use mathlib.Core.Bool.{Bool, true, false, cond}
+use mathlib.Core.Bool.{Bool, true, false, cond, _&&_}
 use mathlib.Core.Option.{Option, none}
 use Prim.Native.Nat.{ℕ, zero, suc, _-_, _≤_}
 use native.Mathlib.Omega.{arith}
@@ -11,14 +11,15 @@ use lib.ListN.{length}
 use Rattle.maxplus.specs.Whole.{neg}
 use Rattle.maxplus.specs.Entry.{E, absent, num}
 use Rattle.maxplus.specs.Tables.{Mat}
+use Rattle.sheet.specs.Text.{bytes}
 use Rattle.sheet.specs.Sheet.{Got, got, refused, got?, _>>=_, literal, leading, value, behind, signed, item}
 use Rattle.sheet.specs.Sheet.{ending, ended, items, Content, size, entry, mark, out-of-range, no-size, absent?, any, all, checked}
 use Rattle.sheet.specs.Sheet.{line, rows, Section, section, sections, sizes, tables, part, count, panels-line, triggers-line, lag-lines, floor-line}
-use Rattle.sheet.specs.Sheet.{optional, land-kind, last-kind, sheet-of, finished, lines, read}
+use Rattle.sheet.specs.Sheet.{optional, land-kind, last-kind, sheet-of, some-lagless, finished, ruled, headed, lines, read}
 
 abbrev Numbered : {A : Type 0} → Got A → Type 0
 Numbered (got a s) = Unit {0}
-Numbered (refused k) = (1 ≤ k) × (k ≤ 7)
+Numbered (refused k) = (1 ≤ k) × (k ≤ 14)
 
 module _ {A : Type 0} where
   if-numbered : (b : Bool) (g h : Got A) → Numbered g → Numbered h → Numbered (cond b g h)
@@ -91,19 +92,30 @@ unfolding optional
 optional-numbered k s = if-numbered (got? (literal (k .key) s)) _ (got none s)
     (then-numbered (section k s) _ (rows-numbered (k .key) (k .content) (k .lines) (k .items) s) (λ t s. tt)) tt
 
-finished-numbered : (m n : ℕ) (ts : List (List (List E))) (land last : Option Mat) (s : List ℕ) → Numbered (finished m n ts land last s)
-finished-numbered m n ts land last (b ∷ s) = (omega arith, omega arith)
-finished-numbered m n ts land last [] = if-numbered (any (all absent?) (part ts lag-lines)) (refused 6) _ (omega arith, omega arith)
-    (if-numbered (any (all absent?) (part ts floor-line)) (refused 7) (got (sheet-of m n ts land last) []) (omega arith, omega arith) tt)
+finished-numbered : (two : Bool) (m n : ℕ) (ts : List (List (List E))) (land last : Option Mat) (s : List ℕ) →
+    Numbered (finished two m n ts land last s)
+finished-numbered two m n ts land last (b ∷ s) = (omega arith, omega arith)
+finished-numbered two m n ts land last [] = if-numbered (any (all absent?) (part ts lag-lines)) (refused 6) _ (omega arith, omega arith)
+    (if-numbered (any (all absent?) (part ts floor-line)) (refused 7) _ (omega arith, omega arith)
+    (if-numbered (two && some-lagless (sheet-of two m n ts land last)) (refused 14) (got (sheet-of two m n ts land last) [])
+    (omega arith, omega arith) tt))
+
+ruled-numbered : (s : List ℕ) → Numbered (ruled s)
+unfolding ruled
+ruled-numbered s = if-numbered (got? (literal (bytes "rule=") s)) _ (got false s)
+    (then-numbered (literal (bytes "rule=2\n") s) _ (literal-numbered (bytes "rule=2\n") s) (λ u s. tt)) tt
+
+headed-numbered : (two : Bool) (s : List ℕ) → Numbered (headed two s)
+headed-numbered two s = then-numbered (sections sizes s) _ (sections-numbered sizes s) (λ ps s.
+    then-numbered (sections (tables two (count (part ps panels-line)) (count (part ps triggers-line))) s) _ (sections-numbered _ s) (λ ts s.
+    then-numbered (optional (land-kind _ _) s) _ (optional-numbered _ s) (λ land s.
+    then-numbered (optional (last-kind _) s) _ (optional-numbered _ s) (λ last s. finished-numbered two _ _ ts land last s))))
 
 lines-numbered : (s : List ℕ) → Numbered (lines s)
 unfolding lines
-lines-numbered s = then-numbered (sections sizes s) _ (sections-numbered sizes s) (λ ps s.
-    then-numbered (sections (tables (count (part ps panels-line)) (count (part ps triggers-line))) s) _ (sections-numbered _ s) (λ ts s.
-    then-numbered (optional (land-kind _ _) s) _ (optional-numbered _ s) (λ land s.
-    then-numbered (optional (last-kind _) s) _ (optional-numbered _ s) (λ last s. finished-numbered _ _ ts land last s))))
+lines-numbered s = then-numbered (ruled s) _ (ruled-numbered s) headed-numbered
 
-pub refusal-known : (s : List ℕ) (k : ℕ) → read s ≡ refused k → (1 ≤ k) × (k ≤ 7)
+pub refusal-known : (s : List ℕ) (k : ℕ) → read s ≡ refused k → (1 ≤ k) × (k ≤ 14)
 unfolding read
 refusal-known s k e = subst Numbered e (if-numbered (ltb 2048 (length s)) (refused 1) (lines s) (omega arith, omega arith) (lines-numbered s))
 

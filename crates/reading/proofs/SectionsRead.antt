@@ -2,6 +2,7 @@
 -- needs no further law.
 use mathlib.Core.Path.{_≡_, refl, ap, sym, _∙_}
 use mathlib.Core.List.{List, [], _∷_, _++_, append-nil}
+use mathlib.Core.Bool.{Bool}
 use Prim.Native.Nat.{ℕ, _+_, _≤_, _<_}
 use native.Mathlib.Decide.{decLt}
 use native.Mathlib.Numerals.{add-one}
@@ -19,9 +20,9 @@ use Rattle.reading.specs.Inner.{kinds, most, SectionIs, Stacked}
 use Rattle.reading.specs.declared.Group.{Group}
 use Rattle.reading.specs.declared.Group.the-variants as group
 
-pub kinds-few : (g : Group) (m n : ℕ) → length (kinds g m n) ≤ most
-kinds-few group.Sizes m n = omega arith
-kinds-few group.Tables m n = omega arith
+pub kinds-few : (g : Group) (two : Bool) (m n : ℕ) → length (kinds g two m n) ≤ most
+kinds-few group.Sizes two m n = omega arith
+kinds-few group.Tables two m n = omega arith
 
 -- the i-th kind is k
 pub section-is : (from : ℕ) {ks ls : List Section} {i j : ℕ} → ks ≡ ls → i ≡ j → {k : Section} {rest : List Section} {s : List ℕ} {r : Place}

@@ -6,16 +6,19 @@ use lib.Dec.{ltb}
 use lib.IntN.{ℤ}
 use Rattle.maxplus.specs.Entry.{absent, num}
 use Rattle.maxplus.specs.Tables.{Vec}
-use Rattle.sheet.specs.Sheet.{Got, got, refused, Sheet, given, given-table}
+use Rattle.sheet.specs.Sheet.{Got, got, refused, by-spread?, own-floor, own-due, Sheet, given, given-table}
 use Rattle.rows.specs.Grid.{strip, grid}
 use Rattle.reading.specs.declared.Reading.{Reading}
 
 abbrev pub blank : Vec
 blank j = absent
 
--- the first k numbers as entries, absent past them; of last moments, where there are any
+-- the first k entries, absent past them; numbers as entries; those of last moments, where there are any
+abbrev pub first : ℕ → Vec → Vec
+first k v j = cond (ltb j k) (v j) absent
+
 abbrev pub numbers : ℕ → (ℕ → ℤ) → Vec
-numbers k f j = cond (ltb j k) (num (f j)) absent
+numbers k f = first k (λ j. num (f j))
 
 abbrev pub moments-row : ℕ → Option (ℕ → ℤ) → Vec
 moments-row m none = blank
@@ -29,9 +32,10 @@ answer (got t s) =
       sheet = record {
         panels = t .panels;
         triggers = t .triggers;
+        ruled = by-spread? (t .measure);
         lag = grid (t .lag);
-        floor = strip (t .floor);
-        due = strip (numbers (t .triggers) (t .due));
+        floor = strip (own-floor (t .measure));
+        due = strip (first (t .triggers) (own-due (t .measure)));
         after = grid (t .after);
         land = record { given = given (t .land); rows = grid (given-table (t .land)) };
         last = record { given = given (t .last); at = strip (moments-row (t .panels) (t .last)) };
@@ -43,6 +47,7 @@ answer (refused k) =
       sheet = record {
         panels = 0;
         triggers = 0;
+        ruled = false;
         lag = grid (λ i. blank);
         floor = strip blank;
         due = strip blank;

@@ -7,20 +7,24 @@ ghost use Rattle.maxplus.specs.Whole.{up};
 ghost use Rattle.maxplus.specs.Entry.{val};
 ghost use Rattle.words.specs.Words.{entry};
 ghost use Rattle.sheet.specs.Sheet as sheet;
-ghost use Rattle.sheet.specs.Sheet.{read, sections, land-kind, last-kind};
+ghost use Rattle.sheet.specs.Sheet.{read, headed, sections, mark-lines, land-kind, last-kind, none-present};
 ghost use Rattle.reading.specs.Reading.{answer};
-ghost use Rattle.reading.specs.Inner.{kinds, most, SectionIs, SectionsAre, MaybeIs, FurtherIs, FinishedIs, GoodIs, LastIs, EmptyRow};
-ghost use Rattle.reading.specs.Inner.{EmptyWords, each-row};
+ghost use Rattle.reading.specs.Inner.{kinds, most, SectionIs, SectionsAre, RuleIs, MaybeIs, FurtherIs, FinishedIs, GoodIs, LastIs, EmptyRow};
+ghost use Rattle.reading.specs.Inner.{EmptyWords, each-row, meant, lagless-at, some-lagless-at, UnmeasuredIs};
 ghost use Rattle.cue.specs.Sizes.{size-limit};
 use rows::Items;
 use rows::Optional;
 use rows::Place;
 use rows::Row;
+use rows::literal_at;
 use rows::read_optional;
 use rows::read_rows;
 
 // The most bytes that a sheet may have.
 const LONGEST: usize = 2048;
+
+// How many bytes the line of rule 2 has.
+const RULE_LINE: usize = 7;
 
 // How many kinds of line give sizes, and the place of each.
 const SIZES: usize = 2;
@@ -52,10 +56,12 @@ pub struct Last {
     pub at: [u64; 6],
 }
 
-// A good sheet. A struct can't hold an array of arrays, so a table in it is an array of rows.
+// A good sheet: its floors and due marks are absent throughout where it follows rule 2. A struct can't hold an array of arrays, so a table in it
+// is an array of rows.
 pub struct SheetWords {
     pub panels: usize,
     pub triggers: usize,
+    pub ruled: bool,
     pub lag: [Row; 6],
     pub floor: [u64; 6],
     pub due: [u64; 6],
@@ -64,7 +70,7 @@ pub struct SheetWords {
     pub last: Last,
 }
 
-// Document 01's refusal, 1 to 7, and no sheet; or 0 and the sheet.
+// A refusal, 1 to 7 or 14, and no sheet; or 0 and the sheet.
 pub struct Reading {
     pub refusal: u8,
     pub sheet: SheetWords,
@@ -83,8 +89,45 @@ pub fn read_sheet(s: &[u8]) -> Reading
     if LONGEST < s.len() {
         return refused(1);
     }
+    let rule = read_rule(s);
+    if rule.refusal != 0 {
+        return refused(rule.refusal);
+    }
+    read_headed(s, rule.next, rule.given)
+}
+
+// Whether the sheet begins with the line of rule 2, and the place behind it; or 2.
+fn read_rule(s: &[u8]) -> Optional
+    ensures { λ r. ⌜ RuleIs (now (s .entry)) r ⌝ }
+{
+    if !literal_at(s, 0, b"rule=") {
+        return Optional {
+            refusal: 0,
+            given: false,
+            next: 0,
+        };
+    }
+    if !literal_at(s, 0, b"rule=2\n") {
+        return Optional {
+            refusal: 2,
+            given: true,
+            next: 0,
+        };
+    }
+    Optional {
+        refusal: 0,
+        given: true,
+        next: RULE_LINE,
+    }
+}
+
+// Reads the lines behind that of a rule.
+fn read_headed(s: &[u8], from: usize, ruled: bool) -> Reading
+    requires { ⌜ from ≤ length (now s) ⌝ }
+    ensures { λ r. ⌜ r ≡ answer (headed ruled (drop from (now (s .entry)))) ⌝ }
+{
     let mut parts = [[[0u64; 6]; 6]; TABLES];
-    let sizes = read_sections(s, 0, Group::Sizes, SIZES, 0, 0, &mut parts);
+    let sizes = read_sections(s, from, Group::Sizes, SIZES, ruled, 0, 0, &mut parts);
     if sizes.refusal != 0 {
         return refused(sizes.refusal);
     }
@@ -95,6 +138,7 @@ pub fn read_sheet(s: &[u8]) -> Reading
         sizes.next,
         Group::Tables,
         TABLES,
+        ruled,
         panels,
         triggers,
         &mut parts,
@@ -102,7 +146,7 @@ pub fn read_sheet(s: &[u8]) -> Reading
     if tables.refusal != 0 {
         return refused(tables.refusal);
     }
-    read_further(s, tables.next, &parts, panels, triggers)
+    read_further(s, tables.next, &parts, ruled, panels, triggers)
 }
 
 // Reads the lines of the `k`-th kind of a group: this is the list of the kinds, each with its key, what its items may be, how many lines it
@@ -112,13 +156,15 @@ fn read_section(
     from: usize,
     group: Group,
     k: usize,
+    ruled: bool,
     panels: usize,
     triggers: usize,
     rows: &mut [[u64; 6]; 6],
 ) -> Place
-    requires { ⌜ (from ≤ length (now s)) × (k < length (kinds group panels triggers)) × (panels ≤ size-limit) × (triggers ≤ size-limit) ⌝ }
-    ensures { λ r. ⌜ SectionIs (kinds group panels triggers) k (now (s .entry)) from r (now (rows .exit)) ⌝ }
+    requires { ⌜ (from ≤ length (now s)) × (k < length (kinds group ruled panels triggers)) × (panels ≤ size-limit) × (triggers ≤ size-limit) ⌝ }
+    ensures { λ r. ⌜ SectionIs (kinds group ruled panels triggers) k (now (s .entry)) from r (now (rows .exit)) ⌝ }
 {
+    let marks = mark_lines(ruled);
     match group {
         Group::Sizes => match k {
             PANELS => read_rows(s, from, b"panels=", Items::Size, 1, 1, rows),
@@ -126,11 +172,21 @@ fn read_section(
         },
         Group::Tables => match k {
             LAG => read_rows(s, from, b"lag=", Items::Entry, panels, triggers, rows),
-            FLOOR => read_rows(s, from, b"floor=", Items::Entry, 1, panels, rows),
-            DUE => read_rows(s, from, b"due=", Items::Mark, 1, triggers, rows),
+            FLOOR => read_rows(s, from, b"floor=", Items::Entry, marks, panels, rows),
+            DUE => read_rows(s, from, b"due=", Items::Mark, marks, triggers, rows),
             _ => read_rows(s, from, b"after=", Items::Entry, triggers, triggers, rows),
         },
     }
+}
+
+// How many floor lines a sheet has, and how many due lines.
+fn mark_lines(ruled: bool) -> usize
+    ensures { λ r. ⌜ r ≡ mark-lines ruled ⌝ }
+{
+    if ruled {
+        return 0;
+    }
+    1
 }
 
 // Reads the `count` kinds of a group, one after the other, up to the first refusal.
@@ -139,19 +195,20 @@ fn read_sections(
     from: usize,
     group: Group,
     count: usize,
+    ruled: bool,
     panels: usize,
     triggers: usize,
     parts: &mut [[[u64; 6]; 6]; TABLES],
 ) -> Place
-    requires { ⌜ (from ≤ length (now s)) × (count ≡ length (kinds group panels triggers)) × (panels ≤ size-limit) × (triggers ≤ size-limit) ×
+    requires { ⌜ (from ≤ length (now s)) × (count ≡ length (kinds group ruled panels triggers)) × (panels ≤ size-limit) × (triggers ≤ size-limit) ×
         (length (now parts) ≡ most) ⌝ }
-    ensures { λ r. ⌜ SectionsAre (sections (kinds group panels triggers) (drop from (now (s .entry)))) (now (s .entry)) r (now (parts .exit)) ⌝ }
+    ensures { λ r. ⌜ SectionsAre (sections (kinds group ruled panels triggers) (drop from (now (s .entry)))) (now (s .entry)) r (now (parts .exit)) ⌝ }
 {
     let mut at = from;
     let mut refusal: u8 = 0;
     let mut k: usize = 0;
     while k < count {
-        let read = read_section(s, at, group, k, panels, triggers, &mut parts[k]);
+        let read = read_section(s, at, group, k, ruled, panels, triggers, &mut parts[k]);
         refusal = read.refusal;
         if refusal != 0 {
             break;
@@ -170,11 +227,12 @@ fn read_further(
     s: &[u8],
     from: usize,
     parts: &[[[u64; 6]; 6]; TABLES],
+    ruled: bool,
     panels: usize,
     triggers: usize,
 ) -> Reading
     requires { ⌜ (from ≤ length (now s)) × (panels ≤ size-limit) × (triggers ≤ size-limit) ⌝ }
-    ensures { λ r. ⌜ FurtherIs (now (parts .entry)) panels triggers (now (s .entry)) from r ⌝ }
+    ensures { λ r. ⌜ FurtherIs (now (parts .entry)) ruled panels triggers (now (s .entry)) from r ⌝ }
 {
     let mut land = [[0u64; 6]; 6];
     let lands = read_land(s, from, panels, triggers, &mut land);
@@ -193,6 +251,7 @@ fn read_further(
         &land,
         lasts.given,
         &last,
+        ruled,
         panels,
         triggers,
         left,
@@ -236,17 +295,18 @@ fn finished(
     land: &[[u64; 6]; 6],
     timed: bool,
     last: &[[u64; 6]; 6],
+    ruled: bool,
     panels: usize,
     triggers: usize,
     left: usize,
 ) -> Reading
     requires { ⌜ (panels ≤ size-limit) × (triggers ≤ size-limit) ⌝ }
-    ensures { λ r. ⌜ FinishedIs (now (parts .entry)) landed (now (land .entry)) timed (now (last .entry)) panels triggers left r ⌝ }
+    ensures { λ r. ⌜ FinishedIs (now (parts .entry)) landed (now (land .entry)) timed (now (last .entry)) ruled panels triggers left r ⌝ }
 {
     let lag = parts[LAG];
     let floor = parts[FLOOR];
     let no_lag = empty_row(lag, panels);
-    let no_floor = empty_row(floor, 1);
+    let no_floor = empty_row(floor, mark_lines(ruled));
     if left != 0 {
         return refused(2);
     }
@@ -256,7 +316,90 @@ fn finished(
     if no_floor {
         return refused(7);
     }
-    good(parts, landed, land, timed, last, panels, triggers)
+    if unmeasured(parts, land, ruled, panels, triggers) {
+        return refused(14);
+    }
+    good(parts, landed, land, timed, last, ruled, panels, triggers)
+}
+
+// Under rule 2 a trigger that is not spare has no lag.
+fn unmeasured(
+    parts: &[[[u64; 6]; 6]; TABLES],
+    land: &[[u64; 6]; 6],
+    ruled: bool,
+    panels: usize,
+    triggers: usize,
+) -> bool
+    requires { ⌜ (panels ≤ size-limit) × (triggers ≤ size-limit) ⌝ }
+    ensures { λ r. ⌜ UnmeasuredIs (now (parts .entry)) (now (land .entry)) ruled panels triggers r ⌝ }
+{
+    if !ruled {
+        return false;
+    }
+    let lag = parts[LAG];
+    let after = parts[AFTER];
+    some_lagless(&lag, &after, land, panels, triggers)
+}
+
+// A trigger is not spare and has no lag.
+fn some_lagless(
+    lag: &[[u64; 6]; 6],
+    after: &[[u64; 6]; 6],
+    land: &[[u64; 6]; 6],
+    panels: usize,
+    triggers: usize,
+) -> bool
+    requires { ⌜ (panels ≤ size-limit) × (triggers ≤ size-limit) ⌝ }
+    ensures { λ r. ⌜ r ≡ some-lagless-at (now (lag .entry)) (now (after .entry)) (now (land .entry)) panels triggers ⌝ }
+{
+    let mut j: usize = 0;
+    while j < triggers {
+        if lagless(lag, after, land, panels, triggers, j) {
+            return true;
+        }
+        j += 1;
+    }
+    false
+}
+
+// Trigger `j` is not spare and has no lag: an after entry in its row or column, or a land entry in its row, makes it wait or be waited for.
+fn lagless(
+    lag: &[[u64; 6]; 6],
+    after: &[[u64; 6]; 6],
+    land: &[[u64; 6]; 6],
+    panels: usize,
+    triggers: usize,
+    j: usize,
+) -> bool
+    requires { ⌜ (panels ≤ size-limit) × (triggers ≤ size-limit) × (j < size-limit) ⌝ }
+    ensures { λ r. ⌜ r ≡ lagless-at (now (lag .entry)) (now (after .entry)) (now (land .entry)) panels triggers j ⌝ }
+{
+    if !empty_column(lag, panels, j) {
+        return false;
+    }
+    if !empty(after[j]) {
+        return true;
+    }
+    if !empty_column(after, triggers, j) {
+        return true;
+    }
+    !empty(land[j])
+}
+
+// None of the first `lines` rows has an entry at `j`.
+fn empty_column(rows: &[[u64; 6]; 6], lines: usize, j: usize) -> bool
+    requires { ⌜ (lines ≤ size-limit) × (j < size-limit) ⌝ }
+    ensures { λ r. ⌜ r ≡ none-present lines (λ i. meant (now (rows .entry)) i j) ⌝ }
+{
+    let mut i: usize = 0;
+    while i < lines {
+        let at = rows[i];
+        if words::present(at[j]) {
+            return false;
+        }
+        i += 1;
+    }
+    true
 }
 
 // The answer of a good sheet: what was read of each kind, as its tables and marks.
@@ -266,10 +409,11 @@ fn good(
     land: &[[u64; 6]; 6],
     timed: bool,
     last: &[[u64; 6]; 6],
+    ruled: bool,
     panels: usize,
     triggers: usize,
 ) -> Reading
-    ensures { λ r. ⌜ GoodIs (now (parts .entry)) landed (now (land .entry)) timed (now (last .entry)) panels triggers r ⌝ }
+    ensures { λ r. ⌜ GoodIs (now (parts .entry)) landed (now (land .entry)) timed (now (last .entry)) ruled panels triggers r ⌝ }
 {
     let lag = parts[LAG];
     let floor = parts[FLOOR];
@@ -284,6 +428,7 @@ fn good(
     let sheet = SheetWords {
         panels: panels,
         triggers: triggers,
+        ruled: ruled,
         lag: lags,
         floor: floors,
         due: dues,
@@ -341,6 +486,7 @@ fn refused(refusal: u8) -> Reading
     let sheet = SheetWords {
         panels: 0,
         triggers: 0,
+        ruled: false,
         lag: table,
         floor: marks,
         due: marks,

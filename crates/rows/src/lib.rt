@@ -159,7 +159,7 @@ fn ended_item(s: &[u8], at: usize, left: usize) -> Item
 }
 
 // The bytes at `at` begin with the key.
-fn literal_at(s: &[u8], at: usize, key: &[u8]) -> bool
+pub fn literal_at(s: &[u8], at: usize, key: &[u8]) -> bool
     requires { ⌜ at ≤ length (now s) ⌝ }
     ensures { λ r. ⌜ LiteralAt (now (s .entry)) at (now (key .entry)) r ⌝ }
 {

@@ -11,10 +11,8 @@ use lib.ListN.{length, getD}
 use borrow.Author.Tests.{ltb-false}
 use Rattle.maxplus.specs.Whole.{up, dn, neg}
 use Rattle.maxplus.specs.Entry.{E, absent, num, val, Present}
-use Rattle.maxplus.specs.Finite.{each}
 use Rattle.maxplus.specs.Tables.{Vec, Mat}
 use Rattle.maxplus.proofs.EntryLaws.{num-inj, inv-num}
-use Rattle.maxplus.proofs.EachLaws.{each-at, length-each}
 use Rattle.maxplus.proofs.PackingLaws.{rank-few}
 use Rattle.cue.specs.Results.{Within}
 use Rattle.sheet.specs.Sheet.{got, refused, Content, size, entry, mark, limit, out-of-range, absent?, any, all, table, Sheet, Measure, by-marks}
@@ -23,7 +21,7 @@ use Rattle.sheet.specs.Sheet.{after-lines, optional, land-kind, last-kin
 use Rattle.sheet.specs.Sheet.{ruled, finished, lines, read}
 use Rattle.sheet.specs.Cue.{floor-by, due-by, used}
 use Rattle.sheet.specs.Good.{RowsOf, Measured, Good}
-use Rattle.sheet.proofs.LineLaws.{true-not-false, none-or, none-at, at-any, not-got, bind-got, passed, there}
+use Rattle.sheet.proofs.LineLaws.{true-not-false, none-or, none-at, at-any, none-place, not-got, bind-got, passed, there}
 use Rattle.sheet.proofs.SectionLaws.{row-long, row-passes, sections-of, optional-of, size-read}
 use Rattle.sheet.proofs.WithinLaws.{within-absent, within-inv, within-sup}
 use Rattle.sheet.proofs.Spares.{some-of, cue-readable}
@@ -127,8 +125,7 @@ due-within t lags dues j h = go (t .measure) dues
 -- where 14 is not met
 lags-there : (t : Sheet) → some-lagless t ≡ false → Measured t by-spread
 lags-there t e j h s =
-    let c : (not (spare t j) && lagless t j) ≡ false = rw (each-at (t .triggers) j (λ j. j) 0 h) at
-    (none-at (λ j. not (spare t j) && lagless t j) 0 (each (t .triggers) (λ j. j ∷ [])) j e (rw (length-each (t .triggers) (λ j. j)) h)) in
+    let c = none-place (t .triggers) (λ j. not (spare t j) && lagless t j) e j h in
     reached (lagless t j) (not-both (not (spare t j)) (lagless t j) s c) refl
   where
     not-both : (a b : Bool) → T a → a && b ≡ false → b ≡ false

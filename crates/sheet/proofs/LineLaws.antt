@@ -10,6 +10,8 @@ use lib.Dec.{ltb, eqb}
 use lib.IntN.{pos, negsuc}
 use lib.ListN.{length, getD}
 use Rattle.maxplus.specs.Entry.{E, absent, num, val}
+use Rattle.maxplus.specs.Finite.{each}
+use Rattle.maxplus.proofs.EachLaws.{each-at, length-each}
 use Rattle.sheet.specs.Good.{Passes}
 use Rattle.sheet.specs.Sheet.{Got, got, refused, _>>=_, Content, size, entry, mark, out-of-range, no-size, absent?, any, checked}
 use Rattle.cue.specs.Sizes.{size-limit}
@@ -53,6 +55,30 @@ module _ {A : Type 0} (f : A → Bool) (d : A) where
           (j : ℕ) × (j < length (a ∷ l)) × (f (getD (a ∷ l) j d) ≡ true)
       go true p q ih = (0, omega arith, p)
       go false p q ih = let (j, h, r) = ih q in (suc j, omega arith, r)
+
+-- two tests that agree on the members
+any-same : {A : Type 0} (f g : A → Bool) (d : A) (l : List A) → ((j : ℕ) → j < length l → f (getD l j d) ≡ g (getD l j d)) → any f l ≡ any g l
+unfolding any
+any-same f g d [] h = refl
+any-same f g d (a ∷ l) h = rw (h 0 (omega arith)) (ap (λ b. g a || b) (any-same f g d l (λ j q. h (suc j) (omega arith))))
+
+-- over the places below n
+module _ (n : ℕ) (f : ℕ → Bool) where
+  pub none-place : any f (each n (λ j. j ∷ [])) ≡ false → (j : ℕ) → j < n → f j ≡ false
+  none-place e j h = rw (each-at n j (λ j. j) 0 h) at (none-at f 0 (each n (λ j. j ∷ [])) j e (rw (length-each n (λ j. j)) h))
+
+  pub place-any : (j : ℕ) → j < n → f j ≡ true → any f (each n (λ j. j ∷ [])) ≡ true
+  place-any j h e = any-at f 0 (each n (λ j. j ∷ [])) j (rw (length-each n (λ j. j)) h) (rw (each-at n j (λ j. j) 0 h) e)
+
+  pub place-none : ((j : ℕ) → j < n → f j ≡ false) → any f (each n (λ j. j ∷ [])) ≡ false
+  place-none e = any-none f 0 (each n (λ j. j ∷ [])) (λ j q.
+      let h : j < n = rw (length-each n (λ j. j)) at q in
+      rw (each-at n j (λ j. j) 0 h) (e j h))
+
+  pub place-same : (g : ℕ → Bool) → ((j : ℕ) → j < n → f j ≡ g j) → any f (each n (λ j. j ∷ [])) ≡ any g (each n (λ j. j ∷ []))
+  place-same g e = any-same f g 0 (each n (λ j. j ∷ [])) (λ j q.
+      let h : j < n = rw (length-each n (λ j. j)) at q in
+      rw (each-at n j (λ j. j) 0 h) (e j h))
 
 -- ---- what was read was not refused
 pub not-got : {A : Type 0} {k : ℕ} {a : A} {s : List ℕ} → refused k ≡ got a s → ⊥

@@ -18,7 +18,8 @@ use Rattle.sheet.specs.Text.{bytes}
 use Rattle.sheet.specs.Good.{Passes, RowsOf}
 use Rattle.sheet.specs.Sheet.{got, refused, got?, _>>=_, literal, ended, items, Content, size, absent?, no-size, any, all, line, rows, table}
 use Rattle.sheet.specs.Sheet.{Section, section, sections, optional, land-kind, last-kind, part, sizes, tables, count, panels-line}
-use Rattle.sheet.specs.Sheet.{triggers-line, lag-lines, floor-line, ruled, sheet-of, some-lagless, finished, sized, lines, read}
+use Rattle.sheet.specs.Sheet.{triggers-line, lag-lines, floor-line, ruled, sheet-of, some-lagless, finished, sized, headed}
+use Rattle.sheet.specs.Sheet.{lines, read}
 use Rattle.sheet.proofs.LineLaws.{bind-got, onto, front, none-at, checked-passes, size-there}
 use Rattle.cue.specs.Sizes.{size-limit}
 
@@ -208,6 +209,14 @@ module _ (two : Bool) (m n : ℕ) (ts : List (List (List E))) (land last : Optio
             finished two m n ts land last x ≡ got (sheet-of two m n ts land last) []
         finished-good g = finished-all x none ∙ rw (e, f, g)
 
+module _ (two : Bool) (s : List ℕ) where
+  pub headed-refused : (f : ℕ) → sections sizes s ≡ refused f → headed two s ≡ refused f
+  headed-refused f e = rw e
+
+  pub headed-sized : (ps : List (List (List E))) (y : List ℕ) → sections sizes s ≡ got ps y →
+      headed two s ≡ sized two (count (part ps panels-line)) (count (part ps triggers-line)) y
+  headed-sized ps y e = rw e
+
 module _ (s : List ℕ) where
   pub read-long : 2048 < length s → read s ≡ refused 1
   unfolding read
@@ -218,12 +227,6 @@ module _ (s : List ℕ) where
     unfolding read lines
     read-ruled f e = rw (le-ltb 2048 (length s) h, e)
 
-    module _ (two : Bool) (x : List ℕ) (r : ruled s ≡ got two x) where
-      pub read-sizes : (f : ℕ) → sections sizes x ≡ refused f → read s ≡ refused f
-      unfolding read lines
-      read-sizes f e = rw (le-ltb 2048 (length s) h, r, e)
-
-      pub read-sized : (ps : List (List (List E))) (y : List ℕ) → sections sizes x ≡ got ps y →
-          read s ≡ sized two (count (part ps panels-line)) (count (part ps triggers-line)) y
-      unfolding read lines
-      read-sized ps y e = rw (le-ltb 2048 (length s) h, r, e)
+    pub read-headed : (two : Bool) (x : List ℕ) → ruled s ≡ got two x → read s ≡ headed two x
+    unfolding read lines
+    read-headed two x e = rw (le-ltb 2048 (length s) h, e)

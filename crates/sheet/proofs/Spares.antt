@@ -2,7 +2,8 @@
 use mathlib.Core.Path.{_≡_, refl, ap, sym, _∙_}
 use mathlib.Core.Logic.{_↔_, _⊎_, inl, inr}
 use mathlib.Core.Bool.{Bool, true, false, not, _&&_, _||_}
-use Prim.Native.Nat.{ℕ, _^_, _<_}
+use Prim.Native.Nat.{ℕ, _^_, _≤_, _<_}
+use native.Mathlib.Decide.{decLt}
 use native.Mathlib.Omega.{arith}
 use lib.Dec.{T, ltb, ltb→lt, lt→ltb, T-not, not-T}
 use lib.IntN.{ℤ}
@@ -47,6 +48,43 @@ some-of n f e = go (sup n f) refl e
     go : (a : E) → sup n f ≡ a → not (present? a) ≡ false → (i : ℕ) × (i < n) × Present (f i)
     go absent q h = absurd (true-not-false h)
     go (num z) q h = let (i, k, p) = sup-at n f (≼-back q) in (i, k, (val (f i), val-of (f i) p))
+
+pub none-yes : (n : ℕ) (f : Vec) → ((k : ℕ) → k < n → present? (f k) ≡ false) → none-present n f ≡ true
+none-yes n f h = yes (none-present n f) (none-absent n f .1 (λ k q. gone (f k) (h k q)))
+  where
+    yes : (b : Bool) → T b → b ≡ true
+    yes true p = refl
+    yes false p = absurd p
+
+    gone : (a : E) → present? a ≡ false → a ≡ absent
+    gone absent e = refl
+    gone (num z) e = absurd (true-not-false e)
+
+pub none-no : (n : ℕ) (f : Vec) (k : ℕ) → k < n → present? (f k) ≡ true → none-present n f ≡ false
+none-no n f k h e = go (none-present n f) (none-absent n f .0)
+  where
+    go : (b : Bool) → (T b → (j : ℕ) → j < n → f j ≡ absent) → b ≡ false
+    go true p = absurd (true-not-false (sym e ∙ ap present? (p tt k h)))
+    go false p = refl
+
+-- the same for vectors with the same places present, and for one that is absent past the first n
+pub none-same : (n : ℕ) (f g : Vec) → ((k : ℕ) → k < n → present? (f k) ≡ present? (g k)) → none-present n f ≡ none-present n g
+none-same n f g e = go (none-present n g) refl
+  where
+    go : (b : Bool) → none-present n g ≡ b → none-present n f ≡ b
+    go true q = none-yes n f (λ k h. e k h ∙ ap present? (none-absent n g .0 (rw q tt) k h))
+    go false q = let (k, h, (z, p)) = some-of n g q in none-no n f k h (e k h ∙ ap present? p)
+
+pub none-past : (m n : ℕ) (f : Vec) → n ≤ m → ((k : ℕ) → n ≤ k → f k ≡ absent) → none-present m f ≡ none-present n f
+none-past m n f few past = go (none-present n f) refl
+  where
+    all-gone : none-present n f ≡ true → (k : ℕ) → Dec (k < n) → f k ≡ absent
+    all-gone q k (yes h) = none-absent n f .0 (rw q tt) k h
+    all-gone q k (no h) = past k (omega arith)
+
+    go : (b : Bool) → none-present n f ≡ b → none-present m f ≡ b
+    go true q = none-yes m f (λ k h. ap present? (all-gone q k (decLt k n)))
+    go false q = let (k, h, (z, p)) = some-of n f q in none-no m f k (omega arith) (ap present? p)
 
 module _ (t : Sheet) where
   open Sheet t using (panels, triggers, lag, after, land)

@@ -295,8 +295,12 @@ abbrev pub sized : Bool → ℕ → ℕ → List ℕ → Got Sheet
 sized two m n s = sections (tables two m n) s >>= λ ts s. optional (land-kind m n) s >>= λ land s. optional (last-kind m) s >>= λ last s.
     finished two m n ts land last s
 
+-- the lines behind that of a rule
+abbrev pub headed : Bool → List ℕ → Got Sheet
+headed two s = sections sizes s >>= λ ps s. sized two (count (part ps panels-line)) (count (part ps triggers-line)) s
+
 unfoldable pub lines : List ℕ → Got Sheet
-lines s = ruled s >>= λ two s. sections sizes s >>= λ ps s. sized two (count (part ps panels-line)) (count (part ps triggers-line)) s
+lines s = ruled s >>= headed
 
 -- "1: over 2,048 bytes. Then line by line"
 unfoldable pub read : List ℕ → Got Sheet

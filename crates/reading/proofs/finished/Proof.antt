@@ -1,13 +1,16 @@
 -- `reading::finished` meets its contract. Assumes nothing.
 use mathlib.Core.Path.{_≡_, refl, ap, sym, _∙_}
+use mathlib.Core.Bool.{_&&_}
 use mathlib.Core.List.{List}
 use mathlib.Core.Option.{Option}
 use native.Mathlib.Omega.{arith}
 use borrow.Author.Needs.{needs}
 use Rattle.maxplus.specs.Entry.{E}
 use Rattle.maxplus.specs.Tables.{Mat}
-use Rattle.sheet.specs.Sheet.{any, all, absent?, part, lag-lines, floor-line}
-use Rattle.sheet.proofs.SectionLaws.{sections-of, sections-many, finished-left, finished-no-lag, finished-no-floor, finished-good}
+use Rattle.sheet.specs.Sheet.{any, all, absent?, part, lag-lines, floor-line, some-lagless, sheet-of}
+use Rattle.sheet.proofs.SectionLaws.{sections-of, sections-many, finished-left, finished-no-lag, finished-no-floor, finished-lagless, finished-good}
+use Rattle.reading.proofs.LaglessLaws.{lagless-words}
+use Rattle.reading.proofs.WordsLaws.{mark-few}
 use Rattle.reading.specs.Reading.{answer}
 use Rattle.reading.specs.Inner.{Kinds}
 use Rattle.reading.proofs.finished.Statement.{statement}
@@ -17,13 +20,22 @@ use Rattle.reading.proofs.finished.Tie as tie
 abbrev start : tie.After-empty-row → tie.Start
 start c = c .before .before .before
 
+abbrev at-lags : tie.After-empty-row2 → tie.After-empty-row
+at-lags c = c .before .before
+
+abbrev at-else : tie.After-unmeasured → tie.Else2
+at-else c = c .before .before
+
+abbrev tested : tie.After-unmeasured → tie.After-empty-row2
+tested c = at-else c .before .before
+
 -- the rows that were read of each kind
 abbrev Read : tie.Start → List (List (List E)) → (land last : Option Mat) → Type 0
 Read c =
     let a = c .args in
-    Kinds (a .parts .now) (a .landed) (a .land .now) (a .timed) (a .last .now) (a .panels) (a .triggers)
+    Kinds (a .parts .now) (a .landed) (a .land .now) (a .timed) (a .last .now) (a .ruled) (a .panels) (a .triggers)
 
--- whatever they are: some panel has no lag, and no panel has a floor
+-- whatever they are: some panel has no lag, no panel has a floor, and under rule 2 some trigger that is not spare has no lag
 no-lag : (c : tie.After-empty-row) (ts : List (List (List E))) {land last : Option Mat} → Read (start c) ts land last →
     c .empty-row .result ≡ any (all absent?) (part ts lag-lines)
 no-lag c ts K =
@@ -31,12 +43,20 @@ no-lag c ts K =
     c .empty-row .ensures _ (part ts lag-lines) (start c .pre .1) (sections-of _ _ (K .of-tables) lag-lines refl)
     (K .tables-are .at lag-lines (omega arith))
 
-no-floor : (c : tie.After-empty-row2) (ts : List (List (List E))) {land last : Option Mat} → Read (start (c .before)) ts land last →
+no-floor : (c : tie.After-empty-row2) (ts : List (List (List E))) {land last : Option Mat} → Read (start (at-lags c)) ts land last →
     c .empty-row2 .result ≡ any (all absent?) (part ts floor-line)
 no-floor c ts K =
     let many = sections-many _ _ (K .of-tables) in
-    c .empty-row2 .ensures _ (part ts floor-line) (start (c .before) .pre .0) (sections-of _ _ (K .of-tables) floor-line refl)
-    (K .tables-are .at floor-line (omega arith))
+    c .empty-row2 .ensures _ (part ts floor-line) (start (at-lags c) .pre .0)
+    (rw (c .before .mark-lines .ensures) (sections-of _ _ (K .of-tables) floor-line refl)) (K .tables-are .at floor-line (omega arith))
+
+no-lagless : (c : tie.After-unmeasured) (ts : List (List (List E))) {land last : Option Mat} →
+    let a = start (at-lags (tested c)) .args in
+    Read (start (at-lags (tested c))) ts land last →
+    c .unmeasured .result ≡ a .ruled && some-lagless (sheet-of (a .ruled) (a .panels) (a .triggers) ts land last)
+no-lagless c ts K =
+    let p = start (at-lags (tested c)) .pre in
+    c .unmeasured .ensures ∙ lagless-words (p .0) (p .1) K
 
 element-copy-out-lag : tie.Need-element-copy-out-lag
 element-copy-out-lag c = search needs
@@ -47,8 +67,11 @@ element-copy-out-floor c = search needs
 empty-row-requires : tie.Need-empty-row-requires
 empty-row-requires c κs = search needs
 
+mark-lines-requires : tie.Need-mark-lines-requires
+mark-lines-requires c κs = search needs
+
 empty-row-requires-2 : tie.Need-empty-row-requires-2
-empty-row-requires-2 c κs = search needs
+empty-row-requires-2 c κs = mark-few (start (c .before) .args .ruled) (c .mark-lines .ensures)
 
 refused-requires : tie.Need-refused-requires
 refused-requires c κs = search needs
@@ -57,7 +80,7 @@ returns : tie.Need-returns
 returns c = λ ts land last y K l.
     let t : tie.Then1 = search in
     let over = t .if1 .taken in
-    c .refused .ensures ∙ ap answer (sym (finished-left _ _ ts land last y (λ z. let b : ⊥ = omega arith in b)))
+    c .refused .ensures ∙ ap answer (sym (finished-left _ _ _ ts land last y (λ z. let b : ⊥ = omega arith in b)))
 
 refused-requires-2 : tie.Need-refused-requires-2
 refused-requires-2 c κs = search needs
@@ -68,7 +91,7 @@ returns-2 c = λ ts land last y K l.
     let all : tie.Else1 = search in
     let none = all .if1 .left in
     let lag : tie.After-empty-row = search in
-    c .refused2 .ensures ∙ ap answer (sym (finished-no-lag _ _ ts land last y (omega arith) (sym (no-lag lag ts K) ∙ t .if2 .taken)))
+    c .refused2 .ensures ∙ ap answer (sym (finished-no-lag _ _ _ ts land last y (omega arith) (sym (no-lag lag ts K) ∙ t .if2 .taken)))
 
 refused-requires-3 : tie.Need-refused-requires-3
 refused-requires-3 c κs = search needs
@@ -80,22 +103,42 @@ returns-3 c = λ ts land last y K l.
     let all : tie.Else1 = search in
     let none = all .if1 .left in
     let floor : tie.After-empty-row2 = search in
-    c .refused3 .ensures ∙ ap answer (sym (finished-no-floor _ _ ts land last y (omega arith)
-    (sym (no-lag (floor .before) ts K) ∙ some .if2 .left) (sym (no-floor floor ts K) ∙ t .if3 .taken)))
+    c .refused3 .ensures ∙ ap answer (sym (finished-no-floor _ _ _ ts land last y (omega arith)
+    (sym (no-lag (at-lags floor) ts K) ∙ some .if2 .left) (sym (no-floor floor ts K) ∙ t .if3 .taken)))
+
+unmeasured-requires : tie.Need-unmeasured-requires
+unmeasured-requires c κs = search needs
+
+refused-requires-4 : tie.Need-refused-requires-4
+refused-requires-4 c κs = search needs
+
+returns-4 : tie.Need-returns-4
+returns-4 c = λ ts land last y K l.
+    let t : tie.Then4 = search in
+    let asked : tie.After-unmeasured = search in
+    let floored : tie.Else3 = search in
+    let some : tie.Else2 = search in
+    let all : tie.Else1 = search in
+    let none = all .if1 .left in
+    let floor : tie.After-empty-row2 = search in
+    c .refused4 .ensures ∙ ap answer (sym (finished-lagless _ _ _ ts land last y (omega arith) (sym (no-lag (at-lags floor) ts K) ∙ some .if2 .left)
+    (sym (no-floor floor ts K) ∙ floored .if3 .left) (sym (no-lagless asked ts K) ∙ t .if4 .taken)))
 
 good-requires : tie.Need-good-requires
 good-requires c κs = search needs
 
-returns-4 : tie.Need-returns-4
-returns-4 c = λ ts land last y K l.
-    let good : tie.Else3 = search in
+returns-5 : tie.Need-returns-5
+returns-5 c = λ ts land last y K l.
+    let good : tie.Else4 = search in
+    let asked : tie.After-unmeasured = search in
+    let floored : tie.Else3 = search in
     let some : tie.Else2 = search in
     let all : tie.Else1 = search in
     let none = all .if1 .left in
     let floor : tie.After-empty-row2 = search in
     c .good2 .ensures ts land last K
-    ∙ ap answer (sym (finished-good _ _ ts land last y (omega arith) (sym (no-lag (floor .before) ts K) ∙ some .if2 .left)
-    (sym (no-floor floor ts K) ∙ good .if3 .left)))
+    ∙ ap answer (sym (finished-good _ _ _ ts land last y (omega arith) (sym (no-lag (at-lags floor) ts K) ∙ some .if2 .left)
+    (sym (no-floor floor ts K) ∙ floored .if3 .left) (sym (no-lagless asked ts K) ∙ good .if4 .left)))
 
 pub finished-spec : {M : Type 1} → statement M
 finished-spec =
@@ -104,6 +147,7 @@ finished-spec =
     element-copy-out-lag
     element-copy-out-floor
     empty-row-requires
+    mark-lines-requires
     empty-row-requires-2
     refused-requires
     returns
@@ -111,5 +155,8 @@ finished-spec =
     returns-2
     refused-requires-3
     returns-3
+    unmeasured-requires
+    refused-requires-4
+    returns-4
     good-requires
-    returns-4)
+    returns-5)

@@ -49,7 +49,7 @@ returns : tie.Need-returns
 returns c = λ z ts e S.
     let t : tie.Then1 = search in
     let l : tie.After-read-land = search in
-    c .refused .ensures ∙ ap answer (sym (sized-land _ _ z ts _ e _ (l .read-land .ensures .fault (t .if1 .taken))))
+    c .refused .ensures ∙ ap answer (sym (sized-land (start l .args .ruled) _ _ z ts _ e _ (l .read-land .ensures .fault (t .if1 .taken))))
 
 read-last-requires : tie.Need-read-last-requires
 read-last-requires c κs =
@@ -64,7 +64,7 @@ returns-2 c = λ z ts e S.
     let t : tie.Then2 = search in
     let l : tie.After-read-last = search in
     let G = found-land (land-read l) in
-    c .refused2 .ensures ∙ ap answer (sym (sized-last _ _ z ts _ e (G .value) _ (G .is) _ (l .read-last .ensures .fault (t .if2 .taken))))
+    c .refused2 .ensures ∙ ap answer (sym (sized-last (start (at-land (land-read l)) .args .ruled) _ _ z ts _ e (G .value) _ (G .is) _ (l .read-last .ensures .fault (t .if2 .taken))))
 
 sub-left : tie.Need-sub-left
 sub-left c =
@@ -86,8 +86,10 @@ returns-3 c = λ z ts e S.
     (record {
       start = z;
       behind = _;
+      past-land = _;
       of-tables = e;
       tables-are = S;
+      of-land = G .is;
       lands-are = G .words;
       from-last = _;
       past-last = _;
@@ -95,7 +97,7 @@ returns-3 c = λ z ts e S.
       lasts-are = H .words;
     })
     (length-drop next s)
-    ∙ ap answer (sym (sized-read _ _ z ts _ e (G .value) _ (G .is) (H .value) _ (H .is)))
+    ∙ ap answer (sym (sized-read _ _ _ z ts _ e (G .value) _ (G .is) (H .value) _ (H .is)))
 
 pub read-further-spec : {M : Type 1} → statement M
 read-further-spec =

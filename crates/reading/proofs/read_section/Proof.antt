@@ -6,25 +6,35 @@ use lib.ListN.{length}
 use Rattle.sheet.specs.Text.{bytes}
 use Rattle.sheet.specs.Sheet.{sizes, tables}
 use Rattle.reading.specs.Inner.{kinds}
+use Rattle.reading.proofs.WordsLaws.{mark-few}
 use Rattle.reading.proofs.SectionsRead.{section-is}
 use Rattle.reading.proofs.read_section.Statement.{statement}
 use Rattle.reading.proofs.read_section.Tie as tie
 
 -- places that statements name, each from the next one
+abbrev start : tie.After-mark-lines → tie.Start
+start c = c .before .before
+
 abbrev at-sizes : tie.After-enum-told → tie.Start
-at-sizes c = c .before .before .before
+at-sizes c = start (c .before .before)
+
+abbrev at-marks : tie.After-enum-told2 → tie.After-mark-lines
+at-marks c = c .before .before
 
 abbrev at-tables : tie.After-enum-told2 → tie.Start
-at-tables c = c .before .before .before
+at-tables c = start (at-marks c)
 
 -- the group of the sizes, and that of the tables
-of-sizes : (c : tie.After-enum-told) → let a = at-sizes c .args in kinds (a .group) (a .panels) (a .triggers) ≡ sizes
-of-sizes c = let a = at-sizes c .args in ap (λ g. kinds g (a .panels) (a .triggers)) (c .enum-told .given .1)
+of-sizes : (c : tie.After-enum-told) → let a = at-sizes c .args in kinds (a .group) (a .ruled) (a .panels) (a .triggers) ≡ sizes
+of-sizes c = let a = at-sizes c .args in ap (λ g. kinds g (a .ruled) (a .panels) (a .triggers)) (c .enum-told .given .1)
 
 of-tables : (c : tie.After-enum-told2) →
     let a = at-tables c .args in
-    kinds (a .group) (a .panels) (a .triggers) ≡ tables (a .panels) (a .triggers)
-of-tables c = let a = at-tables c .args in ap (λ g. kinds g (a .panels) (a .triggers)) (c .enum-told2 .given .1)
+    kinds (a .group) (a .ruled) (a .panels) (a .triggers) ≡ tables (a .ruled) (a .panels) (a .triggers)
+of-tables c = let a = at-tables c .args in ap (λ g. kinds g (a .ruled) (a .panels) (a .triggers)) (c .enum-told2 .given .1)
+
+mark-lines-requires : tie.Need-mark-lines-requires
+mark-lines-requires c κs = search needs
 
 enum-told : tie.Need-enum-told
 enum-told c = search needs
@@ -54,13 +64,19 @@ slice-aggregate-read-rows-4 : tie.Need-slice-aggregate-read-rows-4
 slice-aggregate-read-rows-4 c = search needs
 
 read-rows-requires-4 : tie.Need-read-rows-requires-4
-read-rows-requires-4 c κs = search needs
+read-rows-requires-4 c κs =
+    let m : tie.After-mark-lines = search in
+    let p = start m .pre in
+    (p .0, mark-few (start m .args .ruled) (m .mark-lines .ensures), p .2)
 
 slice-aggregate-read-rows-5 : tie.Need-slice-aggregate-read-rows-5
 slice-aggregate-read-rows-5 c = search needs
 
 read-rows-requires-5 : tie.Need-read-rows-requires-5
-read-rows-requires-5 c κs = search needs
+read-rows-requires-5 c κs =
+    let m : tie.After-mark-lines = search in
+    let p = start m .pre in
+    (p .0, mark-few (start m .args .ruled) (m .mark-lines .ensures), p .3)
 
 slice-aggregate-read-rows-6 : tie.Need-slice-aggregate-read-rows-6
 slice-aggregate-read-rows-6 c = search needs
@@ -103,13 +119,15 @@ returns-4 : tie.Need-returns-4
 unfolding bytes
 returns-4 c =
     let m : tie.At-match3-keys2 = search in
-    section-is (at-tables (m .before) .args .from) (of-tables (m .before)) (m .match3 .keys2) refl (c .read-rows4 .ensures)
+    section-is (at-tables (m .before) .args .from) (of-tables (m .before)) (m .match3 .keys2) refl
+    (rw (at-marks (m .before) .mark-lines .ensures) at (c .read-rows4 .ensures))
 
 returns-5 : tie.Need-returns-5
 unfolding bytes
 returns-5 c =
     let m : tie.At-match3-keys3 = search in
-    section-is (at-tables (m .before) .args .from) (of-tables (m .before)) (m .match3 .keys3) refl (c .read-rows5 .ensures)
+    section-is (at-tables (m .before) .args .from) (of-tables (m .before)) (m .match3 .keys3) refl
+    (rw (at-marks (m .before) .mark-lines .ensures) at (c .read-rows5 .ensures))
 
 returns-6 : tie.Need-returns-6
 unfolding bytes
@@ -121,6 +139,7 @@ pub read-section-spec : {M : Type 1} → statement M
 read-section-spec =
     tie.close
     (tie.spec
+    mark-lines-requires
     enum-told
     slice-aggregate-read-rows
     read-rows-requires

@@ -10,11 +10,11 @@ use Rattle.reading.proofs.read_sections.Statement.{statement}
 use Rattle.reading.proofs.read_sections.Tie as tie
 
 abbrev Inv-loop : tie.InvT-loop
-Inv-loop s from group count panels triggers parts₀ at₀ refusal₀ k₀ parts at refusal k =
-    SectionsRead (kinds group panels triggers) s from parts at k × (refusal ≡ 0)
+Inv-loop s from group count ruled panels triggers parts₀ at₀ refusal₀ k₀ parts at refusal k =
+    SectionsRead (kinds group ruled panels triggers) s from parts at k × (refusal ≡ 0)
 
 abbrev μ-loop : tie.MeasureT-loop
-μ-loop s from group count panels triggers parts₀ at₀ refusal₀ k₀ parts at refusal k = count - k
+μ-loop s from group count ruled panels triggers parts₀ at₀ refusal₀ k₀ parts at refusal k = count - k
 
 -- places that statements name, each from the next one
 abbrev start : tie.At-loop Inv-loop μ-loop → tie.Start Inv-loop μ-loop
@@ -24,7 +24,7 @@ abbrev in-loop : tie.After-read-section Inv-loop μ-loop → tie.In-loop Inv-loo
 in-loop c = c .before .before
 
 few : (c : tie.At-loop Inv-loop μ-loop) → let a = start c .args in a .count ≤ most
-few c = let a = start c .args in let l = kinds-few (a .group) (a .panels) (a .triggers) in let p = start c .pre in omega arith
+few c = let a = start c .args in let l = kinds-few (a .group) (a .ruled) (a .panels) (a .triggers) in let p = start c .pre in omega arith
 
 loop-holds : tie.Need-loop-holds Inv-loop μ-loop
 loop-holds c = (sections-none (c .before .pre .0) (c .before .pre .4), refl)
@@ -51,7 +51,8 @@ loop-again : tie.Need-loop-again Inv-loop μ-loop
 loop-again c =
     let l = in-loop (c .before) in
     let a = start (l .before) .args in (
-      sections-step (l .before .loop .inv .0) (omega arith) (c .before .read-section .ensures) (kinds-few (a .group) (a .panels) (a .triggers)) (c .if1 .left),
+      sections-step (l .before .loop .inv .0) (omega arith) (c .before .read-section .ensures)
+          (kinds-few (a .group) (a .ruled) (a .panels) (a .triggers)) (c .if1 .left),
       c .if1 .left,
     )
 
