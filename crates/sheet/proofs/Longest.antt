@@ -241,7 +241,7 @@ ruled-takes s {two} {x} e = go (got? (literal (bytes "rule=") s)) e
         rw (← c, ← d) (literal-takes (bytes "rule=2\n") s .took u y p tt)
     go false e = let (c, d) : (false ≡ two) × (s ≡ x) = (cc, cc) in rw (← c, ← d) (omega arith)
 
-tables-most : (two : Bool) (m n : ℕ) → m ≤ size-limit → n ≤ size-limit →
+pub tables-most : (two : Bool) (m n : ℕ) → m ≤ size-limit → n ≤ size-limit →
     rule-most two + sections-most (tables two m n) ≤ sections-most (tables false size-limit size-limit)
 unfolding bytes
 tables-most false m n h g =

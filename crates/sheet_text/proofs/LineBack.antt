@@ -81,7 +81,6 @@ module _ (key : List ℕ) (r : Content) (n : ℕ) (some : 1 ≤ n) where
 -- ---- the lines of a kind
 -- a table with lines of that kind: what stands within the sizes is allowed
 pub record Fits (k : Section) (A : Mat) : Type 0 where
-  pub lines-some : 1 ≤ k .lines
   pub items-some : 1 ≤ k .items
   pub allowed : (i j : ℕ) → i < k .lines → j < k .items → Allowed (k .content) (A i j)
 
@@ -110,14 +109,14 @@ sections-back (k ∷ ks) [] s F = absurd F
 sections-back (k ∷ ks) (A ∷ As) s (F, G) =
     rw (append-assoc (section-text k A) (sections-text ks As) s, section-back k A (sections-text ks As ++ s) F, sections-back ks As s G)
 
--- ---- lines that a sheet may have or not
+-- ---- lines that a sheet may have or not: where it has them, there is one
 abbrev pub MayFit : Section → Option Mat → Type 0
 MayFit k none = Unit {0}
-MayFit k (some A) = Fits k A
+MayFit k (some A) = (1 ≤ k .lines) × Fits k A
 
 -- a line begins with its key
-key-first : (k : Section) (A : Mat) (s : List ℕ) → Fits k A → (x : List ℕ) × (literal (k .key) (section-text k A ++ s) ≡ got tt x)
-key-first k A s F = go (k .lines) (F .lines-some)
+key-first : (k : Section) (A : Mat) (s : List ℕ) → 1 ≤ k .lines → Fits k A → (x : List ℕ) × (literal (k .key) (section-text k A ++ s) ≡ got tt x)
+key-first k A s more F = go (k .lines) more
   where
     go : (m : ℕ) → 1 ≤ m → (x : List ℕ) × (literal (k .key) (rows-text (k .key) m (k .items) A ++ s) ≡ got tt x)
     go zero h = absurd (let x : ⊥ = omega arith in x)
@@ -130,6 +129,6 @@ key-first k A s F = go (k .lines) (F .lines-some)
 pub optional-back : (k : Section) (o : Option Mat) (s : List ℕ) → MayFit k o → (o ≡ none → literal (k .key) s ≡ refused 2) →
     optional k (optional-text k o ++ s) ≡ got (if-given (λ A. table (section-rows k A)) o) s
 optional-back k none s F other = optional-none k s 2 (other refl)
-optional-back k (some A) s F other =
-    let (x, e) = key-first k A s F in
+optional-back k (some A) s (more, F) other =
+    let (x, e) = key-first k A s more F in
     optional-some k (section-text k A ++ s) x e (section-rows k A) s (section-back k A s F)

@@ -1,19 +1,28 @@
--- The table of rows that were made by places is the table that they were made from, as it stands within the sizes; which rows have an entry.
-use mathlib.Core.Path.{_≡_, refl, ap, _∙_, fun-ext}
-use mathlib.Core.List.{[]}
-use mathlib.Core.Bool.{Bool, true, false, cond, not}
+-- The table of rows that were made by places is the table that they were made from, as it stands within the sizes; which rows have an entry,
+-- and which triggers a lag.
+use mathlib.Core.Path.{_≡_, refl, ap, ap₂, sym, _∙_, fun-ext}
+use mathlib.Core.List.{[], _∷_}
+use mathlib.Core.Bool.{Bool, true, false, cond, not, _&&_}
+use mathlib.Core.Option.{Option, none, some}
 use Prim.Native.Nat.{ℕ, _<_}
 use native.Mathlib.Omega.{arith}
-use borrow.Author.Tests.{ltb-true, ltb-false}
-use lib.Dec.{ltb}
+use borrow.Author.Tests.{ltb-true, ltb-false, lt-ltb}
+use lib.Dec.{T, ltb}
 use lib.IntN.{ℤ, pos}
 use lib.ListN.{getD, List·getD-eq-default}
-use Rattle.maxplus.specs.Entry.{absent, num, val, Present}
+use Rattle.maxplus.specs.Entry.{absent, num, val, Present, present?}
+use Rattle.maxplus.specs.Finite.{each}
 use Rattle.maxplus.specs.Tables.{Vec, Mat}
+use Rattle.maxplus.proofs.EntryLaws.{absent-not}
+use Rattle.maxplus.proofs.FiniteLaws.{both}
+use Rattle.maxplus.proofs.SupLaws.{sup-ext}
 use Rattle.maxplus.proofs.EachLaws.{length-each, each-at}
-use Rattle.sheet.specs.Sheet.{absent?, any, all, row, table}
+use Rattle.sheet.specs.Sheet.{absent?, any, all, row, table, Measure, by-marks, by-spread, by-spread?, Sheet, given-table, none-present, lagless, spare}
+use Rattle.sheet.specs.Sheet.{some-lagless}
+use Rattle.sheet.specs.Good.{Measured}
 use Rattle.sheet.proofs.LineLaws.{any-none, any-at}
-use Rattle.sheet_text.specs.SheetText.{first-entries, first-rows, first-numbers, number-line}
+use Rattle.sheet.proofs.Spares.{none-absent}
+use Rattle.sheet_text.specs.SheetText.{first-entries, first-rows, first-numbers, number-line, if-given, trimmed}
 use Rattle.sheet_text.proofs.LineBack.{listed, listed-rows}
 
 -- ---- places
@@ -49,3 +58,43 @@ pub rows-there : (m n : ℕ) (A : Mat) → ((i : ℕ) → i < m → (j : ℕ) ×
 rows-there m n A h = any-none (all absent?) [] (listed-rows m n A) (λ i q.
     let p : i < m = omega (arith, length-each m (λ i. listed n (A i))) in
     rw (each-at m i (λ i. listed n (A i)) [] p) (row-there n (A i) (h i p)))
+
+-- ---- triggers that have a lag
+-- within the sizes nothing is lost
+rows-within : (m n : ℕ) (A : Mat) (i j : ℕ) → i < m → j < n → first-rows m n A i j ≡ A i j
+rows-within m n A i j h q = rw (lt-ltb i m h, lt-ltb j n q)
+
+given-within : (m n : ℕ) (o : Option Mat) (i j : ℕ) → i < m → j < n → given-table (if-given (first-rows m n) o) i j ≡ given-table o i j
+given-within m n none i j h q = refl
+given-within m n (some A) i j h q = rows-within m n A i j h q
+
+none-same : (n : ℕ) {v w : Vec} → ((j : ℕ) → j < n → v j ≡ w j) → none-present n v ≡ none-present n w
+none-same n h = ap (λ e. not (present? e)) (sup-ext n h)
+
+module _ (t : Sheet) where
+  open Sheet t using (panels, triggers, lag, after, land)
+
+  spare-trimmed : (j : ℕ) → j < triggers → spare (trimmed t) j ≡ spare t j
+  unfolding spare
+  spare-trimmed j h =
+      ap₂ _&&_ (ap₂ _&&_ (ap₂ _&&_ (none-same panels (λ i q. rows-within panels triggers lag i j q h))
+      (none-same triggers (λ k q. rows-within triggers triggers after j k h q)))
+      (none-same triggers (λ k q. rows-within triggers triggers after k j q h)))
+      (none-same panels (λ i q. given-within triggers panels land j i h q))
+
+  -- 14 is not met: a trigger that is not spare has a lag within the sizes
+  pub no-lagless : (M : Measure) → Measured t M → by-spread? M && some-lagless (trimmed t) ≡ false
+  no-lagless (by-marks p q) reached = refl
+  no-lagless by-spread reached = any-none (λ j. not (spare (trimmed t) j) && lagless (trimmed t) j) 0 (each triggers (λ j. j ∷ [])) (λ j q.
+      let h : j < triggers = omega (arith, length-each triggers (λ j. j)) in
+      rw (each-at triggers j (λ j. j) 0 h) (is-false _ (not-met j h)))
+    where
+      is-false : (b : Bool) → (T b → ⊥) → b ≡ false
+      is-false true h = absurd (h tt)
+      is-false false h = refl
+
+      not-met : (j : ℕ) → j < triggers → T (not (spare (trimmed t) j) && lagless (trimmed t) j) → ⊥
+      not-met j h u =
+          let (used, no-lag) = both (not (spare (trimmed t) j)) (lagless (trimmed t) j) .0 u in
+          let (i, q, (z, e)) = reached j h (rw (spare-trimmed j h) at used) in
+          absent-not (sym (none-absent panels (λ i. first-rows panels triggers lag i j) .0 no-lag i q) ∙ rows-within panels triggers lag i j q h ∙ e)

@@ -76,4 +76,4 @@ sections-short (k ∷ ks) (A ∷ As) (F, G) =
 
 pub optional-short : (k : Section) (o : Option Mat) → MayFit k o → length (optional-text k o) ≤ section-most k
 optional-short k none F = omega arith
-optional-short k (some A) F = section-short k A F
+optional-short k (some A) (more, F) = section-short k A F

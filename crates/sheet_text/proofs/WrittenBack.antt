@@ -1,14 +1,17 @@
 -- Writing and reading undo one another: each sheet that is read is the one text of its tables, and it is read back.
 use mathlib.Core.Path.{_≡_, ap, sym, _∙_}
 use mathlib.Core.List.{List, []}
-use Prim.Native.Nat.{ℕ}
+use Prim.Native.Nat.{ℕ, _<_}
 use native.Mathlib.Omega.{arith}
+use Rattle.maxplus.specs.Entry.{Present}
 use Rattle.maxplus.proofs.PackingLaws.{placed}
-use Rattle.sheet.specs.Sheet.{got, Sheet, read}
+use Rattle.cue.specs.Results.{Within}
+use Rattle.sheet.specs.Sheet.{got, limit, Measure, by-marks, by-spread, own-floor, Sheet, read}
 use Rattle.sheet.specs.Good.{Good}
-use Rattle.sheet.specs.Cue.{used, trigger-at}
+use Rattle.sheet.specs.Cue.{floor-by, used, trigger-at}
+use Rattle.sheet.proofs.WithinLaws.{within-absent}
 use Rattle.sheet.proofs.Good.{read-good}
-use Rattle.sheet_text.specs.SheetText.{trimmed, Sound, Written-back}
+use Rattle.sheet_text.specs.SheetText.{trimmed, Floored, Sound, Written-back}
 use Rattle.sheet_text.proofs.ReadBack.{read-back}
 use Rattle.sheet_text.proofs.ReadOnly.{read-only}
 
@@ -22,14 +25,24 @@ good-sound t G =
       triggers-some = G .triggers-some;
       triggers-few = G .triggers-few;
       lags = G .lags;
-      floors = G .limited .floors;
+      floors = floors (t .measure) (G .limited .floors);
       dues = G .dues;
       afters = G .afters;
       lands = G .lands;
       lasts = G .lasts;
       lagged = λ i h. let (k, q, p) = G .readable .lagged i h in (trigger-at t k, placed (used t) (t .triggers) k q .below, p);
-      floored = G .readable .floored;
+      floored = floored (t .measure) (G .readable .floored);
+      measured = G .measured;
     }
+  where
+    floors : (M : Measure) → ((i : ℕ) → i < t .panels → Within limit limit (floor-by M i)) →
+        (i : ℕ) → i < t .panels → Within limit limit (own-floor M i)
+    floors (by-marks p q) w i h = w i h
+    floors by-spread w i h = within-absent
+
+    floored : (M : Measure) → (i : ℕ) × (i < t .panels) × Present (floor-by M i) → Floored t M
+    floored (by-marks p q) there = there
+    floored by-spread there = tt
 
 -- Reading the bytes again gives the tables, and reading their text gives what stands within the sizes: there is nothing else.
 pub written-back : Written-back
