@@ -53,6 +53,7 @@ module _ (m n s : ℕ) (some-m : 1 ≤ m) (few-m : m ≤ size-limit) (some-n : 1
         lasts = λ b e i h. absurd (Option·none-ne-some b e);
         lagged = λ i h. (0, some-n, first-there-is n s i);
         floored = (0, some-m, first-there-is m (drawn s (m * n)) 0);
+        measured = tt;
       }
 
   pub made-short : length (sheet-text (sheet-from m n s)) ≤ longest
