@@ -4,3 +4,4 @@ pub mod LevelLaws
 pub mod Laws
 pub mod Preparing
 pub mod MomentLaws
+pub mod RuleLaws

@@ -26,7 +26,7 @@ use Rattle.moments.specs.declared.Moments.{Moments}
 use Rattle.moments.specs.Moments.{MomentsOf}
 use Rattle.preparing.specs.Prepared.{Worded, nothing-late}
 use Rattle.preparing.proofs.Preparing.{triggers-of, panels-of}
-use Rattle.preparing.proofs.Results.{numbers-held}
+use Rattle.preparing.proofs.Results.{first-held}
 
 true-false : {A : Type 0} → true ≡ false → A
 true-false e = let z : _≡_ {A = ℕ} 0 1 = cc in let x : ⊥ = omega arith in absurd x
@@ -63,7 +63,7 @@ module _ {s : Sheet} {t : SheetWords} (W : Worded s t) where
     last-of : HoldsV (s .panels) (timing moment) (t .last .at)
     last-of = subst (HoldsV (s .panels) (timing moment))
         (sym (ap (λ t. t .last .at) (W .words) ∙ ap (λ o. strip (moments-row (s .panels) o)) moment-is))
-        (numbers-held (s .panels) moment (W .good .panels-few) (W .good .lasts moment moment-is))
+        (first-held (s .panels) (timing moment) (W .good .panels-few) (W .good .lasts moment moment-is))
 
     pub overruns-asks : {lags : List (List ℕ)} → Holds (s .panels) (s .triggers) (s .lag) lags →
         Closely (t .panels) (t .triggers) limit lags × CloselyV (t .panels) limit (t .last .at)

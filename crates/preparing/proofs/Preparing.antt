@@ -17,7 +17,7 @@ use Rattle.words.specs.Words.{entry, far}
 use Rattle.sheet.specs.Sheet.{Got, got, refused, read, given, given-table}
 use Rattle.sheet.specs.Sheet as spec
 use Rattle.sheet.specs.Sizes.{order-limit}
-use Rattle.sheet.specs.Cue.{used, cue-size, trigger-at, order-table, cue-of}
+use Rattle.sheet.specs.Cue.{used, cue-size, trigger-at, order-table, floor-by, cue-of}
 use Rattle.sheet.specs.Good.{Good}
 use Rattle.sheet.proofs.Good.{read-good}
 use Rattle.sheet.proofs.Spares.{used-not-spare, used-order}
@@ -27,11 +27,10 @@ use Rattle.reading.specs.declared.SheetWords.{SheetWords}
 use Rattle.reading.specs.declared.Reading.{Reading}
 use Rattle.reading.proofs.Refusals.{refusal-numbered}
 use Rattle.rows.specs.declared.Row.{Row}
-use Rattle.tables.specs.Held.{meant, meantV, Holds, HoldsV, Closely}
+use Rattle.tables.specs.Held.{meant, Holds, HoldsV, Closely}
 use Rattle.tables.proofs.SquareLaws.{closely-within, closely-more}
-use Rattle.spares.specs.Using.{tied, PlacesOf, Picked, PickedTables}
+use Rattle.spares.specs.Using.{tied, PlacesOf, PickedTables}
 use Rattle.spares.specs.declared.Places.{Places}
-use Rattle.spares.proofs.PickedLaws.{picked-at}
 use Rattle.moments.specs.declared.Moments.{Moments}
 use Rattle.moments.specs.Moments.{MomentsOf}
 use Rattle.order.proofs.OrderLaws.{mm-held}
@@ -40,7 +39,7 @@ use Rattle.preparing.specs.declared.CueWords.{CueWords}
 use Rattle.preparing.specs.declared.Marked.{Marked}
 use Rattle.preparing.specs.declared.Prepared.{Prepared}
 use Rattle.preparing.specs.Prepared.{Worded, HoldsCue, CueFrom, Tabled, MarkedAs, PreparedAs}
-use Rattle.preparing.proofs.Results.{strip-held, grid-held, numbers-held, lags-close, orders-close, star-held, star-close, through-held, order-says}
+use Rattle.preparing.proofs.Results.{grid-held, lags-close, orders-close, star-held, star-close, through-held, order-says}
 use Rattle.cue.specs.Sizes.{size-limit}
 
 -- ---- what reading answers
@@ -140,12 +139,12 @@ module _ {s : spec.Sheet} {t : SheetWords} (W : Worded s t) where
 
   -- ---- the words of its cue: what is picked at the places in use is what the sheet has there
   module _ {p : Places} (U : PlacesOf (used s) (s .triggers) p) where
-    below : (k : ℕ) → k < cue-size s → trigger-at s k < s .triggers
+    pub below : (k : ℕ) → k < cue-size s → trigger-at s k < s .triggers
     below k q = placed (used s) (s .triggers) k q .below
 
     -- the tables before and after
     module _ {orders lags order lag : List (List ℕ)} (T : PickedTables (used s) (s .triggers) (t .panels) orders order lags lag) where
-      lags-picked : Holds (s .panels) (s .triggers) (s .lag) lags → Holds (s .panels) (cue-size s) (cue-of s .lag) lag
+      pub lags-picked : Holds (s .panels) (s .triggers) (s .lag) lags → Holds (s .panels) (cue-size s) (cue-of s .lag) lag
       unfolding meant
       lags-picked hl = record { at = λ i k hi q. ap entry (T .lags i k (rw panels-of hi) q) ∙ hl .at i (trigger-at s k) hi (below k q) }
 
@@ -155,21 +154,11 @@ module _ {s : spec.Sheet} {t : SheetWords} (W : Worded s t) where
         at = λ k l hk hl. ap entry (T .orders k l hk hl) ∙ ho .at (trigger-at s k) (trigger-at s l) (below k hk) (below l hl);
       }
 
-    dues-picked : {due : List ℕ} → Picked p (t .due) due → HoldsV (cue-size s) (timing (cue-of s .due)) due
-    unfolding meantV
-    dues-picked h = record {
-      at = λ k q. ap entry (picked-at U h k q) ∙ ap (λ t. meantV (t .due) (trigger-at s k)) (W .words) ∙
-          numbers-held (s .triggers) (s .due) (W .good .triggers-few) (W .good .dues) .at (trigger-at s k) (below k q);
-    }
-
-    floors-of : HoldsV (s .panels) (s .floor) (t .floor)
-    floors-of = subst (λ t. HoldsV (s .panels) (s .floor) (t .floor)) (sym (W .words))
-        (strip-held (s .floor) (W .good .panels-few) (W .good .limited .floors))
-
-    pub cue-words : {orders lags order lag : List (List ℕ)} {due : List ℕ} → Holds (s .triggers) (s .triggers) (order-table s) orders →
-        Holds (s .panels) (s .triggers) (s .lag) lags → PickedTables (used s) (s .triggers) (t .panels) orders order lags lag → Picked p (t .due) due →
-        HoldsCue (cue-of s) order lag (record { triggers = p .count; panels = t .panels; floor = t .floor; due = due; places = p })
-    cue-words ho hl T fd = record {
+    pub cue-words : {orders lags order lag : List (List ℕ)} {floor due : List ℕ} → Holds (s .triggers) (s .triggers) (order-table s) orders →
+        Holds (s .panels) (s .triggers) (s .lag) lags → PickedTables (used s) (s .triggers) (t .panels) orders order lags lag →
+        HoldsV (s .panels) (floor-by (s .measure)) floor → HoldsV (cue-size s) (timing (cue-of s .due)) due →
+        HoldsCue (cue-of s) order lag (record { triggers = p .count; panels = t .panels; floor = floor; due = due; places = p })
+    cue-words ho hl T hf hd = record {
       some = rw (U .count-is) (W .good .readable .trigger);
       few = rw (U .count-is) (W .good .few);
       few-panels = W .good .panels-few;
@@ -177,8 +166,8 @@ module _ {s : spec.Sheet} {t : SheetWords} (W : Worded s t) where
       readable = rw (U .count-is) (W .good .readable);
       limited = rw (U .count-is) (W .good .limited);
       lags-are = rw (U .count-is) (lags-picked T hl);
-      floors-are = floors-of;
-      dues-are = rw (U .count-is) (dues-picked fd);
+      floors-are = hf;
+      dues-are = rw (U .count-is) hd;
       orders-are = rw (U .count-is) (orders-picked T ho);
     }
 

@@ -21,7 +21,7 @@ use Rattle.words.specs.Words.{word, entry, Close}
 use Rattle.words.proofs.Laws.{entry-word}
 use Rattle.sheet.specs.Sheet.{limit}
 use Rattle.sheet.specs.Sizes.{order-limit, star-size, through-size, mark-down, least-up}
-use Rattle.reading.specs.Reading.{numbers}
+use Rattle.reading.specs.Reading.{first}
 use Rattle.rows.specs.Grid.{strip, grid}
 use Rattle.rows.proofs.PlaceLaws.{strip-at, grid-at}
 use Rattle.cue.specs.Cue.{Cue, timing, overdue, shortfall}
@@ -41,7 +41,7 @@ use Rattle.preparing.specs.Prepared.{HoldsCue}
 use Rattle.cue.specs.Sizes.{size-limit}
 
 -- ---- the arrays of a sheet that was read
-word-held : (e : E) → Within limit limit e → entry (word e) ≡ e
+pub word-held : (e : E) → Within limit limit e → entry (word e) ≡ e
 word-held e w = entry-word e (λ z q. let b = w .low .above z q in omega arith)
 
 pub strip-held : {n : ℕ} (x : Vec) → n ≤ size-limit → ((j : ℕ) → j < n → Within limit limit (x j)) → HoldsV n x (strip x)
@@ -59,15 +59,14 @@ grid-held A r six few w h = record {
       ap entry (strip-at (A i) j (omega arith)) ∙ word-held (A i j) (w i j hi hj);
 }
 
--- the first numbers of due marks or last moments
-pub numbers-held : (k : ℕ) (f : ℕ → ℤ) → k ≤ size-limit → ((j : ℕ) → j < k → Within limit limit (num (f j))) →
-    HoldsV k (timing f) (strip (numbers k f))
-numbers-held k f few w = record { at = λ j h. held .at j h ∙ there j h }
+-- the first entries of a line of due marks or last moments
+pub first-held : (k : ℕ) (v : Vec) → k ≤ size-limit → ((j : ℕ) → j < k → Within limit limit (v j)) → HoldsV k v (strip (first k v))
+first-held k v few w = record { at = λ j h. held .at j h ∙ there j h }
   where
-    there : (j : ℕ) → j < k → numbers k f j ≡ num (f j)
+    there : (j : ℕ) → j < k → first k v j ≡ v j
     there j h = rw (lt-ltb j k h)
 
-    held : HoldsV k (numbers k f) (strip (numbers k f))
+    held : HoldsV k (first k v) (strip (first k v))
     held = strip-held _ few (λ j h. subst (Within limit limit) (sym (there j h)) (w j h))
 
 -- ---- tables that agree

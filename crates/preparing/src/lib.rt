@@ -5,11 +5,13 @@ ghost use mathlib.Core.List.{List};
 ghost use Prim.Native.Nat.{ℕ};
 ghost use Rattle.sheet.specs.Sheet as spec;
 ghost use Rattle.sheet.specs.Sheet.{read};
-ghost use Rattle.sheet.specs.Cue.{order-table};
+ghost use Rattle.sheet.specs.Cue.{used, cue-size, order-table, floor-by, cue-of};
 ghost use Rattle.sheet.specs.Ordered.{ordered};
 ghost use Rattle.reading.specs.Reading.{answer};
 ghost use Rattle.cue.specs.Cue as theory;
-ghost use Rattle.tables.specs.Held.{Holds};
+ghost use Rattle.cue.specs.Cue.{timing};
+ghost use Rattle.tables.specs.Held.{Holds, HoldsV};
+ghost use Rattle.spares.specs.Using.{PlacesOf};
 ghost use Rattle.moments.specs.Moments.{MomentsOf};
 ghost use Rattle.preparing.specs.Prepared.{Worded, HoldsCue, CueFrom, Tabled, PreparedAs, nothing-late};
 use candidates::Marks;
@@ -48,7 +50,7 @@ pub struct Marked {
     pub marks: Marks,
 }
 
-// Document 01's refusal, 1 to 8; or 0, the cue, what steps 3 and 4 give, and the last moments.
+// A refusal, 1 to 8 or 14; or 0, the cue, what steps 3 and 4 give, and the last moments.
 pub struct Prepared {
     pub refusal: u8,
     pub cue: CueWords,
@@ -66,16 +68,44 @@ pub fn cue_of(t: SheetWords, order: &mut [[u64; 6]; 6], lag: &mut [[u64; 6]; 6])
     *order = order_of(t, lag);
     let places = places_of(order, lag, t.panels, t.triggers);
     pick_tables(order, lag, t.panels, places);
-    let floor = t.floor;
-    let due = t.due;
-    let dues = picked(due, places);
+    let floors = floor_by(t);
+    let dues = due_by(t, lag, places);
     CueWords {
         triggers: places.count,
         panels: t.panels,
-        floor: floor,
+        floor: floors,
         due: dues,
         places: places,
     }
+}
+
+// The floors that the cue goes by: 0 for each panel under rule 2.
+fn floor_by(t: SheetWords) -> [u64; 6]
+    requires { ⌜ ((s : spec.Sheet) × Worded s t) ⌝ }
+    ensures { λ r. ⌜ ((s : spec.Sheet) → Worded s t → HoldsV (s .panels) (floor-by (s .measure)) r) ⌝ }
+{
+    if t.ruled {
+        let zero = words::of_number(0);
+        return [zero; 6];
+    }
+    let floor = t.floor;
+    floor
+}
+
+// The due marks that the cue goes by: under rule 2 minus the largest lag of each of its triggers, whose lags are lent.
+fn due_by(t: SheetWords, lag: &[[u64; 6]; 6], places: Places) -> [u64; 6]
+    requires { ⌜ ((s : spec.Sheet) × Worded s t × PlacesOf (used s) (s .triggers) places ×
+        Holds (s .panels) (cue-size s) (cue-of s .lag) (now lag)) ⌝ }
+    ensures { λ r. ⌜ ((s : spec.Sheet) → Worded s t → PlacesOf (used s) (s .triggers) places →
+        Holds (s .panels) (cue-size s) (cue-of s .lag) (now (lag .entry)) → HoldsV (cue-size s) (timing (cue-of s .due)) r) ⌝ }
+{
+    if t.ruled {
+        let zero = words::of_number(0);
+        let farthest = overruns(lag, [zero; 6], t.panels, places.count);
+        return tables::differences::rest(zero, farthest, places.count);
+    }
+    let due = t.due;
+    picked(due, places)
 }
 
 // The larger of the after table and land times lag: the product is over panels. A sheet without land lines has no such rules to multiply.

@@ -29,7 +29,7 @@ use Rattle.sheet.proofs.Seam.{cue-limited}
 use Rattle.cue.specs.Sizes.{size-limit}
 
 -- ---- entries
-in-range : (e : E) → out-of-range e ≡ false → Within limit limit e
+pub in-range : (e : E) → out-of-range e ≡ false → Within limit limit e
 in-range absent h = within-absent
 in-range (num z) h =
     let p = none-or (ltb limit (up z)) (ltb limit (dn z)) h in

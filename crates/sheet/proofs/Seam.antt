@@ -167,7 +167,7 @@ module _ (t : Sheet) where
     farthest k = sup (t .panels) (λ i. t .lag i (trigger-at t k))
 
     -- each trigger in use has a lag (14), so that minus its due mark is its largest lag
-    farthest-due : (k : ℕ) → k < cue-size t → inv (num (due-by t by-spread (trigger-at t k))) ≡ farthest k
+    pub farthest-due : (k : ℕ) → k < cue-size t → inv (num (due-by t by-spread (trigger-at t k))) ≡ farthest k
     unfolding inv
     farthest-due k hk =
         let p = placed (used t) (t .triggers) k hk in

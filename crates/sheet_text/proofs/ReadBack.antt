@@ -12,7 +12,7 @@ use Rattle.maxplus.specs.Tables.{Mat}
 use Rattle.sheet.specs.Text.{bytes}
 use Rattle.sheet.specs.Sheet.{got, refused, literal, table, ruled, sizes, mark-lines, tables, land-kind, last-kind, Measure, by-marks, by-spread, by-spread?}
 use Rattle.sheet.specs.Sheet.{own-floor, own-due, Sheet, moments, measure-of, sheet-of, some-lagless, sized}
-use Rattle.sheet.proofs.SectionLaws.{sized-read, finished-good, read-sized}
+use Rattle.sheet.proofs.SectionLaws.{sized-read, finished-good, headed-sized, read-headed}
 use Rattle.sheet.proofs.Longest.{longest-is}
 use Rattle.sheet_text.specs.SheetText.{rows-text, sections-text, optional-text, one-line, number-line, rule-text, if-given, sheet-text, trimmed}
 use Rattle.sheet_text.specs.SheetText.{first-rows, first-numbers, first-marks, Floored, Sound, Read-back}
@@ -123,6 +123,7 @@ module _ (t : Sheet) where
 pub read-back : Read-back
 unfolding each val
 read-back t S =
-    read-sized (sheet-text t) (omega (arith, text-short t S, longest-is)) (by-spread? (t .measure)) (sizes-text t ++ rest-text t)
-    (ap ruled (text-parts t) ∙ ruled-back (t .measure) t (rest-text t)) (sections-rows sizes (size-tables t)) (rest-text t)
+    read-headed (sheet-text t) (omega (arith, text-short t S, longest-is)) (by-spread? (t .measure)) (sizes-text t ++ rest-text t)
+    (ap ruled (text-parts t) ∙ ruled-back (t .measure) t (rest-text t))
+    ∙ headed-sized (by-spread? (t .measure)) _ (sections-rows sizes (size-tables t)) (rest-text t)
     (sections-back sizes (size-tables t) (rest-text t) (sizes-fit t S)) ∙ sized-back t S

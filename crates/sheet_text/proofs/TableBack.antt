@@ -15,13 +15,12 @@ use Rattle.maxplus.specs.Finite.{each}
 use Rattle.maxplus.specs.Tables.{Vec, Mat}
 use Rattle.maxplus.proofs.EntryLaws.{absent-not}
 use Rattle.maxplus.proofs.FiniteLaws.{both}
-use Rattle.maxplus.proofs.SupLaws.{sup-ext}
 use Rattle.maxplus.proofs.EachLaws.{length-each, each-at}
-use Rattle.sheet.specs.Sheet.{absent?, any, all, row, table, Measure, by-marks, by-spread, by-spread?, Sheet, given-table, none-present, lagless, spare}
+use Rattle.sheet.specs.Sheet.{absent?, any, all, row, table, Measure, by-marks, by-spread, by-spread?, Sheet, given-table, lagless, spare}
 use Rattle.sheet.specs.Sheet.{some-lagless}
 use Rattle.sheet.specs.Good.{Measured}
-use Rattle.sheet.proofs.LineLaws.{any-none, any-at}
-use Rattle.sheet.proofs.Spares.{none-absent}
+use Rattle.sheet.proofs.LineLaws.{any-none, any-at, place-none}
+use Rattle.sheet.proofs.Spares.{none-absent, none-same}
 use Rattle.sheet_text.specs.SheetText.{first-entries, first-rows, first-numbers, number-line, if-given, trimmed}
 use Rattle.sheet_text.proofs.LineBack.{listed, listed-rows}
 
@@ -68,26 +67,21 @@ given-within : (m n : ℕ) (o : Option Mat) (i j : ℕ) → i < m → j < n → 
 given-within m n none i j h q = refl
 given-within m n (some A) i j h q = rows-within m n A i j h q
 
-none-same : (n : ℕ) {v w : Vec} → ((j : ℕ) → j < n → v j ≡ w j) → none-present n v ≡ none-present n w
-none-same n h = ap (λ e. not (present? e)) (sup-ext n h)
-
 module _ (t : Sheet) where
   open Sheet t using (panels, triggers, lag, after, land)
 
   spare-trimmed : (j : ℕ) → j < triggers → spare (trimmed t) j ≡ spare t j
   unfolding spare
   spare-trimmed j h =
-      ap₂ _&&_ (ap₂ _&&_ (ap₂ _&&_ (none-same panels (λ i q. rows-within panels triggers lag i j q h))
-      (none-same triggers (λ k q. rows-within triggers triggers after j k h q)))
-      (none-same triggers (λ k q. rows-within triggers triggers after k j q h)))
-      (none-same panels (λ i q. given-within triggers panels land j i h q))
+      ap₂ _&&_ (ap₂ _&&_ (ap₂ _&&_ (none-same panels _ _ (λ i q. ap present? (rows-within panels triggers lag i j q h)))
+      (none-same triggers _ _ (λ k q. ap present? (rows-within triggers triggers after j k h q))))
+      (none-same triggers _ _ (λ k q. ap present? (rows-within triggers triggers after k j q h))))
+      (none-same panels _ _ (λ i q. ap present? (given-within triggers panels land j i h q)))
 
   -- 14 is not met: a trigger that is not spare has a lag within the sizes
   pub no-lagless : (M : Measure) → Measured t M → by-spread? M && some-lagless (trimmed t) ≡ false
   no-lagless (by-marks p q) reached = refl
-  no-lagless by-spread reached = any-none (λ j. not (spare (trimmed t) j) && lagless (trimmed t) j) 0 (each triggers (λ j. j ∷ [])) (λ j q.
-      let h : j < triggers = omega (arith, length-each triggers (λ j. j)) in
-      rw (each-at triggers j (λ j. j) 0 h) (is-false _ (not-met j h)))
+  no-lagless by-spread reached = place-none triggers (λ j. not (spare (trimmed t) j) && lagless (trimmed t) j) (λ j h. is-false _ (not-met j h))
     where
       is-false : (b : Bool) → (T b → ⊥) → b ≡ false
       is-false true h = absurd (h tt)

@@ -4,9 +4,8 @@ use Rattle.sheet.specs.Sheet as spec
 use Rattle.sheet.specs.Cue.{used, order-table}
 use Rattle.tables.specs.Held.{Holds}
 use Rattle.spares.specs.Using.{PlacesOf}
-use Rattle.spares.proofs.PlaceLaws.{pickable}
 use Rattle.preparing.specs.Prepared.{Worded}
-use Rattle.preparing.proofs.Preparing.{panels-few, triggers-few, lags-of, places-used, cue-words}
+use Rattle.preparing.proofs.Preparing.{panels-few, triggers-few, lags-of, places-used, lags-picked, cue-words}
 use Rattle.preparing.proofs.cue_of.Statement.{statement}
 use Rattle.preparing.proofs.cue_of.Tie as tie
 
@@ -49,21 +48,31 @@ pick-tables-requires c κs =
     let p : tie.After-places-of = search in
     let (s, W) = start p .pre in (panels-few W, (_, _, found p s W))
 
-picked-requires : tie.Need-picked-requires
-picked-requires c κs =
+floor-by-requires : tie.Need-floor-by-requires
+floor-by-requires c κs =
+    let b : tie.Start = search in
+    b .pre
+
+due-by-requires : tie.Need-due-by-requires
+due-by-requires c κs =
+    let k : tie.After-pick-tables = search in
     let p : tie.After-places-of = search in
-    let (s, W) = start p .pre in pickable (found p s W)
+    let (s, W) = start p .pre in
+    let U = found p s W in
+    (s, W, U, lags-picked W U (k .pick-tables .ensures _ _ U) (lags p s W))
 
 returns : tie.Need-returns
 returns c s W =
-    let p : tie.After-places-of = search in
+    let f : tie.After-floor-by = search in
     let k : tie.After-pick-tables = search in
+    let p : tie.After-places-of = search in
     let U = found p s W in
+    let T = k .pick-tables .ensures _ _ U in
     record {
       sized = U .count-is;
       placed = U;
-      held = cue-words W U (orders p s W) (lags p s W) (k .pick-tables .ensures _ _ U) (c .picked .ensures);
+      held = cue-words W U (orders p s W) (lags p s W) T (f .floor-by .ensures s W) (c .due-by .ensures s W U (lags-picked W U T (lags p s W)));
     }
 
 pub cue-of-spec : {M : Type 1} → statement M
-cue-of-spec = tie.close (tie.spec table-requires order-of-requires places-of-requires pick-tables-requires picked-requires returns)
+cue-of-spec = tie.close (tie.spec table-requires order-of-requires places-of-requires pick-tables-requires floor-by-requires due-by-requires returns)
