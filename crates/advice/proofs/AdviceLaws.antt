@@ -106,9 +106,9 @@ short n (l ∷ L) h k = go (leb (length l) n) refl h (short n L) k
     go true e h ih zero = leb-true (length l) n e
     go true e h ih (suc k) = ih h k
 
-pub spoken-short : (k : ℕ) → length (nth-line (whole sentences) k) ≤ 300
+pub spoken-short : (k : ℕ) → length (nth-line (whole sentences) k) ≤ 400
 unfolding advice sentences bytes
-spoken-short k = rw spoken (short 300 ([] ∷ sentences) refl k)
+spoken-short k = rw spoken (short 400 ([] ∷ sentences) refl k)
 
 -- ---- the loop that looks for the line: what was put, and the line of what is left, are the line
 pub record Found (before after text : List ℕ) (number left end i : ℕ) : Type 0 where
@@ -203,7 +203,7 @@ pub answered : {out errors t u T S : List ℕ} {r q : ℕ} → Writes out r t �
     ((take r out ≡ T) × (((q ≤ length errors) × (q ≡ length (take q errors))) × (take q errors ≡ S)))
 answered w e v f = (counted _ _ (w .within), (w .text ∙ e, (counted _ _ (v .within), v .text ∙ f)))
 
--- ---- every number from 1 to 13 has a sentence
+-- ---- every number from 1 to 14 has a sentence
 some-at : (l : List (List ℕ)) (k : ℕ) → any none l ≡ false → k < length l → 0 < length (getD l k [])
 unfolding any
 some-at [] k h i = let x : ⊥ = omega arith in absurd x
@@ -211,7 +211,7 @@ some-at ([] ∷ l) k h i = absurd (let z : _≡_ {A = ℕ} 0 1 = cc in let x : �
 some-at ((b ∷ s) ∷ l) zero h i = omega arith
 some-at ((b ∷ s) ∷ l) (suc k) h i = some-at l k h (omega arith)
 
-pub advised : (k : ℕ) → 1 ≤ k → k ≤ 13 → 0 < length (advice k)
+pub advised : (k : ℕ) → 1 ≤ k → k ≤ 14 → 0 < length (advice k)
 unfolding advice sentences any bytes
 advised zero h l = let x : ⊥ = omega arith in absurd x
 advised (suc k) h l = some-at sentences k refl (omega arith)

@@ -5,13 +5,13 @@ use Prim.Native.Nat.{ℕ}
 use lib.ListN.{getD}
 use Rattle.sheet.specs.Text.{bytes}
 
--- those of 1 to 13, in order
+-- those of 1 to 14, in order
 unfoldable pub sentences : List (List ℕ)
 sentences =
     bytes "The sheet has more than 2048 bytes, and no right sheet is so long: look whether it is the right file.\n" ∷
-    (bytes "A line is missing or has a wrong key, number of items, numeral or line end: the lines are panels=, triggers=, lag= for each panel, " ++
-    bytes "floor=, due=, after= for each trigger, then land= for each trigger or none, then last= or none, in this order, with no spaces, " ++
-    bytes "LF after every line and nothing more.\n") ∷
+    (bytes "A line is missing or has a wrong key, number of items, numeral or line end: the lines are rule=2 or none, panels=, triggers=, lag= for " ++
+    bytes "each panel, floor= and due= where there is no rule=2, after= for each trigger, then land= for each trigger or none, then last= or none, " ++
+    bytes "in this order, with no spaces, LF after every line and nothing more.\n") ∷
     bytes "The number of panels or of triggers is not from 1 to 6: look at panels= and triggers=.\n" ∷
     bytes "A number is outside -100000 to 100000: look at the lag=, floor=, due=, after=, land= and last= lines.\n" ∷
     bytes "A due mark or a last moment is absent: the due= line needs a number for each trigger, the last= line one for each panel.\n" ∷
@@ -24,6 +24,8 @@ sentences =
     bytes "A time is outside -1000000000 to 1000000000 milliseconds: look at the times given.\n" ∷
     bytes "The number of panels or of triggers asked for is not from 1 to 6: look at the first two numbers given.\n" ∷
     bytes "The sheet asked for is longer than the space lent for it: 1133 bytes are always enough.\n" ∷
+    (bytes "A trigger that is not spare has no lag, and under rule=2 each needs one: look at its place in the lag= lines, or take it out of the " ++
+    bytes "after= and land= lines.\n") ∷
     []
 
 -- a refusal's sentence; nothing for a number that is no refusal's

@@ -5,17 +5,17 @@ ghost use Rattle.advice.specs.Advice.{advice};
 ghost use Rattle.advice.specs.Inner.{nth-line};
 ghost use Rattle.writing.specs.Writing.{Writes};
 
-// The sentence of a refusal, 1 to 13; nothing for another number. The longest has 296 bytes.
-pub fn advice_text(out: &mut [u8; 300], refusal: u8) -> usize
+// The sentence of a refusal, 1 to 14; nothing for another number. The longest has 340 bytes.
+pub fn advice_text(out: &mut [u8; 400], refusal: u8) -> usize
     ensures { λ r. ⌜ Writes (now (out .exit)) r (advice refusal) ⌝ }
 {
     // one text whose lines are the sentences in order: an arm for each would take the prover seconds
     put_nth(
         out,
         b"The sheet has more than 2048 bytes, and no right sheet is so long: look whether it is the right file.\n\
-A line is missing or has a wrong key, number of items, numeral or line end: the lines are panels=, triggers=, lag= for each panel, \
-floor=, due=, after= for each trigger, then land= for each trigger or none, then last= or none, in this order, with no spaces, \
-LF after every line and nothing more.\n\
+A line is missing or has a wrong key, number of items, numeral or line end: the lines are rule=2 or none, panels=, triggers=, lag= for \
+each panel, floor= and due= where there is no rule=2, after= for each trigger, then land= for each trigger or none, then last= or none, \
+in this order, with no spaces, LF after every line and nothing more.\n\
 The number of panels or of triggers is not from 1 to 6: look at panels= and triggers=.\n\
 A number is outside -100000 to 100000: look at the lag=, floor=, due=, after=, land= and last= lines.\n\
 A due mark or a last moment is absent: the due= line needs a number for each trigger, the last= line one for each panel.\n\
@@ -27,7 +27,9 @@ The list has more lines than there is space for: count= on standard output says 
 There are not as many times as triggers: give one for each trigger of the sheet, in order, split by commas.\n\
 A time is outside -1000000000 to 1000000000 milliseconds: look at the times given.\n\
 The number of panels or of triggers asked for is not from 1 to 6: look at the first two numbers given.\n\
-The sheet asked for is longer than the space lent for it: 1133 bytes are always enough.\n",
+The sheet asked for is longer than the space lent for it: 1133 bytes are always enough.\n\
+A trigger that is not spare has no lag, and under rule=2 each needs one: look at its place in the lag= lines, or take it out of the \
+after= and land= lines.\n",
         refusal,
     )
 }

@@ -24,6 +24,8 @@ use Rattle.sheet.specs.Sheet.{read, Sheet}
 use Rattle.sheet.specs.Cue.{cue-size, cue-of, Orderly}
 use Rattle.sheet.specs.Overruns.{overruns}
 use Rattle.sheet.proofs.Overruns.{in-time-early}
+use Rattle.sheet.specs.Good.{Measured}
+use Rattle.sheet.proofs.Good.{read-good}
 use Rattle.sheet.proofs.Seam.{at-used, tightest-cue}
 use Rattle.sheet.specs.Sheet as sheet
 use Rattle.sheet.specs.Times.{some-beyond}
@@ -179,6 +181,9 @@ module _ (s : String) (t : Sheet) (e : read (bytes s) ≡ sheet.got t []) (R : R
   abbrev pub early : (X : sheets.Timing) → Dec ((j : ℕ) → j < t .triggers → overruns t j ⊗ num (X j) ≼ unit)
   early X = all-dec (λ j. overruns t j ⊗ num (X j) ≼ unit) (λ j. ≼-dec (overruns t j ⊗ num (X j)) unit) (t .triggers)
 
+  measured : Measured t (t .measure)
+  measured = read-good (bytes s) t [] e .measured
+
   says : (X : sheets.Timing) → some-beyond (t .triggers) X ≡ false → (v : Bool) → Says (sheets.TightestInTime t X) v →
       answer v ≡ testing (bytes s) (t .triggers) X
   says X near v h =
@@ -187,13 +192,13 @@ module _ (s : String) (t : Sheet) (e : read (bytes s) ≡ sheet.got t []) (R : R
   pub says-yes : (X : sheets.Timing) → some-beyond (t .triggers) X ≡ false → T (decide (asked X)) → T (decide (early X)) →
       answer true ≡ testing (bytes s) (t .triggers) X
   says-yes X near y z = says X near true (record {
-    tightest = tightest-cue t X .1 (decide-yes (asked X) y);
+    tightest = tightest-cue t measured X .1 (decide-yes (asked X) y);
     in-time = in-time-early t X .1 (decide-yes (early X) z);
   })
 
   pub says-no : (X : sheets.Timing) → some-beyond (t .triggers) X ≡ false → ¬ (T (decide (asked X))) →
       answer false ≡ testing (bytes s) (t .triggers) X
-  says-no X near n = says X near false (λ h. n (decide-of (asked X) (tightest-cue t X .0 (h .tightest))))
+  says-no X near n = says X near false (λ h. n (decide-of (asked X) (tightest-cue t measured X .0 (h .tightest))))
 
   pub says-late : (X : sheets.Timing) → some-beyond (t .triggers) X ≡ false → ¬ (T (decide (early X))) →
       answer false ≡ testing (bytes s) (t .triggers) X

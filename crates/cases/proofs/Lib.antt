@@ -4,3 +4,4 @@ pub mod Cases
 pub mod LandCases
 pub mod SpareCases
 pub mod LastCases
+pub mod RuleCases

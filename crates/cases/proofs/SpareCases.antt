@@ -32,7 +32,8 @@ use Rattle.cue.specs.Method.{selections, steps, need, seed, ray, candidate, can
 use Rattle.cue.proofs.Order.{keeps?}
 use Rattle.cue.proofs.Deviation.{tightest?}
 use Rattle.sheet.specs.Text.{bytes}
-use Rattle.sheet.specs.Sheet.{literal, value, behind, signed, item, ended, items, any, checked, rows, row, table, sections, optional, read, Sheet, spare}
+use Rattle.sheet.specs.Sheet.{literal, value, behind, signed, item, ended, items, any, checked, rows, row, table, sections, optional, read}
+use Rattle.sheet.specs.Sheet.{Sheet, by-marks, spare}
 use Rattle.sheet.specs.Cue.{used, cue-size, order-table, cue-of, Orderly, orderly?, sheet-kept, sheet-byte, sheet-count, sheet-lines}
 use Rattle.sheet.specs.Overruns.{lowered}
 use Rattle.sheet.proofs.Spares.{cue-readable}
@@ -108,8 +109,7 @@ between-sheet =
       panels = 2;
       triggers = 3;
       lag = table ((num (pos 2) ∷ absent ∷ num (pos 0) ∷ []) ∷ (num (pos 4) ∷ absent ∷ num (pos 1) ∷ []) ∷ []);
-      floor = row (num (pos 5) ∷ num (pos 2) ∷ []);
-      due = λ j. val (row (num (pos 1) ∷ num (negsuc 49) ∷ num (pos 2) ∷ []) j);
+      measure = by-marks (row (num (pos 5) ∷ num (pos 2) ∷ [])) (λ j. val (row (num (pos 1) ∷ num (negsuc 49) ∷ num (pos 2) ∷ []) j));
       after = table ((absent ∷ absent ∷ absent ∷ []) ∷ (absent ∷ absent ∷ absent ∷ []) ∷ (absent ∷ absent ∷ absent ∷ []) ∷ []);
       land = none;
       last = none;
@@ -136,7 +136,7 @@ pub spare-cases-hold : Every CaseHolds spare-cases
 unfolding reaching reached-space admitted latest-exists latest-on lowered latest made fit planning space-after keeping sheet-byte sheet-count sheet-kept
     byte-of sheet-lines spare used rank place filled layout
     testing tightest? keeps? Keeps same-entry? deviation shortfall ordered orderly? order-table line-words
-    lent-words read sheet.lines sheet.line rows sections optional checked any ended items item signed value behind literal bytes least leastE steps
+    lent-words read sheet.lines sheet.ruled sheet.line rows sections optional checked any ended items item signed value behind literal bytes least leastE steps
     selections lines minimal needed? others combination? asked? met? under-dec fixings walk kept cut serves-as-well floor-panels through pull pullE
     overdue need seed ray candidate candidates no-gain? gain-or mm mv star power idm normal sup supL at line put sift each mapL sum val inv _⊗_
     _⊕_ maxz _+z_ neg decLe z-dec ≼-dec present-dec all-or all-dec any-dec dec-× dec-¬ dec-→ ltE-cmp ltL-cmp strict same? decide

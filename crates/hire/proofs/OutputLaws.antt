@@ -50,7 +50,7 @@ explained w k e = go (program-hire w) (program-known w) e
   where
     go : (o : HireOutcome) → Known o → o ≡ refused k → 0 < length (hire-complaint o)
     go (hired t x) h e = absurd (let z : _≡_ {A = ℕ} 0 1 = cc in let y : ⊥ = omega arith in y)
-    go (refused j) h e = advised j (let a = h .0 in omega arith) (h .1)
+    go (refused j) h e = advised j (let a = h .0 in omega arith) (let a = h .1 in omega arith)
 
 -- ---- the answer's texts are the outcome's
 module _ (r : Hired) where

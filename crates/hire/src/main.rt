@@ -36,7 +36,7 @@ fn answers(
     state: &[u8],
     number: &[u8],
     out: &mut [u8; 2048],
-    errors: &mut [u8; 300],
+    errors: &mut [u8; 400],
 ) -> Ends
     ensures { λ r. ⌜ Counts (r .text) (now (out .exit)) ⌝ }
     ensures { λ r. ⌜ take (r .text) (now (out .exit)) ≡
@@ -61,7 +61,7 @@ fn answers(
 }
 
 // How to call the program.
-fn usage_text(errors: &mut [u8; 300]) -> usize
+fn usage_text(errors: &mut [u8; 400]) -> usize
     ensures { λ r. ⌜ Counts r (now (errors .exit)) ⌝ }
     ensures { λ r. ⌜ Writes (now (errors .exit)) r usage ⌝ }
 {
@@ -73,7 +73,7 @@ fn usage_text(errors: &mut [u8; 300]) -> usize
 }
 
 // What the program writes for a good call.
-fn hired_text(asked: Call, out: &mut [u8; 2048], errors: &mut [u8; 300]) -> Ends
+fn hired_text(asked: Call, out: &mut [u8; 2048], errors: &mut [u8; 400]) -> Ends
     ensures { λ r. ⌜ ((w : Wanted) → asked ≡ held (got w []) → (Writes (now (out .exit)) (r .text) (hire-text (program-hire w)) ×
         Writes (now (errors .exit)) (r .complaint) (hire-complaint (program-hire w)))) ⌝ }
 {
@@ -177,7 +177,7 @@ fn write_sheet(number: &[u8]) {
     let mut state = [0u8; 131072];
     let state_end = os::arg(3, &mut state);
     let mut out = [0u8; 2048];
-    let mut errors = [0u8; 300];
+    let mut errors = [0u8; 400];
     let ends = answers(
         &panels[..panels_end],
         &triggers[..triggers_end],
@@ -206,7 +206,7 @@ fn main() {
             write_sheet(&number[..length]);
         }
         _ => {
-            let mut errors = [0u8; 300];
+            let mut errors = [0u8; 400];
             let usage = usage_text(&mut errors);
             io::write_all(2, &errors[..usage]);
         }

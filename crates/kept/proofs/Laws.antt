@@ -29,7 +29,7 @@ use Rattle.cue.specs.Sizes.{size-limit}
 
 abbrev pub Sound : KeptOutcome → Type 0
 Sound (kept D panels k l) = length panels ≤ size-limit
-Sound (refused k) = (1 ≤ k) × (k ≤ 8)
+Sound (refused k) = (1 ≤ k) × (k ≤ 14)
 
 -- a sheet that was read, whether or not its order can be kept
 ordered-sound : (s : List ℕ) (t : Sheet) (r : List ℕ) → read s ≡ got t r → (d : Dec (Orderly t)) →

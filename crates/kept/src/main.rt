@@ -7,7 +7,7 @@ ghost use Rattle.kept.specs.Output.{kept-output, kept-complaint};
 use text::Ends;
 
 // What the program writes for a sheet; the places behind the two texts.
-fn answer(bytes: &[u8], out: &mut [u8; 256], errors: &mut [u8; 300]) -> Ends
+fn answer(bytes: &[u8], out: &mut [u8; 256], errors: &mut [u8; 400]) -> Ends
     ensures { λ r. ⌜ Counts (r .text) (now (out .exit)) ⌝ }
     ensures { λ r. ⌜ take (r .text) (now (out .exit)) ≡ kept-output (keeping (now (bytes .entry))) ⌝ }
     ensures { λ r. ⌜ Counts (r .complaint) (now (errors .exit)) ⌝ }
@@ -44,7 +44,7 @@ fn main() {
     let mut sheet = [0u8; 2049];
     let length = io::read_full(0, &mut sheet);
     let mut out = [0u8; 256];
-    let mut errors = [0u8; 300];
+    let mut errors = [0u8; 400];
     let ends = answer(&sheet[..length], &mut out, &mut errors);
     let text = ends.text;
     io::write_all(1, &out[..text]);

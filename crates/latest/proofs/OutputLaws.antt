@@ -38,7 +38,7 @@ use Rattle.latest.specs.Output.{reached-text, reached-complaint, program
 abbrev Sound : ReachOutcome → Type 0
 Sound (reached n X caps L) = n ≤ size-limit
 Sound (full w k) = 2000 < k
-Sound (refused k) = (1 ≤ k) × (k ≤ 11)
+Sound (refused k) = (1 ≤ k) × (k ≤ 14)
 
 module _ (s : List ℕ) (count : ℕ) (G : Timing) where
   reach-sound : (g : Got Sheet) (e : admitted s count G ≡ g) → Sound (reach-of s count G (λ wide. 2000) g e)

@@ -24,14 +24,13 @@ use Rattle.cue.specs.Latest.{made, fit, latest}
 use Rattle.cue.specs.Method.{through, pullE, pull, leastE, least, floor-panels, serves-as-well, cut, walk, fixings, kept}
 use Rattle.cue.specs.Method.{selections, need, seed, ray, candidate, candidates, lines}
 use Rattle.sheet.specs.Text.{bytes}
-use Rattle.sheet.specs.Sheet.{literal, value, behind, signed, item, ended, items, any, checked, rows, sections, optional, read}
+use Rattle.sheet.specs.Sheet.{literal, value, behind, signed, item, ended, items, any, checked, rows, sections, optional, read, spare}
 use Rattle.sheet.specs.Sheet as sheet
 use Rattle.sheet.specs.Cue.{used, order-table, orderly?, sheet-lines}
 use Rattle.sheet.specs.Overruns.{overrun, lowered}
 use Rattle.sheet.specs.Ordered.{ordered}
 use Rattle.sheet.specs.Admitted.{admitted}
 use Rattle.sheet.specs.Meaning.{Timing}
-use Rattle.sheet.specs.Meaning.{spare}
 use Rattle.sheet.proofs.Latest.{latest-on, latest-exists}
 use Rattle.writing.specs.Numerals.{digits}
 use Rattle.writing.specs.Texts.{joined, latest-text, refusal-text, full-text}
@@ -59,7 +58,7 @@ pub texts-hold : program-text whole 2 (times (pos 0) (pos 2)) ∷ program-text w
     reached-text (full 7 2) ∷ program-text timed 2 (times (pos 5) (pos 5)) ∷ [] ≡
     bytes "latest=0,1\n" ∷ bytes "latest=1,2\n" ∷ bytes "refused=10\n" ∷ bytes "refused=11\n" ∷ bytes "refused=8\n" ∷ bytes "refused=2\n" ∷
     bytes "refused=9\ncount=2\n" ∷ bytes "latest=0,1\n" ∷ []
-unfolding program-text latest-text refusal-text full-text joined digits admitted ordered order-table orderly? read sheet.lines sheet.line rows
+unfolding program-text latest-text refusal-text full-text joined digits admitted ordered order-table orderly? read sheet.lines sheet.ruled sheet.line rows
     latest-exists latest-on lowered overrun sheet-lines spare used rank place filled layout sum latest fit made
     sections optional checked any ended items item signed value behind literal bytes least leastE shortfall selections
     lines minimal needed? others combination? asked? met? under-dec fixings walk kept cut serves-as-well floor-panels through pull pullE overdue need

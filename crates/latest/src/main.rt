@@ -17,7 +17,7 @@ fn answers(
     wish: Timing,
     space: &mut [i32; 16000],
     out: &mut [u8; 200],
-    errors: &mut [u8; 300],
+    errors: &mut [u8; 400],
 ) -> Ends
     ensures { λ r. ⌜ Counts (r .text) (now (out .exit)) ⌝ }
     ensures { λ r. ⌜ take (r .text) (now (out .exit)) ≡ program-text (now (bytes .entry)) (wish .count) (component (wish .at)) ⌝ }
@@ -57,7 +57,7 @@ fn reach_input(wish: Timing) {
     let length = io::read_full(0, &mut sheet);
     let mut space = [0i32; 16000];
     let mut out = [0u8; 200];
-    let mut errors = [0u8; 300];
+    let mut errors = [0u8; 400];
     let ends = answers(&sheet[..length], wish, &mut space, &mut out, &mut errors);
     let text = ends.text;
     io::write_all(1, &out[..text]);

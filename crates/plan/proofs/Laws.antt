@@ -43,7 +43,7 @@ use Rattle.plan.specs.Output.{text, complaint, program-plan, program-tex
 abbrev pub Sound : PlanOutcome → Type 0
 Sound (planned n s D k l caps L) = (n ≤ size-limit) × (length L ≤ 2000) × Fitting n L
 Sound (full w k) = 2000 < k
-Sound (refused k) = (1 ≤ k) × (k ≤ 8)
+Sound (refused k) = (1 ≤ k) × (k ≤ 14)
 
 abbrev program-of : Got Sheet → PlanOutcome
 program-of g = plan-of (λ wide. 2000) g

@@ -51,7 +51,7 @@ pub texts-hold : mapL program-text sheets ++ text (full 7 2) ∷ [] ≡
     bytes "deviation=2\nsteps=2\nselections=1\ncount=2\nline=-1,s,0\nline=0,s,-\n" ∷ bytes "refused=8\n" ∷ bytes "refused=2\n" ∷
     bytes "refused=9\ncount=2\n" ∷ []
 unfolding program-text text plan-text refusal-text full-text line-texts joined digits ordered used spare order-table orderly? sheet-lines cap
-    line-landing read sheet.lines sheet.line rows sections optional checked any ended items item signed value behind literal bytes least leastE
+    line-landing read sheet.lines sheet.ruled sheet.line rows sections optional checked any ended items item signed value behind literal bytes least leastE
     shortfall steps selections lines minimal needed? others combination? asked? met? under-dec fixings walk kept cut serves-as-well floor-panels
     through pull pullE overdue need seed ray candidate candidates no-gain? gain-or mm mv star power idm normal sup supL at line rank place filled
     layout put sift each mapL sum val inv _⊗_ _⊕_ maxz _+z_ neg decLe z-dec ≼-dec present-dec all-or all-dec any-dec dec-× dec-¬ dec-→

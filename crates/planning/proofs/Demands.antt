@@ -22,13 +22,14 @@ use Rattle.sheet.specs.Sheet as sheet
 use Rattle.sheet.specs.Cue.{used, order-table, Orderly, orderly?, sheet-least, sheet-steps, sheet-selections, sheet-caps, sheet-lines}
 use Rattle.sheet.specs.Cue.{most-steps}
 use Rattle.sheet.proofs.Fits.{all-fit}
+use Rattle.sheet.proofs.Spread.{least-not-negative}
 use Rattle.sheet.specs.Good.{Good}
 use Rattle.sheet.proofs.Good.{read-good}
 use Rattle.planning.specs.Planning.{PlanOutcome, planned, full, refused, plan-of, planning, space-after, plan-answer}
 use Rattle.sheet.specs.Ordered.{ordered}
 use Rattle.sheet.proofs.OrderedLaws.{ordered-by}
 use Rattle.planning.specs.Demands.{Planned, deviation-of, count-of, written, lines-written, Least, Demand-2, Demand-8, TwoPlans, SameWritten}
-use Rattle.planning.specs.Demands.{Demand-3, Demand-3-whole, Last-ignored, Steps-at-most}
+use Rattle.planning.specs.Demands.{Demand-3, Demand-3-whole, Last-ignored, Not-negative, Steps-at-most}
 
 -- ---- a planning without refusal is the plan of the sheet's tables
 abbrev pub plan : Sheet → PlanOutcome
@@ -167,6 +168,12 @@ last-ignored s₁ s₂ t₁ t₂ space₁ space₂ two e =
       written-lists s₁ s₂ t₁ t₂ space₁ space₂ two .1
           (ap (λ t. length (sheet-lines t)) e, ap (λ t. list-words (t .triggers) (sheet-lines t)) e),
     )
+
+-- ---- rule 2
+pub not-negative : Not-negative
+not-negative s t r space e m h =
+    let k = known s t r e space h in
+    rw (ap deviation-of (k .plan-is)) (least-not-negative t (k .good) (k .orderly) m)
 
 -- ---- steps
 pub steps-at-most : Steps-at-most

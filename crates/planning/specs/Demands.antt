@@ -5,13 +5,14 @@ use mathlib.Core.List.{List}
 use mathlib.Core.Option.{none, some}
 use Prim.Native.Nat.{ℕ, _*_, _≤_, _<_}
 use lib.Dec.{T}
-use lib.IntN.{ℤ}
+use lib.IntN.{ℤ, pos}
 use lib.ListN.{length, take}
+use Rattle.maxplus.specs.Whole.{_≤z_}
 use Rattle.maxplus.specs.Entry.{absent, num, _≼_, Present}
 use Rattle.maxplus.specs.Finite.{In, byte-of}
 use Rattle.maxplus.specs.Line.{Line, at}
 use Rattle.cue.specs.Written.{lent-words, uncapped}
-use Rattle.sheet.specs.Sheet.{got, Sheet, read, spare}
+use Rattle.sheet.specs.Sheet.{got, Sheet, by-spread, read, spare}
 use Rattle.sheet.specs.Meaning.{Timing, Keeps, deviation, InTime, Weighed, line-landing, Cap, Capped, SameSpares, SameTimings}
 use Rattle.sheet.specs.Cue.{sheet-lines, cap, sheet-caps, most-steps}
 use Rattle.planning.specs.Planning.{PlanOutcome, planned, full, refused, planning, space-after, plan-answer}
@@ -66,7 +67,8 @@ Demand-8 = (s : List ℕ) (t : Sheet) (r : List ℕ) (space : List ℤ) → read
 abbrev pub lines-written : PlanOutcome → List ℤ → List ℤ
 lines-written o space = uncapped (width-of o) (count-of o) (space-after o space)
 
--- ---- demand 3: two sheets with equal numbers of triggers, each planned without refusal, whatever the spaces held and however large each was
+-- ---- demand 3: two sheets with equal numbers of triggers, each planned without refusal, whatever the spaces held and however large each was;
+-- "compared sheets may follow different rules" (document 02, No. 7)
 pub record TwoPlans (s₁ s₂ : List ℕ) (t₁ t₂ : Sheet) (space₁ space₂ : List ℤ) : Type 0 where
   pub rest₁ : List ℕ
   pub rest₂ : List ℕ
@@ -110,6 +112,11 @@ Last-ignored = (s₁ s₂ : List ℕ) (t₁ t₂ : Sheet) (space₁ space₂ : L
     let p = plan-answer (planning s₁ space₁) in
     let q = plan-answer (planning s₂ space₂) in
     (p .deviation ≡ q .deviation) × (p .steps ≡ q .steps) × (p .selections ≡ q .selections) × SameWritten s₁ s₂ space₁ space₂
+
+-- ---- the spread of landings is never below 0, and so is no deviation that is returned under rule 2 (document 02, No. 7)
+abbrev pub Not-negative : Type 0
+Not-negative = (s : List ℕ) (t : Sheet) (r : List ℕ) (space : List ℤ) → read s ≡ got t r → t .measure ≡ by-spread → Planned (planning s space) →
+    pos 0 ≤z deviation-of (planning s space)
 
 -- ---- "With f panels that have a floor, steps is at most n + n² + ... + n to the power f": the number that is returned
 abbrev pub Steps-at-most : Type 0

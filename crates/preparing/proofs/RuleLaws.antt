@@ -63,7 +63,7 @@ module _ {s : Sheet} {t : SheetWords} (W : Worded s t) where
           go (s .measure) (sym ruled-of ∙ e) (trigger-at s k);
     }
       where
-        go : (M : Measure) → by-spread? M ≡ false → (j : ℕ) → own-due M j ≡ num (due-by s M j)
+        go : (M : Measure) → by-spread? M ≡ false → (j : ℕ) → own-due M j ≡ num (due-by (s .panels) (s .lag) M j)
         go (by-marks p q) e j = refl
         go by-spread e j = absurd (true-not-false e)
 
@@ -119,5 +119,5 @@ module _ {s : Sheet} {t : SheetWords} (W : Worded s t) where
             at = λ k q. (rw (U .count-is) at hd) .at k q ∙
                 ap₂ (λ a b. a ⊗ inv b) (ap entry zero-is ∙ word-held (num (pos 0)) zero-near) (farthest-held .at k q) ∙ ⊗-unit _ ∙
                 ap inv (sym (farthest-due s (subst (Measured s) spread-is (W .good .measured)) (λ j. pos 0) k q)) ∙ inv-inv _ ∙
-                ap (λ M. num (due-by s M (trigger-at s k))) (sym spread-is);
+                ap (λ M. num (due-by (s .panels) (s .lag) M (trigger-at s k))) (sym spread-is);
           }

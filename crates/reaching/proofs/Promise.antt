@@ -62,7 +62,7 @@ module _ (s : List ℕ) (count : ℕ) (G : Timing) (space : List ℤ) (t : Sheet
   reaches : planning s space ≡ plan → Reaches s t G space whole
   unfolding space-after reached-space
   reaches p =
-      let latest = latest-same t handed (latest-exists s count G t x e .1) in
+      let latest = latest-same t good handed (latest-exists s count G t x e .1) in
       record {
         latest = latest;
         only = λ X h j q. latest-one h latest j q;

@@ -110,7 +110,7 @@ module _ (two : Bool) (m n : ℕ) (s : List ℕ) {ts : List (List (List E))} {x 
 -- a sheet's own due marks are as large as they are read, those of rule 2 as a lag
 due-within : (t : Sheet) → ((i j : ℕ) → i < t .panels → j < t .triggers → Within limit limit (t .lag i j)) →
     ((j : ℕ) → j < t .triggers → Within limit limit (own-due (t .measure) j)) →
-    (j : ℕ) → j < t .triggers → Within limit limit (num (due-by t (t .measure) j))
+    (j : ℕ) → j < t .triggers → Within limit limit (num (due-by (t .panels) (t .lag) (t .measure) j))
 unfolding val neg
 due-within t lags dues j h = go (t .measure) dues
   where
@@ -118,7 +118,7 @@ due-within t lags dues j h = go (t .measure) dues
     number absent w = in-range (num (pos 0)) refl
     number (num z) w = rw (inv-num z) at (within-inv w)
 
-    go : (M : Measure) → ((j : ℕ) → j < t .triggers → Within limit limit (own-due M j)) → Within limit limit (num (due-by t M j))
+    go : (M : Measure) → ((j : ℕ) → j < t .triggers → Within limit limit (own-due M j)) → Within limit limit (num (due-by (t .panels) (t .lag) M j))
     go (by-marks p q) d = d j h
     go by-spread d = number _ (within-sup (t .panels) _ (λ i k. lags i j k h))
 

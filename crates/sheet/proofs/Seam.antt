@@ -100,7 +100,7 @@ module _ (t : Sheet) where
 
   pub cue-limited : ((i j : ℕ) → i < t .panels → j < t .triggers → Within limit limit (t .lag i j)) →
       ((i : ℕ) → i < t .panels → Within limit limit (floor-by (t .measure) i)) →
-      ((j : ℕ) → j < t .triggers → Within limit limit (num (due-by t (t .measure) j))) →
+      ((j : ℕ) → j < t .triggers → Within limit limit (num (due-by (t .panels) (t .lag) (t .measure) j))) →
       ((i j : ℕ) → i < t .triggers → j < t .triggers → Within limit limit (t .after i j)) →
       ((i j : ℕ) → i < t .triggers → j < t .panels → Within limit limit (land i j)) →
       Limited (cue-size t) limit order-limit (cue-of t)
@@ -167,7 +167,7 @@ module _ (t : Sheet) where
     farthest k = sup (t .panels) (λ i. t .lag i (trigger-at t k))
 
     -- each trigger in use has a lag (14), so that minus its due mark is its largest lag
-    pub farthest-due : (k : ℕ) → k < cue-size t → inv (num (due-by t by-spread (trigger-at t k))) ≡ farthest k
+    pub farthest-due : (k : ℕ) → k < cue-size t → inv (num (due-by (t .panels) (t .lag) by-spread (trigger-at t k))) ≡ farthest k
     unfolding inv
     farthest-due k hk =
         let p = placed (used t) (t .triggers) k hk in
@@ -175,7 +175,7 @@ module _ (t : Sheet) where
         ap num (neg-neg _) ∙ sym (val-of (farthest k) (≼-back e ▸ sup-ub (t .panels) (λ i. t .lag i (trigger-at t k)) i hi))
 
     -- x(j) and the largest lag of j are the latest landing that j makes, so that the largest of these is the latest of all
-    latest-cue : latest-landing t X ≡ cue.overdue (cue-size t) (timing (at-used (due-by t by-spread))) (timing (at-used X))
+    latest-cue : latest-landing t X ≡ cue.overdue (cue-size t) (timing (at-used (due-by (t .panels) (t .lag) by-spread))) (timing (at-used X))
     unfolding latest-landing cue.overdue mv
     latest-cue = sup-ext (t .panels) (λ i hi. landing-cue X i hi) ∙
         sup-comm (t .panels) (cue-size t) (λ i k. t .lag i (trigger-at t k) ⊗ num (X (trigger-at t k))) ∙
@@ -189,9 +189,9 @@ module _ (t : Sheet) where
     earliest-cue = inv-inv _ ∙ sup-ext (t .panels) (λ i hi. ap inv (landing-cue X i hi) ∙ sym (⊗-unit _))
 
     -- the marks of rule 2 as those of a sheet: "every floor counts as 0 and due j as minus the largest lag of trigger j"
-    pub spread-marks : spread t X ≡ overdue t (due-by t by-spread) X ⊗ shortfall t (floor-by by-spread) X
+    pub spread-marks : spread t X ≡ overdue t (due-by (t .panels) (t .lag) by-spread) X ⊗ shortfall t (floor-by by-spread) X
     unfolding spread
-    spread-marks = ap₂ _⊗_ (latest-cue ∙ sym (overdue-cue (due-by t by-spread) X)) (earliest-cue ∙ sym (shortfall-cue (floor-by by-spread) X))
+    spread-marks = ap₂ _⊗_ (latest-cue ∙ sym (overdue-cue (due-by (t .panels) (t .lag) by-spread) X)) (earliest-cue ∙ sym (shortfall-cue (floor-by by-spread) X))
 
   -- ---- either source of marks
   pub deviation-cue : Measured t (t .measure) → (X : Timing) → deviation t X ≡ vectors.deviation (cue-size t) (cue-of t) (timing (at-used X))
@@ -199,7 +199,7 @@ module _ (t : Sheet) where
   deviation-cue m X = go (t .measure) m
     where
       go : (M : Measure) → Measured t M → deviation-by t M X ≡
-          cue.overdue (cue-size t) (timing (at-used (due-by t M))) (timing (at-used X)) ⊗
+          cue.overdue (cue-size t) (timing (at-used (due-by (t .panels) (t .lag) M))) (timing (at-used X)) ⊗
           cue.shortfall (t .panels) (cue-size t) (cue-of t .lag) (floor-by M) (timing (at-used X))
       go (by-marks p q) m = ap₂ _⊗_ (overdue-cue q X) (shortfall-cue p X)
       go by-spread m = unfold spread in ap₂ _⊗_ (latest-cue m X) (earliest-cue m X)

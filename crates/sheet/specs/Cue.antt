@@ -40,13 +40,13 @@ abbrev pub floor-by : Measure → Vec
 floor-by (by-marks p q) = p
 floor-by by-spread = λ i. num (pos 0)
 
-abbrev pub due-by : Sheet → Measure → ℕ → ℤ
-due-by t (by-marks p q) = q
-due-by t by-spread = λ j. neg (val (sup (t .panels) (λ i. t .lag i j)))
+abbrev pub due-by : (panels : ℕ) (lag : Mat) → Measure → ℕ → ℤ
+due-by m A (by-marks p q) = q
+due-by m A by-spread = λ j. neg (val (sup m (λ i. A i j)))
 
 -- the tables of all triggers, spare ones too
 abbrev pub whole-cue : Sheet → Cue
-whole-cue t = record { panels = t .panels; lag = t .lag; floor = floor-by (t .measure); due = due-by t (t .measure); order = order-table t }
+whole-cue t = record { panels = t .panels; lag = t .lag; floor = floor-by (t .measure); due = due-by (t .panels) (t .lag) (t .measure); order = order-table t }
 
 -- those of the triggers at ι 0, ι 1 and so on alone
 abbrev pub only : (ℕ → ℕ) → Cue → Cue

@@ -21,7 +21,7 @@ module _ (t : Sheet) (X : Timing) where
   pub record ByRule2 : Type 0 where
     pub bounds : Bounds
     pub measured : deviation t X ≡ spread t X
-    pub as-marks : spread t X ≡ overdue t (due-by t by-spread) X ⊗ shortfall t (floor-by by-spread) X
+    pub as-marks : spread t X ≡ overdue t (due-by (t .panels) (t .lag) by-spread) X ⊗ shortfall t (floor-by by-spread) X
     pub not-negative : num (pos 0) ≼ deviation t X
 
 abbrev pub Rule-2 : Type 0

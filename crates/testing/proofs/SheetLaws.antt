@@ -22,6 +22,7 @@ use Rattle.sheet.specs.Overruns.{overruns}
 use Rattle.sheet.specs.Meaning.{Timing, Tightest, InTime, TightestInTime}
 use Rattle.sheet.specs.Times.{far-limit}
 use Rattle.sheet.specs.Cue.{cue-size, cue-of}
+use Rattle.sheet.specs.Good.{Good}
 use Rattle.sheet.proofs.Seam.{at-used, tightest-cue}
 use Rattle.sheet.proofs.Overruns.{in-time-early}
 use Rattle.tables.specs.Held.{meantV, HoldsV, Closely, CloselyV, Says}
@@ -53,15 +54,15 @@ module _ {P : theory.Cue} {orders lags : List (List ℕ)} {c : CueWords} (H : Ho
       }
 
 -- tightest on the cue is tightest on the sheet
-over-seam : (t : Sheet) (X : Timing) (v : Bool) → Says (vectors.Tightest (cue-size t) (cue-of t) (at-used t X)) v → Says (Tightest t X) v
-over-seam t X true h = tightest-cue t X .1 h
-over-seam t X false h = λ g. h (tightest-cue t X .0 g)
+over-seam : (t : Sheet) → Good t → (X : Timing) (v : Bool) → Says (vectors.Tightest (cue-size t) (cue-of t) (at-used t X)) v → Says (Tightest t X) v
+over-seam t G X true h = tightest-cue t (G .measured) X .1 h
+over-seam t G X false h = λ g. h (tightest-cue t (G .measured) X .0 g)
 
 module _ {s : Sheet} {orders lags stars gains needs : List (List ℕ)} {r : Prepared} (M : Made s orders lags stars gains needs r) where
   tested-on : (X : Timing) (v : Bool) →
       TestSays (r .cue .panels) (r .cue .triggers) orders lags (r .cue .floor) (r .cue .due) (r .marked .least) (at-used s X) v →
       Says (Tightest s X) v
-  tested-on X v T = over-seam s X v (subst (λ n. Says (vectors.Tightest n (cue-of s) (at-used s X)) v) (M .sized)
+  tested-on X v T = over-seam s (M .good) X v (subst (λ n. Says (vectors.Tightest n (cue-of s) (at-used s X)) v) (M .sized)
       (T .tightest (cue-of s)
       (sheet-words (M .held) (r .marked .least) (M .marked .deviation ∙ ap (λ n. num (least n (cue-of s))) (sym (M .sized))))
       (M .held .readable)

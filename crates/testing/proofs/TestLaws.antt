@@ -43,11 +43,11 @@ module _ (s : List ℕ) (count : ℕ) (X : Timing) where
 refused-same : {j k : ℕ} → _≡_ {A = TestOutcome} (refused k) (refused j) → j ≡ k
 refused-same e = cc
 
-pub known-number : (s : List ℕ) (count : ℕ) (X : Timing) (k : ℕ) → refused k ≡ testing s count X → (1 ≤ k) × (k ≤ 11)
+pub known-number : (s : List ℕ) (count : ℕ) (X : Timing) (k : ℕ) → refused k ≡ testing s count X → (1 ≤ k) × (k ≤ 14)
 unfolding testing
 known-number s count X k a = go (admitted s count X) refl a
   where
-    go : (g : Got Sheet) → admitted s count X ≡ g → refused k ≡ tests g (decide (tightest? s X)) → (1 ≤ k) × (k ≤ 11)
+    go : (g : Got Sheet) → admitted s count X ≡ g → refused k ≡ tests g (decide (tightest? s X)) → (1 ≤ k) × (k ≤ 14)
     go (spec.refused j) e a = let h = refused-same a in let n = admitted-known s count X j e in (omega (arith, n .0), omega (arith, n .1))
     go (got t r) e a = let z : _≡_ {A = ℕ} 0 1 = cc in let x : ⊥ = omega arith in absurd x
 

@@ -23,7 +23,7 @@ fn answer(tested: Tested, out: &mut [u8; 64]) -> usize
 }
 
 // What it writes on standard error; the place behind it.
-fn complaint(tested: Tested, errors: &mut [u8; 300]) -> usize
+fn complaint(tested: Tested, errors: &mut [u8; 400]) -> usize
     ensures { λ r. ⌜ Counts r (now (errors .exit)) ⌝ }
     ensures { λ r. ⌜ take r (now (errors .exit)) ≡ tested-complaint (test-answer tested) ⌝ }
 {
@@ -35,7 +35,7 @@ fn complaint(tested: Tested, errors: &mut [u8; 300]) -> usize
 }
 
 // What the program writes for a sheet and a timing; the places behind the two texts.
-fn answers(bytes: &[u8], timing: Timing, out: &mut [u8; 64], errors: &mut [u8; 300]) -> Ends
+fn answers(bytes: &[u8], timing: Timing, out: &mut [u8; 64], errors: &mut [u8; 400]) -> Ends
     ensures { λ r. ⌜ Counts (r .text) (now (out .exit)) ⌝ }
     ensures { λ r. ⌜ take (r .text) (now (out .exit)) ≡ tested-text (testing (now (bytes .entry)) (timing .count) (component (timing .at))) ⌝ }
     ensures { λ r. ⌜ Counts (r .complaint) (now (errors .exit)) ⌝ }
@@ -56,7 +56,7 @@ fn test_input(timing: Timing) {
     let mut sheet = [0u8; 2049];
     let length = io::read_full(0, &mut sheet);
     let mut out = [0u8; 64];
-    let mut errors = [0u8; 300];
+    let mut errors = [0u8; 400];
     let ends = answers(&sheet[..length], timing, &mut out, &mut errors);
     let text = ends.text;
     io::write_all(1, &out[..text]);
