@@ -1,7 +1,7 @@
 /*
  * The whole case from C: plans it, chooses times from its lines, tests them, finds the latest that are no later than wished, plans it for a
- * desk with an idle trigger and with last moments, and compares it with other sheets; then makes a sheet to try and plans that. From the
- * root of the repository:
+ * desk with an idle trigger, with last moments and by the spread of landings, and compares it with other sheets; then makes a sheet to try and
+ * plans that. From the root of the repository:
  *
  *     rt staticlib planner_c
  *     cc -std=c99 -Wall -Wextra -Iembed/c embed/c/example.c target/staticlib/libplanner_c.a -o target/example
@@ -77,6 +77,15 @@ static const char DOWNBEAT[] = "panels=2\n"
                                "after=-,-\n"
                                "after=-,-\n"
                                "last=6,6\n";
+
+/* The whole case in a house that goes by the spread of landings: without marks. */
+static const char SPREAD[] = "rule=2\n"
+                             "panels=2\n"
+                             "triggers=2\n"
+                             "lag=2,0\n"
+                             "lag=4,1\n"
+                             "after=-,-\n"
+                             "after=-,-\n";
 
 static int32_t space[WORDS], other_space[WORDS];
 
@@ -177,6 +186,16 @@ static void print_downbeat(void)
     print_latest(DOWNBEAT, wished, 2);
 }
 
+/* Rule 2: the deviation is the latest landing less the earliest. */
+static void print_spread(void)
+{
+    const int64_t as_listed[2] = {0, 0};
+    struct tuzhelar_planned planned = tuzhelar_plan_sheet(SPREAD, strlen(SPREAD), space, WORDS);
+    printf("under rule 2 deviation=%" PRId64 "\n", planned.deviation);
+    print_lines(&planned);
+    choose(SPREAD, &planned, as_listed);
+}
+
 /* Whether the same timings are tightest on another sheet. */
 static void print_compared(const char *name, const char *other)
 {
@@ -234,11 +253,13 @@ int main(void)
 
     print_idle();
     print_downbeat();
+    print_spread();
 
     print_compared("panels exchanged", EXCHANGED);
     print_compared("trigger 2 due at 3", LATER);
     print_compared("a desk with an idle trigger", IDLE);
     print_compared("with last moments", DOWNBEAT);
+    print_compared("under rule 2", SPREAD);
 
     print_hired();
     print_refused();

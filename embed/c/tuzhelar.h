@@ -40,7 +40,7 @@ extern "C" {
 #define TUZHELAR_HIRE_BYTES 1133  /* bytes that are always enough for such a sheet: no good sheet has more */
 #define TUZHELAR_LAST_TIME 1000000000 /* a time beyond this, or below minus this, is refused, 11 */
 
-/* What the functions return: 0 for done, a refusal 1 to 13, for a tested timing yes or no, for two sheets one of three. */
+/* What the functions return: 0 for done, a refusal 1 to 14, for a tested timing yes or no, for two sheets one of three. */
 #define TUZHELAR_DONE 0u
 #define TUZHELAR_TOO_LONG 1u
 #define TUZHELAR_FORM 2u
@@ -55,6 +55,7 @@ extern "C" {
 #define TUZHELAR_TIME 11u
 #define TUZHELAR_HIRE_SIZE 12u
 #define TUZHELAR_SHEET_SPACE 13u
+#define TUZHELAR_NO_TRIGGER_LAG 14u
 #define TUZHELAR_YES 100u
 #define TUZHELAR_NO 101u
 #define TUZHELAR_SAME 100u
@@ -83,6 +84,11 @@ extern "C" {
  * else, and its time may be any that is not refused, 11. A line's first word counts the spare triggers too; their components
  * are absent in every line, and no other trigger's are.
  *
+ * A sheet that begins with the line rule=2 has no floor and due lines. Its deviation is the spread of landings, the latest less
+ * the earliest of all panels, which is never below 0: every floor counts as 0 there, and a trigger's due mark as minus its
+ * largest lag. Each trigger that is not spare needs a lag, 14; this is a refusal of the sheet's bytes, as 1 to 7 are, and comes
+ * behind these and before all others. What else is said here of sheets is said of either rule.
+ *
  * A sheet with a last line gives each panel a last moment. Times are in time if no panel lands later than that, and a line's
  * cap is the largest weight with which it is in time itself. Times are tightest and in time exactly when they combine all the
  * lines with weights no greater than their caps, spare triggers left aside. Deviation, steps, selections, lines, the kept
@@ -91,7 +97,7 @@ extern "C" {
  */
 
 /*
- * Planning. Returns 0 or the refusal, 1 to 9.
+ * Planning. Returns 0 or the refusal: 1 to 7 or 14; then 8; then 9.
  *
  *   0        the list stands at the front of `space`, and the rest of the space is as it was; answer[0] to answer[5] are
  *            deviation, steps, selections, count, the spare triggers, a byte with bit 0 for trigger 1, and how many words each
@@ -99,7 +105,7 @@ extern "C" {
  *   9        the list has more lines than the space holds, which is space_length / 7 rounded down, or space_length / 8 on a
  *            sheet with a last line: answer[3] is the count needed, answer[5] how many words each line takes, and no other word
  *            is written.
- *   1 to 8   no word is written.
+ *   other    no word is written.
  *
  * A word of the answer that is at or past `answer_length` is dropped, and words past the sixth stay as they were.
  * sheet_length 0 is 2, above 2,048 it is 1. With space_length 0 to 6 a sheet that has a plan is 9: no list is empty.
@@ -108,20 +114,20 @@ uint32_t tuzhelar_plan(const uint8_t *sheet, size_t sheet_length, int32_t *space
                        size_t answer_length);
 
 /*
- * Kept table and walk. Returns 0 or the refusal, 1 to 8.
+ * Kept table and walk. Returns 0 or the refusal: 1 to 7 or 14; then 8.
  *
  *   0        answer[0] to answer[3] are deviation, steps, selections and the number of panels. For panel i, from 0, answer[4 + 2 i]
  *            is its byte, bit j for trigger j + 1, and answer[5 + 2 i] the number of bits set: 0 and 0 for a panel without a
  *            floor and for one that the sheet does not have. A spare trigger's bit is never set.
- *   1 to 8   no word is written.
+ *   other    no word is written.
  *
  * A word of the answer that is at or past `answer_length` is dropped, and words past the sixteenth stay as they were.
  */
 uint32_t tuzhelar_kept(const uint8_t *sheet, size_t sheet_length, int64_t *answer, size_t answer_length);
 
 /*
- * Testing a timing. Returns 100 if the times are tightest and in time, 101 if they are not, or the refusal: 1 to 7; then 10,
- * `times_length` is not the sheet's number of triggers; then 11, a time is beyond +-1,000,000,000; then 8.
+ * Testing a timing. Returns 100 if the times are tightest and in time, 101 if they are not, or the refusal: 1 to 7 or 14; then
+ * 10, `times_length` is not the sheet's number of triggers; then 11, a time is beyond +-1,000,000,000; then 8.
  *
  * It writes nothing. As many times are tested as are lent: none is made up, and of more than six, which are always 10 where
  * the sheet is not refused before, none is looked at. A spare trigger has a time too; for 10 and 11 it is as any other, and
@@ -131,15 +137,15 @@ uint32_t tuzhelar_test(const uint8_t *sheet, size_t sheet_length, const int64_t 
 
 /*
  * The latest times that are tightest, in time and no later than given ones: none of them exceeds the given time in its place, and
- * each is at least as late as in any other such times. There always are some. Returns 0 or the refusal: 1 to 7; then 10,
+ * each is at least as late as in any other such times. There always are some. Returns 0 or the refusal: 1 to 7 or 14; then 10,
  * `times_length` is not the sheet's number of triggers; then 11, a given time is beyond +-1,000,000,000; then 8; then 9.
  *
- *   0               the list stands at the front of `space`, as tuzhelar_plan writes it, and the rest of the space is as it was;
- *                   answer[0] is its number of lines, answer[1] to answer[6] are the times, 0 past the sheet's number of
- *                   triggers, and answer[7] is how many words each line takes, seven or eight.
- *   9               the list has more lines than the space holds: answer[0] is the count needed, answer[7] how many words each
- *                   line takes, and no other word is written.
- *   1 to 8, 10, 11  no word is written.
+ *   0        the list stands at the front of `space`, as tuzhelar_plan writes it, and the rest of the space is as it was;
+ *            answer[0] is its number of lines, answer[1] to answer[6] are the times, 0 past the sheet's number of triggers, and
+ *            answer[7] is how many words each line takes, seven or eight.
+ *   9        the list has more lines than the space holds: answer[0] is the count needed, answer[7] how many words each line
+ *            takes, and no other word is written.
+ *   other    no word is written.
  *
  * A word of the answer that is at or past `answer_length` is dropped, and words past the eighth stay as they were. As many
  * times are taken as are lent, as tuzhelar_test has it. Given times that are tightest and in time come back as they are, and the
@@ -150,8 +156,8 @@ uint32_t tuzhelar_latest(const uint8_t *sheet, size_t sheet_length, const int64_
                          size_t space_length, int64_t *answer, size_t answer_length);
 
 /*
- * Comparing two sheets: whether the same timings are tightest on both. Last moments and caps have no part in this, and one
- * sheet may have a last line where the other has none. Returns
+ * Comparing two sheets: whether the same timings are tightest on both. Last moments and caps have no part in this: one sheet may
+ * have a last line where the other has none, and one may follow rule 2 where the other has marks. Returns
  *
  *   100          every timing is tightest on both sheets or on neither;
  *   101          some timing is tightest on one of them only;
@@ -159,9 +165,9 @@ uint32_t tuzhelar_latest(const uint8_t *sheet, size_t sheet_length, const int64_
  *                For these three each list stands at the front of its space, as tuzhelar_plan writes it, and the rest of the space
  *                is as it was: the first sheet's in `left`, the second's in `right`. answer[0] and answer[1] are their numbers of
  *                lines, answer[2] and answer[3] how many words each of these lines takes, seven or eight.
- *   1 to 9       planning refuses the first sheet; for 9 answer[0] is the count needed, answer[2] how many words each line takes.
- *   201 to 209   planning refuses the second, with a number 200 less, and not the first; for 209 answer[1] is the count needed,
- *                answer[3] how many words each line takes.
+ *   1 to 9, 14   planning refuses the first sheet; for 9 answer[0] is the count needed, answer[2] how many words each line takes.
+ *   201 to 209,  planning refuses the second, with a number 200 less, and not the first; for 209 answer[1] is the count needed,
+ *   214          answer[3] how many words each line takes.
  *                A refusal of either changes no word of either space, and writes no other word of the answer.
  *
  * A word of the answer that is at or past `answer_length` is dropped, and words past the fourth stay as they were.
@@ -170,8 +176,9 @@ uint32_t tuzhelar_same(const uint8_t *first, size_t first_length, const uint8_t 
                        size_t left_length, int32_t *right, size_t right_length, int64_t *answer, size_t answer_length);
 
 /*
- * Making a sheet to try: the sizes and a state make one sheet, without land or last lines and the same wherever it is made, and
- * the next state. Returns 0 or the refusal: 12, a size is not 1 to 6; then 13, the sheet is longer than `bytes_length`.
+ * Making a sheet to try: the sizes and a state make one sheet, with marks and without land or last lines, the same wherever it
+ * is made, and the next state. Returns 0 or the refusal: 12, a size is not 1 to 6; then 13, the sheet is longer than
+ * `bytes_length`.
  *
  *   0        the sheet stands at the front of `bytes`, and the rest of the bytes is as it was; answer[0] is how many bytes it
  *            takes, answer[1] the next state.
@@ -200,7 +207,7 @@ uint32_t tuzhelar_hire(size_t panels, size_t triggers, uint32_t state, uint8_t *
  */
 
 struct tuzhelar_planned {
-    uint32_t refusal;   /* 0, or 1 to 9 */
+    uint32_t refusal;   /* 0, or 1 to 9 or 14 */
     int64_t deviation;  /* this and the next two are 0 on a refusal */
     int64_t steps;
     int64_t selections;
@@ -210,7 +217,7 @@ struct tuzhelar_planned {
 };
 
 struct tuzhelar_keeping {
-    uint32_t refusal;   /* 0, or 1 to 8; on a refusal all else is 0 */
+    uint32_t refusal;   /* 0, or 1 to 8 or 14; on a refusal all else is 0 */
     int64_t deviation;
     int64_t steps;
     int64_t selections;
@@ -220,14 +227,14 @@ struct tuzhelar_keeping {
 };
 
 struct tuzhelar_reached {
-    uint32_t refusal;             /* 0, or 1 to 11 */
+    uint32_t refusal;             /* 0, or 1 to 11 or 14 */
     size_t count;                 /* lines written; for 9 lines needed; 0 on any other refusal */
     int64_t times[TUZHELAR_MOST]; /* the latest times, 0 past the sheet's number of triggers and on a refusal */
     size_t line_words;            /* words that each line takes, as planning has it; 0 as count */
 };
 
 struct tuzhelar_compared {
-    uint32_t number; /* TUZHELAR_SAME, TUZHELAR_DIFFERENT or TUZHELAR_UNLIKE, or a refusal, 1 to 9 or 201 to 209 */
+    uint32_t number; /* TUZHELAR_SAME, TUZHELAR_DIFFERENT or TUZHELAR_UNLIKE, or a refusal, 1 to 9 or 14, 201 to 209 or 214 */
     size_t first;    /* lines written to `left`; for 9 lines needed there; 0 on any other refusal */
     size_t second;   /* lines written to `right`; for 209 lines needed there; 0 on any other refusal */
     size_t first_words;  /* words that each line takes there, as planning has it; 0 as first */
@@ -413,8 +420,9 @@ static inline const char *tuzhelar_meaning(uint32_t number)
         return "The sheet has more than 2,048 bytes. No good sheet has more than 1,133: look for text behind its end.";
     case TUZHELAR_FORM:
         return "A line is missing or ill-formed, or bytes follow the sheet's end. Look at the order of the lines, their keys, "
-               "their numbers of items, numerals such as 05, -0 or +5, blanks, and the line end of each; there is a land line for "
-               "each trigger or none, and behind these one last line or none.";
+               "their numbers of items, numerals such as 05, -0 or +5, blanks, and the line end of each; the first line is rule=2 "
+               "or panels=, and under rule=2 there is no floor and no due line; there is a land line for each trigger or none, and "
+               "behind these one last line or none.";
     case TUZHELAR_SIZE:
         return "The number of panels or of triggers is not 1 to 6.";
     case TUZHELAR_RANGE:
@@ -439,6 +447,9 @@ static inline const char *tuzhelar_meaning(uint32_t number)
         return "The number of panels or of triggers asked for is not 1 to 6.";
     case TUZHELAR_SHEET_SPACE:
         return "The sheet is longer than the bytes lent for it. 1,133 bytes are always enough.";
+    case TUZHELAR_NO_TRIGGER_LAG:
+        return "A trigger that is not spare has no lag, and under rule=2 each needs one. Look at its place in the lag lines, or take "
+               "it out of the after and land lines.";
     case TUZHELAR_YES:
         return "The times are tightest and in time.";
     case TUZHELAR_NO:

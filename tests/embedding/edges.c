@@ -439,13 +439,13 @@ static size_t add_lines(char *sheet, size_t length, const char *key, size_t line
     return length;
 }
 
-/* The longest sheet of these sizes. Returns its length. */
-static size_t longest_of(char *sheet, size_t panels, size_t triggers)
+/* The longest sheet of these sizes, with marks or under rule 2. Returns its length. */
+static size_t longest_of(char *sheet, int marks, size_t panels, size_t triggers)
 {
-    size_t length = (size_t)sprintf(sheet, "panels=%d\ntriggers=%d\n", (int)panels, (int)triggers);
+    size_t length = (size_t)sprintf(sheet, "%spanels=%d\ntriggers=%d\n", marks ? "" : "rule=2\n", (int)panels, (int)triggers);
     length = add_lines(sheet, length, "lag=", panels, triggers);
-    length = add_lines(sheet, length, "floor=", 1, panels);
-    length = add_lines(sheet, length, "due=", 1, triggers);
+    length = add_lines(sheet, length, "floor=", marks ? 1 : 0, panels);
+    length = add_lines(sheet, length, "due=", marks ? 1 : 0, triggers);
     length = add_lines(sheet, length, "after=", triggers, triggers);
     length = add_lines(sheet, length, "land=", triggers, panels);
     return add_lines(sheet, length, "last=", 1, panels);
@@ -453,7 +453,8 @@ static size_t longest_of(char *sheet, size_t panels, size_t triggers)
 
 /*
  * No good sheet has more bytes than LONGEST: its sizes fix its lines, keys and numbers of items, no entry within the limits has more bytes than
- * -100000, and most items stand where both sizes are 6. There is such a sheet, and with a byte more at any place it is none.
+ * -100000, most items stand where both sizes are 6, and the rule line is shorter than the lines of marks. There is such a sheet, and with a byte
+ * more at any place it is none.
  */
 static void longest(void)
 {
@@ -462,9 +463,12 @@ static void longest(void)
     size_t panels, triggers, length = 0, at, i;
     for (panels = 1; panels <= TUZHELAR_MOST; panels++) {
         for (triggers = 1; triggers <= TUZHELAR_MOST; triggers++) {
-            length = longest_of(sheet, panels, triggers);
+            size_t ruled = longest_of(sheet, 0, panels, triggers);
+            check("the longest sheet of these sizes under rule 2", 10 * panels + triggers,
+                  tuzhelar_kept_table(sheet, ruled).refusal == TUZHELAR_DONE);
+            length = longest_of(sheet, 1, panels, triggers);
             check("the longest sheet of these sizes", 10 * panels + triggers,
-                  length <= LONGEST && tuzhelar_kept_table(sheet, length).refusal == TUZHELAR_DONE);
+                  ruled < length && length <= LONGEST && tuzhelar_kept_table(sheet, length).refusal == TUZHELAR_DONE);
         }
     }
     check("the longest sheet", length, length == LONGEST);
@@ -688,12 +692,12 @@ static void meanings(void)
 {
     const char *none = tuzhelar_meaning(99);
     uint32_t number;
-    for (number = 0; number <= 13; number++) {
+    for (number = 0; number <= 14; number++) {
         check("a meaning", number, strcmp(tuzhelar_meaning(number), none) != 0);
     }
     check("a meaning", 100, strcmp(tuzhelar_meaning(TUZHELAR_YES), none) != 0);
     check("a meaning", 101, strcmp(tuzhelar_meaning(TUZHELAR_NO), none) != 0);
-    for (number = 1; number <= 9; number++) {
+    for (number = 1; number <= 14; number++) {
         const char *meaning = tuzhelar_meaning(number);
         check("a meaning for two sheets", number, strcmp(tuzhelar_same_meaning(number), meaning) == 0);
         check("a meaning for the second", number, strcmp(tuzhelar_same_meaning(TUZHELAR_SECOND + number), meaning) == 0);

@@ -1,6 +1,7 @@
 //! The whole case from Rust: plans it, chooses times from its lines, tests them, finds the latest that
-//! are no later than wished, lets a trigger wait for a panel, plans it for a desk with an idle trigger and
-//! with last moments, and compares it with other sheets; then makes a sheet to try and plans that.
+//! are no later than wished, lets a trigger wait for a panel, plans it for a desk with an idle trigger, with
+//! last moments and by the spread of landings, and compares it with other sheets; then makes a sheet to try
+//! and plans that.
 //!
 //!     rt staticlib planner_c
 //!     cargo run --offline --manifest-path embed/rust/Cargo.toml --example whole_case
@@ -55,6 +56,16 @@ due=1,2
 after=-,-
 after=-,-
 last=6,6
+";
+
+/// The whole case in a house that goes by the spread of landings: without marks.
+const SPREAD: &[u8] = b"rule=2
+panels=2
+triggers=2
+lag=2,0
+lag=4,1
+after=-,-
+after=-,-
 ";
 
 /// Trigger 2 comes 3 after trigger 1, and trigger 1 at most 1 before trigger 2: 3 − 1 is above 0.
@@ -160,6 +171,7 @@ fn main() -> Result<(), Box<dyn Error>> {
     );
 
     print_downbeat()?;
+    print!("under rule 2 {}", plan(SPREAD, &mut space)?);
 
     for (i, panel) in kept(SHEET)?.panels().iter().enumerate() {
         println!(
@@ -177,6 +189,8 @@ fn main() -> Result<(), Box<dyn Error>> {
         "a desk with an idle trigger: {:?} sheets",
         compared.likeness
     );
+    let compared = same(SHEET, SPREAD, &mut space, &mut other_space)?;
+    println!("under rule 2: {:?} timings", compared.likeness);
     other_space.resize(2 * CAPPED_WORDS, 0);
     let compared = same(SHEET, DOWNBEAT, &mut space, &mut other_space)?;
     println!("with last moments: {:?} timings", compared.likeness);

@@ -15,10 +15,10 @@ pub struct Hired<'a> {
     pub state: u32,
 }
 
-/// Makes one sheet, without land or last lines, from its sizes and a state, and the next state: the same
-/// wherever it is made. It is written at the front of the bytes; the rest of them stays as it was. Every
-/// sheet so made is accepted and its order can be kept: [`plan`](crate::plan) with enough space does not
-/// refuse it.
+/// Makes one sheet, with marks and without land or last lines, from its sizes and a state, and the next
+/// state: the same wherever it is made. It is written at the front of the bytes; the rest of them stays as it
+/// was. Every sheet so made is accepted and its order can be kept: [`plan`](crate::plan) with enough space
+/// does not refuse it.
 ///
 /// For a load of many sheets each is made from the state that the one before returned; states near one
 /// another make nearly the same sheet or the same.

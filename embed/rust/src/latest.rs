@@ -38,7 +38,7 @@ impl<'a> Latest<'a> {
 /// [`plan`](crate::plan) writes them; the rest of the space stays as it was.
 ///
 /// # Errors
-/// [`Refusal`] 1 to 7; then 10, there are not as many times as triggers; then 11, one is beyond
+/// [`Refusal`] 1 to 7 or 14; then 10, there are not as many times as triggers; then 11, one is beyond
 /// ±1,000,000,000; then 8; then 9, for which [`Refusal::Space`] says how many lines there are. The space is
 /// then as it was.
 pub fn latest<'a>(

@@ -43,6 +43,12 @@
 //! assert_eq!(tuzhelar::test(&downbeat, &[3, 3]), Ok(false));
 //! assert_eq!(tuzhelar::latest(&downbeat, &[5, 9], &mut space)?.times(), [2, 3]);
 //!
+//! // A sheet that begins with `rule=2` has no floors and due marks: its deviation is the spread of landings.
+//! let spread = b"rule=2\npanels=2\ntriggers=2\nlag=2,0\nlag=4,1\nafter=-,-\nafter=-,-\n";
+//! let plan = tuzhelar::plan(spread, &mut space)?;
+//! assert_eq!(plan.deviation, 1);
+//! assert_eq!(plan.lines().map(|line| line.to_string()).collect::<Vec<_>>(), ["-,0", "-3,0"]);
+//!
 //! // Whether the same times are tightest on another sheet, here the same with its panels exchanged.
 //! let other = b"panels=2\ntriggers=2\nlag=4,1\nlag=2,0\nfloor=2,5\ndue=1,2\nafter=-,-\nafter=-,-\n";
 //! let (mut left, mut right) = ([0; 20 * tuzhelar::LINE_WORDS], [0; 20 * tuzhelar::LINE_WORDS]);
@@ -101,10 +107,15 @@ const UNLIKE: u32 = 102;
 /// A sheet with a last line gives each panel a last moment. Times are in time if no panel lands later than
 /// that; each line then has a [cap](Line::cap). The rest of the plan is as without the last line.
 ///
+/// A sheet that begins with `rule=2` has no lines `floor=` and `due=`. Its deviation is the spread of
+/// landings, the latest less the earliest, which is never below 0: every floor counts as 0 there, and a
+/// trigger's due mark as minus its largest lag. Each trigger that is not spare needs a lag.
+///
 /// # Errors
-/// [`Refusal`] 1 to 9; the space is then as it was. The space holds its length divided by [`LINE_WORDS`],
-/// or by [`CAPPED_WORDS`] on a sheet with a last line, rounded down, lines. The program `plan` lends 2,000
-/// lines; the largest list seen has 72. Where they are too few, [`Refusal::Space`] says how many there are.
+/// [`Refusal`] 1 to 7 or 14; then 8; then 9. The space is then as it was. It holds its length divided by
+/// [`LINE_WORDS`], or by [`CAPPED_WORDS`] on a sheet with a last line, rounded down, lines. The program
+/// `plan` lends 2,000 lines; the largest list seen has 72. Where they are too few, [`Refusal::Space`] says
+/// how many there are.
 pub fn plan<'a>(sheet: &[u8], space: &'a mut [i32]) -> Result<Plan<'a>, Refusal> {
     let mut answer = [0; 6];
     let number = ffi::plan(sheet, space, &mut answer);
@@ -155,7 +166,7 @@ impl Kept {
 /// Reads the sheet and gives the least deviation, the kept triggers of each panel and the walk's numbers.
 ///
 /// # Errors
-/// [`Refusal`] 1 to 8.
+/// [`Refusal`] 1 to 7 or 14; then 8.
 pub fn kept(sheet: &[u8]) -> Result<Kept, Refusal> {
     let mut answer = [0; 16];
     let number = ffi::kept(sheet, &mut answer);
@@ -183,7 +194,7 @@ pub fn kept(sheet: &[u8]) -> Result<Kept, Refusal> {
 /// last moment, if the sheet has a last line. A spare trigger's time and due mark count for nothing.
 ///
 /// # Errors
-/// [`Refusal`] 1 to 7; then 10, there are not as many times as triggers; then 11, one is beyond
+/// [`Refusal`] 1 to 7 or 14; then 10, there are not as many times as triggers; then 11, one is beyond
 /// ±1,000,000,000; then 8.
 pub fn test(sheet: &[u8], times: &[i64]) -> Result<bool, Refusal> {
     match ffi::test(sheet, times) {
@@ -195,12 +206,12 @@ pub fn test(sheet: &[u8], times: &[i64]) -> Result<bool, Refusal> {
 
 /// Whether the same timings are tightest on two sheets, where they have as many triggers and the same are
 /// spare. Each sheet's list is written at the front of its space, the first's in `left`, the second's in
-/// `right`; the rest of each space stays as it was. Last moments and caps have no part in this, and one sheet
-/// may have a last line where the other has none.
+/// `right`; the rest of each space stays as it was. Last moments and caps have no part in this: one sheet may
+/// have a last line where the other has none, and one may follow rule 2 where the other has marks.
 ///
 /// # Errors
-/// [`SheetRefusal`]: [`Refusal`] 1 to 9 of the first sheet, as [`plan`] has it with the space `left`, or else
-/// of the second with the space `right`; both spaces are then as they were.
+/// [`SheetRefusal`]: the [`Refusal`] of the first sheet, as [`plan`] has it with the space `left`, or else of
+/// the second with the space `right`; both spaces are then as they were.
 pub fn same<'a>(
     first: &[u8],
     second: &[u8],

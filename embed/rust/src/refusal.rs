@@ -11,8 +11,9 @@ pub enum Refusal {
     /// 1: the sheet has more than 2,048 bytes.
     TooLong,
     /// 2: a line is missing, has the wrong key, number of items, numeral or line end, or is a size that
-    /// is absent; or bytes follow the sheet's end. There is a land line for each trigger, or none at all,
-    /// and behind these one line `last=` or none.
+    /// is absent; or bytes follow the sheet's end. The first line is `rule=2` or none, and with it there are
+    /// no lines `floor=` and `due=`; there is a land line for each trigger, or none at all, and behind these
+    /// one line `last=` or none.
     Form,
     /// 3: a size is not 1 to 6.
     Size,
@@ -42,10 +43,12 @@ pub enum Refusal {
     HireSize,
     /// 13: a sheet to make is longer than the bytes lent. [`HIRE_BYTES`](crate::HIRE_BYTES) are always enough.
     SheetSpace,
+    /// 14: the sheet follows rule 2, and a trigger that is not spare has no lag to any panel.
+    NoTriggerLag,
 }
 
 impl Refusal {
-    /// The number, 1 to 13, that stands for this refusal in C and in the programs' texts.
+    /// The number, 1 to 14, that stands for this refusal in C and in the programs' texts.
     pub fn number(self) -> u32 {
         match self {
             Refusal::TooLong => 1,
@@ -61,6 +64,7 @@ impl Refusal {
             Refusal::Time => 11,
             Refusal::HireSize => 12,
             Refusal::SheetSpace => 13,
+            Refusal::NoTriggerLag => 14,
         }
     }
 
@@ -84,6 +88,7 @@ impl Refusal {
             11 => Refusal::Time,
             12 => Refusal::HireSize,
             13 => Refusal::SheetSpace,
+            14 => Refusal::NoTriggerLag,
             _ => unreachable!("the contracts of the library have no refusal {number}"),
         }
     }
@@ -97,10 +102,11 @@ impl fmt::Display for Refusal {
                  look for text behind its end"
             }
             Refusal::Form => {
-                "a line is missing or ill-formed, or bytes follow the sheet's end; the lines are panels=, \
-                 triggers=, lag= for each panel, floor=, due=, after= for each trigger, then land= for \
-                 each trigger or none, then one last= or none: look at their order, their keys, their \
-                 numbers of items, numerals such as 05, -0 or +5, blanks, and the line end of each"
+                "a line is missing or ill-formed, or bytes follow the sheet's end; the lines are rule=2 or \
+                 none, panels=, triggers=, lag= for each panel, floor= and due= where there is no rule=2, \
+                 after= for each trigger, then land= for each trigger or none, then one last= or none: \
+                 look at their order, their keys, their numbers of items, numerals such as 05, -0 or +5, \
+                 blanks, and the line end of each"
             }
             Refusal::Size => "the number of panels or of triggers is not 1 to 6",
             Refusal::Range => {
@@ -130,6 +136,10 @@ impl fmt::Display for Refusal {
             Refusal::HireSize => "the number of panels or of triggers asked for is not 1 to 6",
             Refusal::SheetSpace => {
                 "the sheet is longer than the bytes lent for it; 1,133 bytes are always enough"
+            }
+            Refusal::NoTriggerLag => {
+                "a trigger that is not spare has no lag, and under rule=2 each needs one; look at its place \
+                 in the lag= lines, or take it out of the after= and land= lines"
             }
         };
         f.write_str(sentence)

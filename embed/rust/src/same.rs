@@ -62,7 +62,7 @@ pub enum SheetRefusal {
 }
 
 impl SheetRefusal {
-    /// The number that stands for this refusal in C: 1 to 9, or 201 to 209 for the second sheet.
+    /// The number that stands for this refusal in C: 1 to 9 or 14, and 200 more for the second sheet.
     pub fn number(self) -> u32 {
         match self {
             SheetRefusal::First(refusal) => refusal.number(),

@@ -266,6 +266,7 @@ fn refusals_have_their_sentences() {
         Refusal::Time,
         Refusal::HireSize,
         Refusal::SheetSpace,
+        Refusal::NoTriggerLag,
     ];
     for (refusal, number) in all.into_iter().zip(1..) {
         assert_eq!(refusal.number(), number);
