@@ -9,8 +9,9 @@
  * makes is tightest; the latest times that are no later than given ones are those that the meaning gives (latest.c); land lines without a
  * rule change nothing (land.c); the spare triggers are those that the tables of the sheet say, have no part in lines and kept bytes, may have
  * any time, and make no difference to the others (spares.c); a last line gives each line its cap, holds tested and latest times back, and
- * makes no difference else (last.c); and it is compared with a second sheet, often one that means the same or nearly so (pairs.c). Behind every
- * sixteenth sheet come some that the library makes, and a second generator too (hire.c), and the last of these is tried like the others.
+ * makes no difference else (last.c); a sheet under rule 2 is answered as the one with the marks that say the same (rule.c); and it is compared
+ * with a second sheet, often one that means the same or nearly so (pairs.c). Behind every sixteenth sheet come some that the library makes, and
+ * a second generator too (hire.c), and the last of these is tried like the others.
  * The last line is: N passed, M failed. A sheet that fails is written with its number, so that it can be tried alone.
  */
 #define _DEFAULT_SOURCE
@@ -32,6 +33,7 @@
 #include "pairs.h"
 #include "reader.h"
 #include "related.h"
+#include "rule.h"
 #include "sheets.h"
 #include "spares.h"
 #include "tuzhelar.h"
@@ -42,6 +44,7 @@
 #define ANSWER_WORDS 20     /* more than any answer has */
 #define MOST_TIMES 8        /* times that are lent, at most */
 #define HIRED 16            /* behind one of so many sheets the library makes some */
+#define READS (TUZHELAR_NO_TRIGGER_LAG + 1) /* what reading returns is below this */
 #define UNTOUCHED_WORD 0x5a5a5a5a
 #define UNTOUCHED INT64_C(0x5a5a5a5a5a5a5a5a)
 
@@ -61,7 +64,7 @@ static const char *wrong;
 
 /* What was met in the run. */
 static struct {
-    uint64_t read[8], planned, no_order, too_small, tested[102], compared[300], known;
+    uint64_t read[READS], planned, no_order, too_small, tested[102], compared[300], known;
     size_t most_lines;
     int64_t most_selections;
 } met;
@@ -279,7 +282,7 @@ static void check_kept_words(const struct tables *tables, const struct answered 
         expect(byte >= 0 && byte >> tables->triggers == 0, "a kept byte has more bits than triggers");
         expect((byte & spares(tables)) == 0, "a spare trigger is kept");
         expect(kept->words[5 + 2 * i] == bits, "a count of kept triggers is not the byte's");
-        expect((tables->floor[i] == NONE) == (byte == 0), "a panel keeps triggers exactly when it has a floor");
+        expect(has_floor(tables, i) == (byte != 0), "a panel keeps triggers exactly when it has a floor");
     }
     expect(all_untouched(kept, TUZHELAR_KEPT_WORDS), "words behind the kept table's answer were written");
 }
@@ -478,6 +481,9 @@ static void check_good(struct random *random, const struct tables *tables)
     if (wrong == NULL) {
         check_spares(random, &text, tables);
     }
+    if (wrong == NULL) {
+        check_rule(random, &text, tables);
+    }
 }
 
 /* The sheet and another one, in either order. A good one is compared with several, most of them related to it. */
@@ -511,6 +517,7 @@ static void check_sheet(struct random *random)
     wide = line_words(&tables);
     met.read[refusal]++;
     if (refusal != 0) {
+        note_lagless(&tables, refusal);
         check_refused(random, refusal);
     } else {
         check_good(random, &tables);
@@ -572,16 +579,28 @@ static void touched(int number)
 static void print_other(void)
 {
     uint64_t refused_first = 0, refused_second = 0;
-    int i;
-    for (i = 0; i < 10; i++) {
+    size_t i;
+    for (i = 0; i < READS; i++) {
         refused_first += met.compared[i];
         refused_second += met.compared[TUZHELAR_SECOND + i];
     }
     printf("two sheets: same timings: %" PRIu64 ", of these known: %" PRIu64 ", others: %" PRIu64 ", 102: %" PRIu64
            ", of these by the spare triggers: %" PRIu64 ", first refused: %" PRIu64 ", second: %" PRIu64 "\n", met.compared[TUZHELAR_SAME],
            met.known, met.compared[TUZHELAR_DIFFERENT], met.compared[TUZHELAR_UNLIKE], met_pairs.other_spares, refused_first, refused_second);
+    printf("sheets under different rules: same timings: %" PRIu64 ", others: %" PRIu64 "\n", met_pairs.rules_same, met_pairs.rules_different);
     printf("sheets made: %" PRIu64 ", the longest: %zu bytes; 12: %" PRIu64 ", 13: %" PRIu64 "\n", met_hire.made, met_hire.longest,
            met_hire.wrong_size, met_hire.too_small);
+}
+
+/* Sheets under rule 2. */
+static void print_rule(void)
+{
+    printf("good sheets under rule 2: %" PRIu64 ", of these 8: %" PRIu64 ", with land rules: %" PRIu64 ", with a last line: %" PRIu64
+           ", with spare triggers: %" PRIu64 ", with a spread of 0: %" PRIu64 "\n", met_rule.sheets, met_rule.no_order, met_rule.land,
+           met_rule.last, met_rule.spare, met_rule.even);
+    printf("14 by one entry: on the diagonal: %" PRIu64 ", in the row: %" PRIu64 ", in the column: %" PRIu64 ", a land entry: %" PRIu64
+           "; 14 before 8: %" PRIu64 "; 6 before 14: %" PRIu64 "\n", met_rule.diagonal, met_rule.row, met_rule.column, met_rule.land_row,
+           met_rule.lagless_no_order, met_rule.lagless_panel);
 }
 
 static void print_met(void)
@@ -591,8 +610,8 @@ static void print_met(void)
     for (i = 1; i <= 7; i++) {
         printf(" %d: %" PRIu64 ",", i, met.read[i]);
     }
-    printf(" good: %" PRIu64 "; of these 8: %" PRIu64 ", planned: %" PRIu64 ", of these first 9: %" PRIu64 "\n", met.read[0], met.no_order,
-           met.planned, met.too_small);
+    printf(" 14: %" PRIu64 ", good: %" PRIu64 "; of these 8: %" PRIu64 ", planned: %" PRIu64 ", of these first 9: %" PRIu64 "\n",
+           met.read[TUZHELAR_NO_TRIGGER_LAG], met.read[0], met.no_order, met.planned, met.too_small);
     printf("times: yes: %" PRIu64 ", no: %" PRIu64 ", 8: %" PRIu64 ", 10: %" PRIu64 ", 11: %" PRIu64 "\n", met.tested[TUZHELAR_YES],
            met.tested[TUZHELAR_NO], met.tested[TUZHELAR_ORDER], met.tested[TUZHELAR_COMPONENTS], met.tested[TUZHELAR_TIME]);
     printf("latest times: found: %" PRIu64 ", of these as given: %" PRIu64 ", by the meaning alone: %" PRIu64 ", held back by last moments: %"
@@ -609,6 +628,7 @@ static void print_met(void)
            "; caps: %" PRIu64 ", of these below 0: %" PRIu64 ", for panels without a floor: %" PRIu64 "; times beside the caps in time: %"
            PRIu64 ", late: %" PRIu64 "\n", met_last.sheets, met_last.land, met_last.spare, met_last.caps, met_last.below_0,
            met_last.no_floor, met_last.in_time, met_last.late);
+    print_rule();
     print_other();
     printf("the longest list: %zu lines; the most selections: %" PRId64 "\n", met.most_lines, met.most_selections);
 }

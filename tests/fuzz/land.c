@@ -26,8 +26,7 @@ static int has_land(const struct text *text)
     return 0;
 }
 
-/* The same tables without the rules of the land lines. */
-static struct tables without_land(const struct tables *tables)
+struct tables without_land(const struct tables *tables)
 {
     struct tables fewer = *tables;
     int i, j;

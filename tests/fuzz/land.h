@@ -11,6 +11,9 @@ struct met_land {
 };
 extern struct met_land met_land;
 
+/* The same tables without the rules of the land lines. */
+struct tables without_land(const struct tables *tables);
+
 /* A sheet that reading takes: land lines without a rule change nothing of its plan. */
 void check_land(const struct text *text, const struct tables *tables);
 

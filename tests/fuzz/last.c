@@ -38,7 +38,7 @@ struct tables floors_only(const struct tables *tables)
     struct tables fewer = *tables;
     int i;
     for (i = 0; i < tables->panels; i++) {
-        fewer.last[i] = tables->floor[i] == NONE ? LIMIT : tables->last[i];
+        fewer.last[i] = has_floor(tables, i) ? tables->last[i] : LIMIT;
     }
     return fewer;
 }

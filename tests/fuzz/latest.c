@@ -173,6 +173,28 @@ static int64_t latest_by_moments(const struct tables *tables, int64_t time, int 
     return time;
 }
 
+/* What a deviation allows, as the times stand: how far a trigger may come behind its due mark, or under rule 2 how late a panel may land. */
+static int64_t allowed_by(const struct tables *tables, int64_t deviation, const int64_t *times)
+{
+    return by_spread(tables) ? deviation + earliest(tables, times) : deviation - early(tables, times);
+}
+
+/* The latest that trigger j may come by that. */
+static int64_t latest_allowed(const struct tables *tables, int64_t allowed, int64_t time, int j)
+{
+    int panel;
+    if (is_spare(tables, j)) {
+        return time;
+    }
+    if (!by_spread(tables)) {
+        return tables->due[j] + allowed;
+    }
+    for (panel = 0; panel < tables->panels; panel++) {
+        time = tables->lag[panel][j] == NONE ? time : earlier(time, allowed - tables->lag[panel][j]);
+    }
+    return time;
+}
+
 /*
  * Lowers times until they meet the last moments, keep the after and land rules and none is too late for the landings. All tightest times in
  * time that are no later than those given stay no later than these, and where these come to rest they are such. Returns whether they did.
@@ -185,10 +207,10 @@ static int lower(const struct tables *tables, int64_t least, int64_t *times)
         times[j] = latest_by_moments(tables, times[j], j);
     }
     for (round = 0; round < ROUNDS; round++) {
-        int64_t most = least - early(tables, times);
+        int64_t allowed = allowed_by(tables, least, times);
         for (lowered = 0, j = 0; j < n; j++) {
-            int64_t before = times[j], by_due = is_spare(tables, j) ? before : tables->due[j] + most;
-            times[j] = earlier(latest_by_rules(tables, times, j), by_due);
+            int64_t before = times[j];
+            times[j] = earlier(latest_by_rules(tables, times, j), latest_allowed(tables, allowed, before, j));
             lowered = lowered || times[j] != before;
         }
         if (!lowered) {

@@ -1,4 +1,4 @@
-/* Document 01, "One cue in one house", and document 02, No. 2, 4 and 5: times on the tables of a sheet, and none of the method. */
+/* Document 01, "One cue in one house", and document 02, No. 2, 4, 5 and 7: times on the tables of a sheet, and none of the method. */
 #include "meaning.h"
 
 #define PLACES (2 * MOST) /* of a circle: the triggers, then the panels */
@@ -51,6 +51,27 @@ int keeps_order(const struct tables *tables, const int64_t *times)
     return 1;
 }
 
+int by_spread(const struct tables *tables)
+{
+    return tables->rule == 2;
+}
+
+int has_floor(const struct tables *tables, int panel)
+{
+    return by_spread(tables) ? panel < tables->panels : tables->floor[panel] != NONE;
+}
+
+int64_t earliest(const struct tables *tables, const int64_t *times)
+{
+    int64_t earliest = INT64_MAX;
+    int i;
+    for (i = 0; i < tables->panels; i++) {
+        int64_t lands = landing(tables, times, i);
+        earliest = lands < earliest ? lands : earliest;
+    }
+    return earliest;
+}
+
 int64_t early(const struct tables *tables, const int64_t *times)
 {
     int64_t early = NONE;
@@ -84,10 +105,47 @@ int spares(const struct tables *tables)
     return byte;
 }
 
+int is_lagless(const struct tables *tables, int trigger)
+{
+    int i;
+    for (i = 0; i < tables->panels; i++) {
+        if (tables->lag[i][trigger] != NONE) {
+            return 0;
+        }
+    }
+    return 1;
+}
+
+int has_lagless(const struct tables *tables)
+{
+    int j;
+    for (j = 0; j < tables->triggers; j++) {
+        if (is_lagless(tables, j) && !is_spare(tables, j)) {
+            return 1;
+        }
+    }
+    return 0;
+}
+
+/* "The spread of landings, latest less earliest." */
+static int64_t spread(const struct tables *tables, const int64_t *times)
+{
+    int64_t latest = NONE;
+    int i;
+    for (i = 0; i < tables->panels; i++) {
+        int64_t lands = landing(tables, times, i);
+        latest = lands > latest ? lands : latest;
+    }
+    return latest - earliest(tables, times);
+}
+
 int64_t deviation(const struct tables *tables, const int64_t *times)
 {
     int64_t late = NONE;
     int j;
+    if (by_spread(tables)) {
+        return spread(tables, times);
+    }
     for (j = 0; j < tables->triggers; j++) {
         int64_t by = is_spare(tables, j) ? NONE : times[j] - tables->due[j];
         late = by > late ? by : late;

@@ -251,6 +251,14 @@ static void check_meaning(const struct side *first, const struct side *second, u
     }
 }
 
+static void note_pair(const struct side *first, const struct side *second, uint32_t number)
+{
+    int rules = by_spread(&first->tables) != by_spread(&second->tables);
+    met_pairs.other_spares += number == TUZHELAR_UNLIKE && first->tables.triggers == second->tables.triggers;
+    met_pairs.rules_same += rules && number == TUZHELAR_SAME;
+    met_pairs.rules_different += rules && number == TUZHELAR_DIFFERENT;
+}
+
 uint32_t check_pair(struct random *random, const struct text *first_text, const struct text *second_text, int known_same)
 {
     static struct side first, second;
@@ -264,6 +272,6 @@ uint32_t check_pair(struct random *random, const struct text *first_text, const 
     }
     expect(!known_same || (number != TUZHELAR_DIFFERENT && number != TUZHELAR_UNLIKE),
            "101 or 102 after changes that keep the tightest timings and the spare triggers");
-    met_pairs.other_spares += number == TUZHELAR_UNLIKE && first.tables.triggers == second.tables.triggers;
+    note_pair(&first, &second, number);
     return number;
 }

@@ -4,9 +4,9 @@
 
 #include "sheets.h"
 
-/* What was met: sheets with as many triggers of which not the same are spare. */
+/* What was met: sheets with as many triggers of which not the same are spare; and sheets under other rules with the same timings, and others. */
 struct met_pairs {
-    uint64_t other_spares;
+    uint64_t other_spares, rules_same, rules_different;
 };
 extern struct met_pairs met_pairs;
 

@@ -1,13 +1,15 @@
 /*
- * Document 01, "The sheet" and "Reading", and document 02, No. 2 and 5. A line is taken whole, up to its LF, split at its commas, and then
+ * Document 01, "The sheet" and "Reading", and document 02, No. 2, 5 and 7. A line is taken whole, up to its LF, split at its commas, and then
  * asked for each kind of fault in turn: "in one line 2 before 3 before 4 before 5".
  */
 #include "reader.h"
 
 #include <string.h>
 
+#include "meaning.h"
+
 /* What a line's items may be: a size, an entry that may be absent, or one that may not. */
-enum rule { SIZE, ENTRY, PRESENT };
+enum kind { SIZE, ENTRY, PRESENT };
 
 /* What one item is. */
 enum form { WRONG, ABSENT, NUMBER };
@@ -77,26 +79,26 @@ static size_t split(const uint8_t *bytes, size_t length, struct item *items, siz
 }
 
 /* The fault of a line whose form is right, or 0. */
-static uint32_t fault(enum rule rule, const struct item *items, size_t count)
+static uint32_t fault(enum kind kind, const struct item *items, size_t count)
 {
     size_t i;
     for (i = 0; i < count; i++) {
-        if (rule == SIZE && items[i].form == ABSENT) {
+        if (kind == SIZE && items[i].form == ABSENT) {
             return 2;
         }
     }
     for (i = 0; i < count; i++) {
-        if (rule == SIZE && (items[i].beyond || items[i].value < 1 || items[i].value > MOST)) {
+        if (kind == SIZE && (items[i].beyond || items[i].value < 1 || items[i].value > MOST)) {
             return 3;
         }
     }
     for (i = 0; i < count; i++) {
-        if (rule != SIZE && items[i].form == NUMBER && items[i].beyond) {
+        if (kind != SIZE && items[i].form == NUMBER && items[i].beyond) {
             return 4;
         }
     }
     for (i = 0; i < count; i++) {
-        if (rule == PRESENT && items[i].form == ABSENT) {
+        if (kind == PRESENT && items[i].form == ABSENT) {
             return 5;
         }
     }
@@ -104,7 +106,7 @@ static uint32_t fault(enum rule rule, const struct item *items, size_t count)
 }
 
 /* One line: its entries, and 0 or its refusal. */
-static uint32_t read_line(struct reading *reading, const char *key, enum rule rule, int count, int64_t *entries)
+static uint32_t read_line(struct reading *reading, const char *key, enum kind kind, int count, int64_t *entries)
 {
     const uint8_t *line = reading->rest;
     const uint8_t *end = reading->length == 0 ? NULL : (const uint8_t *)memchr(line, '\n', reading->length);
@@ -128,7 +130,7 @@ static uint32_t read_line(struct reading *reading, const char *key, enum rule ru
             return 2;
         }
     }
-    refusal = fault(rule, items, (size_t)count);
+    refusal = fault(kind, items, (size_t)count);
     for (i = 0; refusal == 0 && i < (size_t)count; i++) {
         entries[i] = items[i].form == ABSENT ? NONE : items[i].value;
     }
@@ -166,6 +168,7 @@ static int all_absent(const int64_t *entries, int count)
 void clear_tables(struct tables *tables)
 {
     int i, j;
+    tables->rule = 1;
     tables->panels = tables->triggers = 0;
     for (i = 0; i < MOST; i++) {
         tables->floor[i] = tables->due[i] = tables->last[i] = NONE;
@@ -175,12 +178,44 @@ void clear_tables(struct tables *tables)
     }
 }
 
-/* The lines of sizes and tables. */
+/* "A sheet may begin with `rule=2`; without it the old rule holds, and any other value there is refused as 2." */
+static uint32_t read_rule(struct reading *reading, struct tables *tables)
+{
+    static const char LINE[] = "rule=2\n";
+    if (!key_follows(reading, "rule=")) {
+        return 0;
+    }
+    if (!key_follows(reading, LINE)) {
+        return 2;
+    }
+    reading->rest += strlen(LINE);
+    reading->length -= strlen(LINE);
+    tables->rule = 2;
+    return 0;
+}
+
+/* "Under rule 2 the floor and due lines are left out." */
+static uint32_t read_marks(struct reading *reading, struct tables *tables)
+{
+    uint32_t refusal;
+    if (by_spread(tables)) {
+        return 0;
+    }
+    if ((refusal = read_line(reading, "floor=", ENTRY, tables->panels, tables->floor)) != 0) {
+        return refusal;
+    }
+    return read_line(reading, "due=", PRESENT, tables->triggers, tables->due);
+}
+
+/* The lines of the rule, of sizes and of tables. */
 static uint32_t read_front(struct reading *reading, struct tables *tables)
 {
     int64_t size = 0;
     uint32_t refusal;
     int m, n;
+    if ((refusal = read_rule(reading, tables)) != 0) {
+        return refusal;
+    }
     if ((refusal = read_line(reading, "panels=", SIZE, 1, &size)) != 0) {
         return refusal;
     }
@@ -192,10 +227,7 @@ static uint32_t read_front(struct reading *reading, struct tables *tables)
     if ((refusal = read_rows(reading, "lag=", m, n, tables->lag)) != 0) {
         return refusal;
     }
-    if ((refusal = read_line(reading, "floor=", ENTRY, m, tables->floor)) != 0) {
-        return refusal;
-    }
-    if ((refusal = read_line(reading, "due=", PRESENT, n, tables->due)) != 0) {
+    if ((refusal = read_marks(reading, tables)) != 0) {
         return refusal;
     }
     return read_rows(reading, "after=", n, n, tables->after);
@@ -215,11 +247,25 @@ static uint32_t read_further(struct reading *reading, struct tables *tables)
     return reading->length == 0 ? 0 : 2;
 }
 
+/* After the lines: 6, a panel with no lag; then 7, no floor at all, or under rule 2 in its place 14. */
+static uint32_t read_whole(const struct tables *tables)
+{
+    int i;
+    for (i = 0; i < tables->panels; i++) {
+        if (all_absent(tables->lag[i], tables->triggers)) {
+            return 6;
+        }
+    }
+    if (by_spread(tables)) {
+        return has_lagless(tables) ? 14 : 0;
+    }
+    return all_absent(tables->floor, tables->panels) ? 7 : 0;
+}
+
 uint32_t read_tables(const uint8_t *sheet, size_t length, struct tables *tables)
 {
     struct reading reading = {sheet, length};
     uint32_t refusal;
-    int i;
     clear_tables(tables);
     if (length > LONGEST) {
         return 1;
@@ -227,10 +273,5 @@ uint32_t read_tables(const uint8_t *sheet, size_t length, struct tables *tables)
     if ((refusal = read_front(&reading, tables)) != 0 || (refusal = read_further(&reading, tables)) != 0) {
         return refusal;
     }
-    for (i = 0; i < tables->panels; i++) {
-        if (all_absent(tables->lag[i], tables->triggers)) {
-            return 6;
-        }
-    }
-    return all_absent(tables->floor, tables->panels) ? 7 : 0;
+    return read_whole(tables);
 }

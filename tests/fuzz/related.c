@@ -1,7 +1,8 @@
-/* Changes that keep the tightest timings, of an entry, and of what triggers are spare, on the tables of a sheet; then the sheet anew. */
+/* Changes that keep the tightest timings, of the rule, of an entry, and of what triggers are spare, on the tables of a sheet; then the sheet anew. */
 #include "related.h"
 
 #include "meaning.h"
+#include "rule.h"
 #include "writer.h"
 
 static void move(int64_t *entry, int64_t by)
@@ -45,6 +46,17 @@ static void move_panel(struct tables *tables, int panel, int64_t by)
     move(&tables->floor[panel], by);
     for (j = 0; j < tables->triggers; j++) {
         move(&tables->land[j][panel], -by);
+    }
+}
+
+/* The same of one panel or, under rule 2, where it has no floor that moves with it and the spread would be another, of all. */
+static void move_panels(struct tables *tables, int panel, int64_t by)
+{
+    int i;
+    for (i = 0; i < tables->panels; i++) {
+        if (i == panel || by_spread(tables)) {
+            move_panel(tables, i, by);
+        }
     }
 }
 
@@ -105,7 +117,7 @@ static void replace_land(struct tables *tables, int i, int panel)
 /* Another due mark where the trigger is spare. */
 static void move_spare_due(struct random *random, struct tables *tables, int trigger)
 {
-    if (is_spare(tables, trigger)) {
+    if (!by_spread(tables) && is_spare(tables, trigger)) {
         tables->due[trigger] = between(random, -LIMIT, LIMIT);
     }
 }
@@ -133,7 +145,7 @@ static void keep_timings(struct random *random, struct tables *tables)
         move_all(tables->due, tables->triggers, by);
         break;
     case 2:
-        move_panel(tables, panel, by);
+        move_panels(tables, panel, by);
         break;
     case 3:
         exchange_panels(tables, panel, below(random, tables->panels));
@@ -164,22 +176,23 @@ static void keep_timings(struct random *random, struct tables *tables)
 static void change_entry(struct random *random, struct tables *tables)
 {
     int i = below(random, tables->panels), j = below(random, tables->triggers), k = below(random, tables->triggers);
+    int marks = by_spread(tables) ? 0 : 2;
     int64_t *entry;
-    switch (below(random, 8)) {
+    switch (below(random, 6 + marks)) {
     case 0:
     case 1:
         entry = &tables->lag[i][j];
         break;
     case 2:
-        entry = &tables->floor[i];
-        break;
     case 3:
-    case 4:
         entry = &tables->after[j][k];
         break;
+    case 4:
     case 5:
-    case 6:
         entry = &tables->land[j][i];
+        break;
+    case 6:
+        entry = &tables->floor[i];
         break;
     default:
         tables->due[j] += chance(random, 50) ? 1 : -1;
@@ -237,7 +250,7 @@ static void change_spares(struct random *random, struct tables *tables)
 
 int make_related(struct random *random, const struct tables *tables, struct text *text)
 {
-    struct tables changed = *tables;
+    struct tables changed = by_spread(tables) && chance(random, 50) ? by_marks(tables) : *tables;
     int known = chance(random, 50), entries = chance(random, 70), changes;
     for (changes = below(random, 3) + !known; changes > 0; changes--) {
         if (known) {

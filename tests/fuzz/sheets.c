@@ -6,6 +6,7 @@
 #include <stdlib.h>
 #include <string.h>
 
+#include "meaning.h"
 #include "reader.h"
 
 #define LINES 30     /* of a draft */
@@ -190,6 +191,51 @@ static struct line *line_of(struct draft *draft, const char *key, int i)
     return at < 0 ? NULL : &draft->lines[at];
 }
 
+/* A new line before the one at a place, or at the end. There is room for one more. */
+static struct line *insert_line(struct draft *draft, int at, const char *key)
+{
+    struct line line = *add_line(draft, key);
+    memmove(&draft->lines[at + 1], &draft->lines[at], sizeof line * (size_t)(draft->count - at - 1));
+    draft->lines[at] = line;
+    return &draft->lines[at];
+}
+
+static void remove_line(struct draft *draft, int at)
+{
+    memmove(&draft->lines[at], &draft->lines[at + 1], sizeof draft->lines[0] * (size_t)(draft->count - at - 1));
+    draft->count--;
+}
+
+static void repeat_line(struct draft *draft, int at)
+{
+    if (draft->count < LINES) {
+        memmove(&draft->lines[at + 1], &draft->lines[at], sizeof draft->lines[0] * (size_t)(draft->count - at));
+        draft->count++;
+    }
+}
+
+static void exchange_lines(struct draft *draft, int a, int b)
+{
+    struct line line = draft->lines[a];
+    draft->lines[a] = draft->lines[b];
+    draft->lines[b] = line;
+}
+
+/* Removes the first line with a key, where there is one. */
+static void remove_key(struct draft *draft, const char *key)
+{
+    int at = place_of(draft, key, 0);
+    if (at >= 0) {
+        remove_line(draft, at);
+    }
+}
+
+static void add_rule_line(struct draft *draft, const char *value)
+{
+    struct line *line = insert_line(draft, 0, "rule=");
+    set_item(line, line->count++, value);
+}
+
 /* ---- Good sheets: entries and rules */
 
 /* How entries are drawn: within +-size, percents of absent ones, and whether nearly all are at the limits. */
@@ -338,9 +384,9 @@ static void thin_lags(struct random *random, struct draft *draft)
 
 /* ---- Idle triggers: with no entry left they are spare, with one they are not */
 
-static int is_idle(const struct draft *draft, int trigger)
+static int is_one_of(int byte, int trigger)
 {
-    return draft->idle >> trigger & 1;
+    return byte >> trigger & 1;
 }
 
 /* One trigger at any place, some, or all; but for one that is left in use. */
@@ -358,16 +404,16 @@ static int draw_idle(struct random *random, int n)
 }
 
 /* Idle triggers lose their lags. A panel that they alone reached is reached by the first of the others. */
-static void take_lags(struct draft *draft)
+static void take_lags(struct draft *draft, int idle)
 {
     int in_use = 0, i, j;
-    while (is_idle(draft, in_use)) {
+    while (is_one_of(idle, in_use)) {
         in_use++;
     }
     for (i = 0; i < draft->m; i++) {
         struct line *lags = line_of(draft, "lag=", i);
         for (j = 0; j < draft->n; j++) {
-            if (is_idle(draft, j) && !is_absent(&lags->items[j])) {
+            if (is_one_of(idle, j) && !is_absent(&lags->items[j])) {
                 lags->items[in_use] = is_absent(&lags->items[in_use]) ? lags->items[j] : lags->items[in_use];
                 set_item(lags, j, "-");
             }
@@ -376,11 +422,11 @@ static void take_lags(struct draft *draft)
 }
 
 /* Idle triggers lose the rules that hold them or others behind them. A row of minus signs in the land lines is left. */
-static void take_rules(struct draft *draft)
+static void take_rules(struct draft *draft, int idle)
 {
     int i, j;
     for (j = 0; j < draft->n; j++) {
-        if (is_idle(draft, j)) {
+        if (is_one_of(idle, j)) {
             all_absent_in(line_of(draft, "after=", j));
             all_absent_in(line_of(draft, "land=", j));
             for (i = 0; i < draft->n; i++) {
@@ -396,7 +442,7 @@ static void move_due(struct random *random, struct draft *draft)
     static const int64_t FAR_OFF[] = {LIMIT, -LIMIT, 1000, -1000};
     int j;
     for (j = 0; j < draft->n; j++) {
-        if (is_idle(draft, j) && chance(random, 50)) {
+        if (is_one_of(draft->idle, j) && chance(random, 50)) {
             set_number(line_of(draft, "due=", 0), j, FAR_OFF[below(random, COUNT_OF(FAR_OFF))]);
         }
     }
@@ -421,12 +467,12 @@ static void add_no_land(struct draft *draft)
     }
 }
 
-/* One entry for a trigger that has none: an after entry on the diagonal, in its row or its column, a land entry, or a lag. */
-static void give_entry(struct random *random, struct draft *draft, int trigger)
+/* A rule for a trigger that has none: an after entry on the diagonal, in its row or its column, or a land entry. */
+static void give_rule(struct random *random, struct draft *draft, int trigger)
 {
     int other = below(random, draft->n), panel = below(random, draft->m);
     int64_t slack = below(random, 3), behind = draft->times[trigger] - draft->times[other];
-    switch (below(random, 5)) {
+    switch (below(random, 4)) {
     case 0:
         set_entry(line_of(draft, "after=", trigger), trigger, chance(random, 70) ? 0 : -slack);
         break;
@@ -436,13 +482,17 @@ static void give_entry(struct random *random, struct draft *draft, int trigger)
     case 2:
         set_entry(line_of(draft, "after=", other), trigger, -behind - slack);
         break;
-    case 3:
+    default:
         add_no_land(draft);
         set_entry(line_of(draft, "land=", trigger), panel, draft->times[trigger] - landing(draft, panel) - slack);
-        break;
-    default:
-        set_entry(line_of(draft, "lag=", panel), trigger, landing(draft, panel) - draft->times[trigger] - slack);
     }
+}
+
+/* A lag for a trigger that has none, with which the panel lands as before. */
+static void give_lag(struct random *random, struct draft *draft, int trigger)
+{
+    int panel = below(random, draft->m);
+    set_entry(line_of(draft, "lag=", panel), trigger, landing(draft, panel) - draft->times[trigger] - below(random, 3));
 }
 
 /* Some idle triggers get an entry, so that they are idle no more: nor is another trigger that such a rule names. */
@@ -450,9 +500,65 @@ static void use_some(struct random *random, struct draft *draft)
 {
     int j;
     for (j = 0; j < draft->n; j++) {
-        if (is_idle(draft, j) && chance(random, 20)) {
-            give_entry(random, draft, j);
+        if (is_one_of(draft->idle, j) && chance(random, 20)) {
+            if (chance(random, 80)) {
+                give_rule(random, draft, j);
+            } else {
+                give_lag(random, draft, j);
+            }
         }
+    }
+}
+
+/* ---- Rule 2: there are no marks, and each trigger that is not spare needs a lag */
+
+/* Triggers that are not spare and reach no panel get a lag, all of them or some. */
+static void give_lags(struct random *random, struct draft *draft)
+{
+    static struct text text;
+    struct tables tables;
+    int all = chance(random, 90), j;
+    write_draft(draft, &text);
+    read_tables(text.bytes, text.length, &tables);
+    for (j = 0; j < draft->n; j++) {
+        if (is_lagless(&tables, j) && !is_spare(&tables, j) && (all || chance(random, 50))) {
+            give_lag(random, draft, j);
+        }
+    }
+}
+
+/* A trigger that reaches no panel, with the rules that it had or with one alone; on some sheets with one that no times keep. */
+static void lose_lags(struct random *random, struct draft *draft)
+{
+    int trigger = below(random, draft->n), lagless = 1 << trigger;
+    if (draft->n > 1) {
+        take_lags(draft, lagless);
+    }
+    if (chance(random, 70)) {
+        take_rules(draft, lagless);
+    }
+    give_rule(random, draft, trigger);
+    if (chance(random, 30)) {
+        set_number(line_of(draft, "after=", trigger), trigger, between(random, 1, 3));
+    }
+}
+
+static void use_lags(struct random *random, struct draft *draft)
+{
+    give_lags(random, draft);
+    if (chance(random, 18)) {
+        lose_lags(random, draft);
+    }
+}
+
+/* The draft, which has marks until now, follows rule 2. In some a panel has no lag, and often a trigger that reached it alone. */
+static void leave_marks(struct random *random, struct draft *draft)
+{
+    remove_key(draft, "floor=");
+    remove_key(draft, "due=");
+    add_rule_line(draft, "2");
+    if (chance(random, 8)) {
+        all_absent_in(line_of(draft, "lag=", below(random, draft->m)));
     }
 }
 
@@ -507,10 +613,46 @@ static struct manner draw_manner(struct random *random)
     return manner;
 }
 
+/* The lines up to the after lines. */
+static void add_front(struct random *random, struct draft *draft, const struct manner *manner)
+{
+    int i;
+    add_number(add_line(draft, "panels="), draft->m);
+    add_number(add_line(draft, "triggers="), draft->n);
+    if (chance(random, 25)) {
+        add_tied(random, draft, manner);
+    } else {
+        for (i = 0; i < draft->m; i++) {
+            add_row(random, draft, "lag=", manner, draft->n, manner->no_lag, 1);
+        }
+        add_row(random, draft, "floor=", manner, draft->m, manner->no_floor, 1);
+        add_row(random, draft, "due=", manner, draft->n, 0, 0);
+    }
+    if (chance(random, 20)) {
+        thin_lags(random, draft);
+    }
+    take_lags(draft, draft->idle);
+    move_due(random, draft);
+}
+
+static void add_rules(struct random *random, struct draft *draft, const struct manner *manner)
+{
+    if (chance(random, 90)) {
+        add_kept(random, draft, "after=", manner, draft->times, draft->n, manner->no_after);
+    } else {
+        add_any(random, draft, "after=", manner, draft->n);
+    }
+    if (chance(random, 50)) {
+        add_land(random, draft, manner);
+    }
+    take_rules(draft, draft->idle);
+    use_some(random, draft);
+}
+
 static void make_draft(struct random *random, struct draft *draft)
 {
     struct manner manner = draw_manner(random);
-    int i;
+    int spread = chance(random, 35), i;
     memset(draft, 0, sizeof *draft);
     draft->m = 1 + below(random, MOST);
     draft->n = 1 + below(random, MOST);
@@ -518,34 +660,16 @@ static void make_draft(struct random *random, struct draft *draft)
     for (i = 0; i < draft->n; i++) {
         draft->times[i] = between(random, -manner.size / 2, manner.size / 2);
     }
-    add_number(add_line(draft, "panels="), draft->m);
-    add_number(add_line(draft, "triggers="), draft->n);
-    if (chance(random, 25)) {
-        add_tied(random, draft, &manner);
-    } else {
-        for (i = 0; i < draft->m; i++) {
-            add_row(random, draft, "lag=", &manner, draft->n, manner.no_lag, 1);
-        }
-        add_row(random, draft, "floor=", &manner, draft->m, manner.no_floor, 1);
-        add_row(random, draft, "due=", &manner, draft->n, 0, 0);
+    add_front(random, draft, &manner);
+    add_rules(random, draft, &manner);
+    if (spread) {
+        use_lags(random, draft);
     }
-    if (chance(random, 20)) {
-        thin_lags(random, draft);
-    }
-    take_lags(draft);
-    move_due(random, draft);
-    if (chance(random, 90)) {
-        add_kept(random, draft, "after=", &manner, draft->times, draft->n, manner.no_after);
-    } else {
-        add_any(random, draft, "after=", &manner, draft->n);
-    }
-    if (chance(random, 50)) {
-        add_land(random, draft, &manner);
-    }
-    take_rules(draft);
-    use_some(random, draft);
     if (chance(random, 35)) {
         add_last(random, draft, &manner);
+    }
+    if (spread) {
+        leave_marks(random, draft);
     }
 }
 
@@ -558,7 +682,9 @@ static const char *const BEYOND[] = {"100001",     "-100001",     "1000000",    
                                      "2147483648", "-2147483649", "4294967301", "18446744073709551621", "-18446744073709551615"};
 static const char *const AT_LIMIT[] = {"100000", "-100000", "99999", "-99999"};
 static const char *const WRONG_SIZES[] = {"0", "7", "-1", "10", "-6", "66", "100001", "4294967298", "18446744073709551618"};
-static const char *const KEYS[] = {"panels=", "triggers=", "lag=", "floor=", "due=", "after=", "land=", "last="};
+static const char *const KEYS[] = {"rule=", "panels=", "triggers=", "lag=", "floor=", "due=", "after=", "land=", "last="};
+static const char *const WRONG_RULES[] = {"1",  "3",  "0",   "-2",  "02", "+2",  "22",  "-",          "",
+                                          " 2", "2 ", "2\r", "2.0", "2,", "2,2", "2,-", "4294967298", "18446744073709551618"};
 static const struct {
     const char *bytes;
     int length;
@@ -581,7 +707,7 @@ static void wrong_due(struct random *random, struct draft *draft)
 {
     struct line *due = line_of(draft, "due=", 0);
     int j = below(random, draft->n);
-    while (draft->idle != 0 && chance(random, 90) && !is_idle(draft, j)) {
+    while (draft->idle != 0 && chance(random, 90) && !is_one_of(draft->idle, j)) {
         j = below(random, draft->n);
     }
     if (due != NULL) {
@@ -640,27 +766,6 @@ static void circle(struct random *random, struct draft *draft)
         set_number(row, j, there);
         set_number(back, i, 1 - there);
     }
-}
-
-static void remove_line(struct draft *draft, int at)
-{
-    memmove(&draft->lines[at], &draft->lines[at + 1], sizeof draft->lines[0] * (size_t)(draft->count - at - 1));
-    draft->count--;
-}
-
-static void repeat_line(struct draft *draft, int at)
-{
-    if (draft->count < LINES) {
-        memmove(&draft->lines[at + 1], &draft->lines[at], sizeof draft->lines[0] * (size_t)(draft->count - at));
-        draft->count++;
-    }
-}
-
-static void exchange_lines(struct draft *draft, int a, int b)
-{
-    struct line line = draft->lines[a];
-    draft->lines[a] = draft->lines[b];
-    draft->lines[b] = line;
 }
 
 /* Another number of items: often that of an after line. */
@@ -787,16 +892,92 @@ static void add_last_fault(struct random *random, struct draft *draft)
     }
 }
 
+/* A line of marks, where there is none: before the after lines or, where there are no more, at the end. */
+static void add_marks_line(struct random *random, struct draft *draft, const char *key, int items)
+{
+    int at = place_of(draft, "after=", 0);
+    struct line *line;
+    if (draft->count < LINES) {
+        line = insert_line(draft, at < 0 ? draft->count : at, key);
+        while (line->count < items) {
+            add_number(line, between(random, -9, 9));
+        }
+    }
+}
+
+/* A fault of a sheet with marks that would be none under rule 2, or the other way round. */
+static void wrong_marks(struct random *random, struct draft *draft)
+{
+    int floor = chance(random, 60), due = !floor || chance(random, 60);
+    if (place_of(draft, "rule=", 0) >= 0) {
+        if (floor) {
+            add_marks_line(random, draft, "floor=", draft->m);
+        }
+        if (due) {
+            add_marks_line(random, draft, "due=", draft->n);
+        }
+        return;
+    }
+    if (floor) {
+        remove_key(draft, "floor=");
+    }
+    if (due) {
+        remove_key(draft, "due=");
+    }
+}
+
+/* The rule line behind one of the others, often between the sizes. */
+static void move_rule(struct random *random, struct draft *draft, int at)
+{
+    struct line line = draft->lines[at];
+    remove_line(draft, at);
+    *insert_line(draft, chance(random, 40) ? 1 : 1 + below(random, draft->count), "rule=") = line;
+}
+
+/* A fault of the rule line, or of what follows from it. A sheet that has none gets one, with any value. */
+static void add_rule_fault(struct random *random, struct draft *draft)
+{
+    const char *wrong = WRONG_RULES[below(random, COUNT_OF(WRONG_RULES))];
+    int at = place_of(draft, "rule=", 0);
+    if (chance(random, 40)) {
+        wrong_marks(random, draft);
+        return;
+    }
+    if (at < 0) {
+        if (draft->count < LINES) {
+            add_rule_line(draft, chance(random, 50) ? "2" : wrong);
+        }
+        return;
+    }
+    switch (below(random, 5)) {
+    case 0:
+        remove_line(draft, at);
+        break;
+    case 1:
+        repeat_line(draft, at);
+        break;
+    case 2:
+        draft->lines[at].end_length = 0;
+        break;
+    case 3:
+        move_rule(random, draft, at);
+        break;
+    default:
+        set_item(&draft->lines[at], 0, wrong);
+        draft->lines[at].count = 1;
+    }
+}
+
 /* One fault, or something beside one, of a kind and at a place that are drawn. */
 static void add_fault(struct random *random, struct draft *draft)
 {
     struct line *line = any_line(random, draft);
     int at = below(random, draft->count), end;
-    if (draft->idle != 0 && chance(random, 20)) {
+    if (draft->idle != 0 && line_of(draft, "due=", 0) != NULL && chance(random, 20)) {
         wrong_due(random, draft);
         return;
     }
-    switch (below(random, 27)) {
+    switch (below(random, 33)) {
     case 0:
         wrong_key(random, line);
         break;
@@ -831,7 +1012,7 @@ static void add_fault(struct random *random, struct draft *draft)
         draft->lines[draft->count - 1].end_length = 0;
         break;
     case 9:
-        set_any(random, &draft->lines[at % 2], WRONG_SIZES[below(random, COUNT_OF(WRONG_SIZES))]);
+        set_any(random, line_of(draft, at % 2 == 0 ? "panels=" : "triggers=", 0), WRONG_SIZES[below(random, COUNT_OF(WRONG_SIZES))]);
         break;
     case 10:
         set_any(random, line, BEYOND[below(random, COUNT_OF(BEYOND))]);
@@ -867,8 +1048,15 @@ static void add_fault(struct random *random, struct draft *draft)
     case 21:
         add_land_fault(random, draft);
         break;
-    default:
+    case 22:
+    case 23:
+    case 24:
+    case 25:
+    case 26:
         add_last_fault(random, draft);
+        break;
+    default:
+        add_rule_fault(random, draft);
     }
 }
 
@@ -944,11 +1132,16 @@ static void change(struct random *random, struct text *text)
     }
 }
 
-/* What random bytes may stand behind: the sizes, a good sheet, and one that has begun with its land lines or with its last line. */
+/*
+ * What random bytes may stand behind: the key of the rule, the sizes, a good sheet under either rule, and one that has begun with its land lines
+ * or with its last line.
+ */
 static const char *const FRONTS[] = {"panels=1\ntriggers=1\n", "panels=1\ntriggers=1\nlag=5\nfloor=0\ndue=0\nafter=-\n",
                                      "panels=1\ntriggers=1\nlag=5\nfloor=0\ndue=0\nafter=-\nland=",
                                      "panels=1\ntriggers=1\nlag=5\nfloor=0\ndue=0\nafter=-\nlast=",
-                                     "panels=1\ntriggers=1\nlag=5\nfloor=0\ndue=0\nafter=-\nland=-\nlast="};
+                                     "panels=1\ntriggers=1\nlag=5\nfloor=0\ndue=0\nafter=-\nland=-\nlast=",
+                                     "rule=", "rule=2\n", "rule=2\npanels=1\ntriggers=1\nlag=5\n",
+                                     "rule=2\npanels=1\ntriggers=1\nlag=5\nafter=-\n"};
 
 static void random_bytes(struct random *random, struct text *text)
 {

@@ -1,10 +1,11 @@
 /*
  * Document 02, No. 4, beside what the meaning says of times. A sheet with spare triggers is planned again
- * - with other due marks for them: nothing is other than before;
+ * - with other due marks for them, where there are marks: nothing is other than before;
  * - without them: deviation, steps, selections and count are the same, and so are the lines, their caps and the kept triggers, each at its
  *   own place;
  * - with a rule x(j) >= x(j) for each of them, so that none is spare: deviation, steps, selections and the kept triggers are the same, and
- *   the list is what is left of that one without the lines that have a component for one of them.
+ *   the list is what is left of that one without the lines that have a component for one of them. Under rule 2 such a sheet is refused, and
+ *   this is said of the sheet with marks.
  */
 #include "spares.h"
 
@@ -13,6 +14,7 @@
 #include "meaning.h"
 #include "pairs.h"
 #include "planned.h"
+#include "rule.h"
 
 struct met_spares met_spares;
 
@@ -24,7 +26,7 @@ void fill_spares(struct random *random, const struct tables *tables, int64_t *ti
         if (is_spare(tables, j)) {
             int64_t anywhere[] = {last, -last, 0, 0, 0};
             anywhere[2] = between(random, -last, last);
-            anywhere[3] = tables->due[j] + between(random, -3, 3);
+            anywhere[3] = (by_spread(tables) ? 0 : tables->due[j]) + between(random, -3, 3);
             anywhere[4] = between(random, -3, 3);
             times[j] = anywhere[below(random, 5)];
         }
@@ -48,6 +50,9 @@ static void check_other_due(struct random *random, const struct tables *tables, 
     static struct planned again;
     struct tables other = *tables;
     int j;
+    if (by_spread(tables)) {
+        return;
+    }
     for (j = 0; j < tables->triggers; j++) {
         other.due[j] = is_spare(tables, j) ? between(random, -LIMIT, LIMIT) : tables->due[j];
     }
@@ -164,10 +169,24 @@ static int is_rest(const struct list *list, const struct list *larger, int byte)
     return at == list->count;
 }
 
+/* The tables with a rule for each spare trigger, with marks: under rule 2 those triggers would need a lag. */
+static struct tables in_use_by_marks(struct random *random, const struct tables *tables)
+{
+    static struct planned refused;
+    struct tables in_use = all_in_use(tables), marked;
+    if (!by_spread(tables)) {
+        return in_use;
+    }
+    plan_tables(random, &refused, &in_use);
+    expect(refused.number == TUZHELAR_NO_TRIGGER_LAG, "under rule 2 a rule that asks for nothing, for a trigger without a lag, is not 14");
+    marked = by_marks(tables);
+    return all_in_use(&marked);
+}
+
 static void check_in_use(struct random *random, const struct tables *tables, const struct planned *planned)
 {
     static struct planned larger;
-    struct tables in_use = all_in_use(tables);
+    struct tables in_use = in_use_by_marks(random, tables);
     struct list list = planned_list(planned, tables), larger_list;
     plan_tables(random, &larger, &in_use);
     larger_list = planned_list(&larger, &in_use);
@@ -202,39 +221,39 @@ static void note_spares(const struct tables *tables)
     met_spares.five += bits(byte) == MOST - 1;
 }
 
-/* The one entry that keeps a trigger from being spare: the counter for its kind, or none where it has a lag or more entries. */
-static uint64_t *only_entry(const struct tables *tables, int j)
+enum only_entry only_entry(const struct tables *tables, int trigger)
 {
-    uint64_t *kind = NULL;
+    enum only_entry kind = NOT_ONE;
     int entries = 0, i;
     for (i = 0; i < MOST; i++) {
-        if (tables->lag[i][j] != NONE) {
-            return NULL;
+        if (tables->lag[i][trigger] != NONE) {
+            return NOT_ONE;
         }
-        if (tables->after[j][i] != NONE) {
-            kind = i == j ? &met_spares.diagonal : &met_spares.row;
+        if (tables->after[trigger][i] != NONE) {
+            kind = i == trigger ? ON_DIAGONAL : IN_ROW;
             entries++;
         }
-        if (i != j && tables->after[i][j] != NONE) {
-            kind = &met_spares.column;
+        if (i != trigger && tables->after[i][trigger] != NONE) {
+            kind = IN_COLUMN;
             entries++;
         }
-        if (tables->land[j][i] != NONE) {
-            kind = &met_spares.land;
+        if (tables->land[trigger][i] != NONE) {
+            kind = IN_LAND;
             entries++;
         }
     }
-    return entries == 1 ? kind : NULL;
+    return entries == 1 ? kind : NOT_ONE;
 }
 
 static void note_only_entries(const struct tables *tables)
 {
     int j;
     for (j = 0; j < tables->triggers; j++) {
-        uint64_t *kind = only_entry(tables, j);
-        if (kind != NULL) {
-            (*kind)++;
-        }
+        enum only_entry only = only_entry(tables, j);
+        met_spares.diagonal += only == ON_DIAGONAL;
+        met_spares.row += only == IN_ROW;
+        met_spares.column += only == IN_COLUMN;
+        met_spares.land += only == IN_LAND;
     }
 }
 

@@ -14,6 +14,12 @@ struct met_spares {
 };
 extern struct met_spares met_spares;
 
+/* The kinds of an entry that alone keeps a trigger from being spare. */
+enum only_entry { NOT_ONE, ON_DIAGONAL, IN_ROW, IN_COLUMN, IN_LAND };
+
+/* The kind of the one entry of a trigger; none where it has a lag, or more or fewer entries. */
+enum only_entry only_entry(const struct tables *tables, int trigger);
+
 /* Any times within the limits for the spare triggers. */
 void fill_spares(struct random *random, const struct tables *tables, int64_t *times);
 

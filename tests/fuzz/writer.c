@@ -1,4 +1,4 @@
-/* Document 01, "The sheet", and document 02, No. 2 and 5, the other way round: from tables to the bytes of a sheet. */
+/* Document 01, "The sheet", and document 02, No. 2, 5 and 7, the other way round: from tables to the bytes of a sheet. */
 #include "writer.h"
 
 #include <inttypes.h>
@@ -38,11 +38,14 @@ void write_tables(const struct tables *tables, int land_lines, struct text *text
 {
     int64_t panels = tables->panels, triggers = tables->triggers;
     text->length = 0;
+    add_text(text, by_spread(tables) ? "rule=2\n" : "");
     write_line(text, "panels=", &panels, 1);
     write_line(text, "triggers=", &triggers, 1);
     write_rows(text, "lag=", tables->lag, tables->panels, tables->triggers);
-    write_line(text, "floor=", tables->floor, tables->panels);
-    write_line(text, "due=", tables->due, tables->triggers);
+    if (!by_spread(tables)) {
+        write_line(text, "floor=", tables->floor, tables->panels);
+        write_line(text, "due=", tables->due, tables->triggers);
+    }
     write_rows(text, "after=", tables->after, tables->triggers, tables->triggers);
     if (land_lines || has_land_rule(tables)) {
         write_rows(text, "land=", tables->land, tables->triggers, tables->panels);

@@ -9,6 +9,7 @@
 
 #include "list.h"
 #include "meaning.h"
+#include "rule.h"
 #include "spares.h"
 #include "writer.h"
 
@@ -59,6 +60,14 @@ size_t before_key(const uint8_t *sheet, size_t length, const char *key)
     return length;
 }
 
+size_t line_end(const uint8_t *sheet, size_t length, size_t at)
+{
+    while (at < length && sheet[at] != '\n') {
+        at++;
+    }
+    return at < length ? at + 1 : length;
+}
+
 int is_good(const uint8_t *sheet, size_t length)
 {
     int64_t none = 0;
@@ -107,11 +116,12 @@ static int spares_of(const uint8_t *sheet, size_t length)
     return read_tables(sheet, length, &tables) == 0 ? spares(&tables) : 0;
 }
 
-/* A copy of a good sheet in which no trigger is spare. Returns its length. */
+/* A copy of a good sheet in which no trigger is spare. Under rule 2 such a one would be refused: it has marks. Returns its length. */
 static size_t use_all(uint8_t *copy, const uint8_t *sheet, size_t length)
 {
     struct tables tables;
     read_tables(sheet, length, &tables);
+    tables = by_spread(&tables) ? by_marks(&tables) : tables;
     tables = all_in_use(&tables);
     return write_copy(copy, &tables);
 }
@@ -223,14 +233,14 @@ static int lacks_spare_due(const uint8_t *sheet, size_t length)
 /* ---- What is forgotten or misread of a sheet */
 
 /*
- * The sheet that a function works on which forgets land rules, spare triggers or the last line: all functions do, or the one whose own fault
- * is named.
+ * The sheet that a function works on which forgets land rules, spare triggers or the last line, or misreads the rule: all functions do, or the
+ * one whose own fault is named.
  */
-static const uint8_t *worked_on(int own_land, int own_spares, int own_last, uint8_t *copy, const uint8_t *sheet, size_t *length)
+static const uint8_t *worked_on(int own_land, int own_spares, int own_last, int own_rule, uint8_t *copy, const uint8_t *sheet, size_t *length)
 {
     int known = fault(45) || fault(46) || fault(55) || fault(79) || fault(own_land) || fault(own_spares) || fault(own_last);
     if (!known || !is_good(sheet, *length)) {
-        return sheet;
+        return misread_rule(own_rule, copy, sheet, length);
     }
     if (fault(own_last)) {
         *length = forget_last(copy, sheet, *length);
@@ -289,7 +299,7 @@ static uint32_t reading(const uint8_t *sheet, size_t length, uint32_t number)
     if (fault(76) && number == TUZHELAR_NO_DUE && lacks_spare_due(sheet, length)) {
         return TUZHELAR_DONE; /* a spare trigger needs no due mark */
     }
-    return reading_last(sheet, length, reading_land(sheet, length, number));
+    return reading_rule(sheet, length, reading_last(sheet, length, reading_land(sheet, length, number)));
 }
 
 /* How many words a line of a sheet takes. */
@@ -341,7 +351,7 @@ uint32_t __wrap_tuzhelar_plan(const uint8_t *sheet, size_t sheet_length, int32_t
 {
     uint8_t copy[TUZHELAR_SHEET_BYTES];
     size_t length = sheet_length, room = room_last(sheet, sheet_length, space_length), wide = words_of(sheet, sheet_length);
-    const uint8_t *work = worked_on(47, 56, 0, copy, sheet, &length);
+    const uint8_t *work = worked_on(47, 56, 0, 161, copy, sheet, &length);
     struct written written = {0, space, space_length, answer, answer_length, answer_length > 5 ? answer[5] : 0};
     uint32_t number = reading(sheet, sheet_length, __real_tuzhelar_plan(work, length, space, room, answer, answer_length));
     int done = number == TUZHELAR_DONE;
@@ -378,7 +388,7 @@ uint32_t __wrap_tuzhelar_kept(const uint8_t *sheet, size_t sheet_length, int64_t
 {
     uint8_t copy[TUZHELAR_SHEET_BYTES];
     size_t length = sheet_length;
-    const uint8_t *work = worked_on(48, 0, 0, copy, sheet, &length);
+    const uint8_t *work = worked_on(48, 0, 0, 162, copy, sheet, &length);
     uint32_t number = reading(sheet, sheet_length, __real_tuzhelar_kept(work, length, answer, answer_length));
     size_t at;
     if (fault(16) && number == TUZHELAR_DONE && answer_length > 0) {
@@ -427,7 +437,7 @@ uint32_t __wrap_tuzhelar_test(const uint8_t *sheet, size_t sheet_length, const i
 {
     uint8_t copy[TUZHELAR_SHEET_BYTES];
     size_t length = sheet_length;
-    const uint8_t *work = worked_on(49, 57, 103, copy, sheet, &length);
+    const uint8_t *work = worked_on(49, 57, 103, 163, copy, sheet, &length);
     uint32_t number = reading(sheet, sheet_length, __real_tuzhelar_test(work, length, times, times_length));
     if (fault(19) && number == TUZHELAR_NO) {
         return TUZHELAR_YES;
@@ -450,6 +460,7 @@ uint32_t __wrap_tuzhelar_test(const uint8_t *sheet, size_t sheet_length, const i
     if (fault(75) && number == TUZHELAR_TIME) {
         return without_spares_times(sheet, sheet_length, times, times_length);
     }
+    number = times_rule(sheet, sheet_length, times_length, number);
     return test_last(sheet, sheet_length, times, times_length, number);
 }
 
@@ -474,8 +485,8 @@ uint32_t __wrap_tuzhelar_same(const uint8_t *first, size_t first_length, const u
 {
     uint8_t copy[TUZHELAR_SHEET_BYTES], other[TUZHELAR_SHEET_BYTES];
     size_t length = first_length, other_length = second_length;
-    const uint8_t *work = worked_on(51, 59, 117, copy, first, &length);
-    const uint8_t *other_work = worked_on(51, 59, 117, other, second, &other_length);
+    const uint8_t *work = worked_on(51, 59, 117, 165, copy, first, &length);
+    const uint8_t *other_work = worked_on(51, 59, 117, 165, other, second, &other_length);
     struct written lefts = {0, left, left_length, answer, answer_length, 0}, rights = {0, right, right_length, answer, answer_length, 0};
     int64_t before[TUZHELAR_SAME_WORDS] = {0, 0, 0, 0};
     int32_t no_left = 0, no_right = 0;
@@ -483,6 +494,7 @@ uint32_t __wrap_tuzhelar_same(const uint8_t *first, size_t first_length, const u
     int written;
     memcpy(before, answer, (answer_length < TUZHELAR_SAME_WORDS ? answer_length : TUZHELAR_SAME_WORDS) * sizeof *answer);
     number = __real_tuzhelar_same(work, length, other_work, other_length, left, left_length, right, right_length, answer, answer_length);
+    number = same_rule(first, first_length, second, second_length, number);
     written = number >= TUZHELAR_SAME && number <= TUZHELAR_UNLIKE;
     if (fault(25) && number == TUZHELAR_DIFFERENT && answer_length > 1 && answer[0] == answer[1]) {
         return TUZHELAR_SAME; /* the counts alone compared */
@@ -582,7 +594,7 @@ uint32_t __wrap_tuzhelar_latest(const uint8_t *sheet, size_t sheet_length, const
 {
     uint8_t copy[TUZHELAR_SHEET_BYTES];
     size_t length = sheet_length;
-    const uint8_t *work = worked_on(50, 58, 0, copy, sheet, &length);
+    const uint8_t *work = worked_on(50, 58, 0, 164, copy, sheet, &length);
     struct written written = {0, space, space_length, answer, answer_length, answer_length > 7 ? answer[7] : 0};
     uint32_t number = reading(sheet, sheet_length, __real_tuzhelar_latest(work, length, times, times_length, space, space_length, answer,
                                                                           answer_length));
@@ -604,7 +616,7 @@ uint32_t __wrap_tuzhelar_latest(const uint8_t *sheet, size_t sheet_length, const
     if (fault(44) && times_length > TUZHELAR_MOST) {
         read_byte = (uint8_t)times[0]; /* times that are too many are read */
     }
-    written.number = number;
+    written.number = number = times_rule(sheet, sheet_length, times_length, number);
     latest_last(sheet, sheet_length, times, times_length, &written);
     return number;
 }

@@ -5,7 +5,7 @@
 #include "reader.h"
 #include "tuzhelar.h"
 
-#define FAULTS 138
+#define FAULTS 175
 
 /* Whether this is the fault that the variable WRONG names. */
 int fault(int number);
@@ -26,6 +26,9 @@ int is_good(const uint8_t *sheet, size_t length);
 
 /* Where the first line with this key starts, which is not the sheet's first, or the sheet's end. */
 size_t before_key(const uint8_t *sheet, size_t length, const char *key);
+
+/* Where the line that starts at a place ends, behind its LF, or the sheet's end. */
+size_t line_end(const uint8_t *sheet, size_t length, size_t at);
 
 /* A sheet of changed tables. Returns its length. */
 size_t write_copy(uint8_t *copy, const struct tables *tables);
@@ -58,5 +61,15 @@ void kept_last(const uint8_t *sheet, size_t length, uint32_t number, int64_t *an
 uint32_t test_last(const uint8_t *sheet, size_t length, const int64_t *times, size_t times_length, uint32_t number);
 void latest_last(const uint8_t *sheet, size_t length, const int64_t *times, size_t times_length, const struct written *written);
 uint32_t same_last(const struct written *left, const struct written *right);
+
+/* ---- Rule 2 (wrong_rule.c) */
+
+/* The sheet that is read in the place of another, written to `copy`, or that sheet itself. `own` is the fault of the function that asks. */
+const uint8_t *misread_rule(int own, uint8_t *copy, const uint8_t *sheet, size_t *length);
+
+/* Faults on top of what a function returned: of every function on one sheet, of those on a sheet and times, and of comparing. */
+uint32_t reading_rule(const uint8_t *sheet, size_t length, uint32_t number);
+uint32_t times_rule(const uint8_t *sheet, size_t length, size_t times_length, uint32_t number);
+uint32_t same_rule(const uint8_t *first, size_t first_length, const uint8_t *second, size_t second_length, uint32_t number);
 
 #endif

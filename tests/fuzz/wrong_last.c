@@ -24,15 +24,6 @@ static uint32_t front_refusal(const uint8_t *sheet, size_t front)
     return number == TUZHELAR_ORDER ? TUZHELAR_DONE : number;
 }
 
-/* Where the line that starts at a place ends, behind its LF, or the sheet's end. */
-static size_t line_end(const uint8_t *sheet, size_t length, size_t at)
-{
-    while (at < length && sheet[at] != '\n') {
-        at++;
-    }
-    return at < length ? at + 1 : length;
-}
-
 static int has_absent_item(const uint8_t *sheet, size_t at, size_t end)
 {
     for (; at + 1 < end; at++) {
@@ -143,7 +134,7 @@ static int64_t least_left(const struct tables *tables, const int32_t *line, int 
             }
         }
         landing = landing == NONE && unreached ? 0 : landing;
-        if (landing != NONE && (!floors || tables->floor[i] != NONE) && tables->last[i] - landing < least) {
+        if (landing != NONE && (!floors || has_floor(tables, i)) && tables->last[i] - landing < least) {
             least = tables->last[i] - landing;
         }
     }
