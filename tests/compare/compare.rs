@@ -6,6 +6,7 @@ use crate::reference::{
     self, CAPPED_WORDS, Compared, LINE_WORDS, Likeness, Line, NoPlan, NotCompared, Plan, Refusal,
     Sheet, Survey,
 };
+use crate::rule;
 use crate::search::{self, Found};
 use crate::sheets::{self, Draft, Random};
 use crate::spares;
@@ -33,7 +34,7 @@ const SPREADS: [i64; 6] = [1, 3, 10, 100, 100_000, 1_000_000];
 /// What was seen on one sheet, for the counts at the end.
 #[derive(Default)]
 pub struct Seen {
-    /// 0 for a good sheet, or the refusal 1 to 8.
+    /// 0 for a good sheet, or the refusal.
     pub code: u32,
     /// Panels and triggers of a good sheet.
     pub size: Option<(usize, usize)>,
@@ -44,6 +45,8 @@ pub struct Seen {
     pub land_rules: bool,
     /// Whether it has a last line.
     pub last_line: bool,
+    /// Whether it is under rule 2.
+    pub by_spread: bool,
     /// How many triggers of a good sheet are spare.
     pub spares: usize,
     /// Plannings refused with 9.
@@ -169,33 +172,47 @@ pub fn compare_sheet(
         ..Seen::default()
     };
     same("kept", &kept_answer(&survey), &(tried.kept)(sheet))?;
-    let mut lines = Vec::new();
-    match &survey {
+    let lines = match &survey {
         Err(number) => {
             compare_refused_plan(tried, sheet, *number, random)?;
             compare_latest(tried, sheet, None, random, &mut seen)?;
+            Vec::new()
         }
-        Ok(survey) => {
-            let read = &survey.tables.sheet;
-            seen.size = Some((read.panels, read.triggers));
-            seen.land_lines = sheet.windows(LAND.len()).any(|bytes| bytes == LAND);
-            seen.land_rules = read.has_land_rules();
-            seen.last_line = read.last.is_some();
-            seen.spares = read.spares().count_ones() as usize;
-            if survey.selections() <= LISTED_SELECTIONS {
-                lines = survey.lines();
-                spares::check_over_the_others(survey, &lines)?;
-                compare_plans(tried, sheet, survey, &lines, random, &mut seen)?;
-                compare_latest(tried, sheet, Some((survey, &lines)), random, &mut seen)?;
-                last::check(tried, sheet, read, &lines, random)?;
-                seen.listed = true;
-            }
-        }
-    }
+        Ok(survey) => compare_good(tried, sheet, survey, random, &mut seen)?,
+    };
     for _ in 0..3 {
         compare_test(tried, sheet, &lines, random, &mut seen)?;
     }
     Ok(seen)
+}
+
+/// Compares plans and latest timings of a good sheet; gives its lines, none where it has many
+/// selections.
+fn compare_good(
+    tried: &Operations,
+    sheet: &[u8],
+    survey: &Survey,
+    random: &mut Random,
+    seen: &mut Seen,
+) -> Result<Vec<Line>, String> {
+    let read = &survey.tables.sheet;
+    seen.size = Some((read.panels, read.triggers));
+    seen.land_lines = sheet.windows(LAND.len()).any(|bytes| bytes == LAND);
+    seen.land_rules = read.has_land_rules();
+    seen.last_line = read.last.is_some();
+    seen.by_spread = read.by_spread;
+    seen.spares = read.spares().count_ones() as usize;
+    if survey.selections() > LISTED_SELECTIONS {
+        return Ok(Vec::new());
+    }
+    let lines = survey.lines();
+    spares::check_over_the_others(survey, &lines)?;
+    compare_plans(tried, sheet, survey, &lines, random, seen)?;
+    compare_latest(tried, sheet, Some((survey, &lines)), random, seen)?;
+    last::check(tried, sheet, read, &lines, random)?;
+    rule::check(tried, sheet, survey, &lines, random)?;
+    seen.listed = true;
+    Ok(lines)
 }
 
 pub fn same<T>(what: &str, wanted: &T, got: &T) -> Result<(), String>
@@ -490,6 +507,9 @@ pub struct Searched {
     pub equal_pairs: u64,
     /// Pairs of other numbers of triggers, or with other spares.
     pub unlike_pairs: u64,
+    /// Pairs of which one sheet alone is under rule 2, and how many of them have equal lists.
+    pub two_rules: u64,
+    pub two_rules_equal: u64,
 }
 
 /// A small sheet and another one, planned and compared by the implementation tried and checked by
@@ -516,10 +536,25 @@ pub fn compare_pair(
         }
         plans.push(plan);
     }
-    let wanted = match &plans[..] {
-        [Err(code), _] => *code,
-        [_, Err(code)] => SECOND + code,
-        [Ok(first), Ok(second)] if one.spares() != other.spares() => {
+    let [first, second] = &plans[..] else {
+        unreachable!("there are two plans");
+    };
+    let wanted = likeness([(one, first), (other, second)], &mut searched)?;
+    let (mut left, mut right) = ([0; SEARCH_SPACE], [0; SEARCH_SPACE]);
+    let found = (tried.same)(&one.write(), &other.write(), &mut left, &mut right);
+    same("two sheets by search", &wanted, &found.code)?;
+    Ok(searched)
+}
+
+/// What two sheets with their plans are to one another, by search.
+fn likeness(
+    [(one, first), (other, second)]: [(&Draft, &Result<Found, u32>); 2],
+    searched: &mut Searched,
+) -> Result<u32, String> {
+    match (first, second) {
+        (Err(code), _) => Ok(*code),
+        (_, Err(code)) => Ok(SECOND + code),
+        (Ok(first), Ok(second)) if one.spares() != other.spares() => {
             searched.unlike_pairs = 1;
             // A trigger that is not spare is present in some line, a spare one in none.
             same(
@@ -527,20 +562,17 @@ pub fn compare_pair(
                 &false,
                 &(first.lines == second.lines),
             )?;
-            UNLIKE
+            Ok(UNLIKE)
         }
-        [Ok(first), Ok(second)] => {
+        (Ok(first), Ok(second)) => {
             let alike = search::check_pair((one, first), (other, second))?;
             searched.pairs = 1;
             searched.equal_pairs = u64::from(alike);
-            if alike { SAME } else { DIFFERENT }
+            searched.two_rules = u64::from(one.by_spread != other.by_spread);
+            searched.two_rules_equal = searched.two_rules * searched.equal_pairs;
+            Ok(if alike { SAME } else { DIFFERENT })
         }
-        _ => unreachable!("there are two plans"),
-    };
-    let (mut left, mut right) = ([0; SEARCH_SPACE], [0; SEARCH_SPACE]);
-    let found = (tried.same)(&one.write(), &other.write(), &mut left, &mut right);
-    same("two sheets by search", &wanted, &found.code)?;
-    Ok(searched)
+    }
 }
 
 /// The latest timing that the implementation tried gives is the one that the search finds.
@@ -642,7 +674,7 @@ pub fn trial(number: u64, random: &mut Random) -> Trial {
     })
 }
 
-/// Two small sheets, nearly always related.
+/// Two small sheets, nearly always related, either of them first.
 fn small_pair(random: &mut Random) -> Trial {
     let draft = sheets::tiny(random);
     let other = if random.chance(10) {
@@ -650,7 +682,11 @@ fn small_pair(random: &mut Random) -> Trial {
     } else {
         sheets::related(random, &draft).0
     };
-    Trial::Pair(draft, other)
+    if random.chance(50) {
+        Trial::Pair(draft, other)
+    } else {
+        Trial::Pair(other, draft)
+    }
 }
 
 /// Two related sheets of any size, sometimes with a damaged or another one in the place of either.
@@ -663,6 +699,9 @@ fn two_sheets(random: &mut Random) -> Trial {
     let (other, known_same) = sheets::related(random, &draft);
     let mut both = [draft.write(), other.write()];
     let at = random.below(2);
+    if random.chance(50) {
+        both.reverse();
+    }
     match random.below(10) {
         0 => both[at] = sheets::damaged(random, &draft),
         1 => both[at] = sheets::any_size(random).write(),

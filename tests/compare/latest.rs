@@ -14,6 +14,10 @@
 //! component by component. A spare time stands in no rule, so that it stays as given: "No. 1 hands that
 //! number back".
 //!
+//! Under No. 7's rule 2 it is tightest when y(h) − y(i) ≤ Δ for all panels h and i, that is, when
+//! x(j) + a(h,j) − y(i) ≤ Δ for every trigger j that reaches h: this says the same as before, with −a(h,j) in
+//! the place of q(j), once for each such h, and 0 in the place of p(i).
+//!
 //! By No. 5 it also meets every last moment: y(i) ≤ last(i) is to say that x(k) ≤ last(i) − a(i,k) for
 //! every k. These bounds hold as those of the given times do, and the lower of the two is lowered further.
 
@@ -93,10 +97,20 @@ fn present(table: &Table) -> impl Iterator<Item = (usize, usize, i64)> {
 
 /// The rules of panel i with trigger k, whose lag is a.
 fn panel_rules(tables: &Tables, i: usize, k: usize, a: i64) -> impl Iterator<Item = Rule> {
-    let sheet = &tables.sheet;
-    let by = a + tables.deviation - sheet.floor[i].expect("the panel has a floor");
+    let floor = tables.sheet.floor[i].expect("the panel has a floor");
+    let by = a + tables.deviation - floor;
+    let measured = measured(&tables.sheet).into_iter();
+    measured.map(move |(j, from)| (j, k, by + from))
+}
+
+/// What each trigger is measured from: its due mark, or under rule 2 where it would have to be fired to land at 0,
+/// for each panel that it reaches.
+fn measured(sheet: &Sheet) -> Vec<(usize, i64)> {
+    if sheet.by_spread {
+        return present(&sheet.lag).map(|(_, j, a)| (j, -a)).collect();
+    }
     let due = |j: usize| sheet.due[j].expect("due marks are present");
-    sheet.in_use().map(move |j| (j, k, by + due(j)))
+    sheet.in_use().map(|j| (j, due(j))).collect()
 }
 
 /// Raises `latest` to the latest times for the rules and any choice of triggers for the panels that are

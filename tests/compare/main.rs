@@ -19,6 +19,7 @@ mod last;
 mod latest;
 mod met;
 mod reference;
+mod rule;
 mod search;
 mod sheets;
 mod spares;
@@ -26,17 +27,19 @@ mod under_test;
 mod wrong;
 mod wrong_hire;
 mod wrong_last;
+mod wrong_rule;
 mod wrong_spares;
 
 use cases::Checks;
 use compare::{Searched, Seen, Trial};
 use itself::REFERENCE;
 use met::Met;
-use sheets::Random;
+use reference::REFUSALS;
+use sheets::{RULE, Random};
 use std::io::Read;
 use std::process::ExitCode;
 use std::time::{Duration, Instant};
-use under_test::{Operations, PlanAnswer, SAME, SECOND, UNDER_TEST, UNLIKE};
+use under_test::{DIFFERENT, Operations, PlanAnswer, SAME, SECOND, UNDER_TEST, UNLIKE};
 
 const USAGE: &str = "usage: compare [SECONDS] [SEED] | --self | --time FILE.. | --plan | --kept";
 const SECONDS: f64 = 4.0;
@@ -50,11 +53,11 @@ const TIMED_SPACE: usize = 1 << 21;
 /// Differences that are printed in full.
 const SHOWN: u64 = 3;
 /// Pairs of small sheets that `--self` searches.
-const SELF_PAIRS: u64 = 400;
+const SELF_PAIRS: u64 = 600;
 /// Sheets among which `--self` wants to meet all kinds.
 const SELF_SHEETS: u64 = 4_000;
 /// Trials in which `--self` compares the reference with itself, and each wrong program with it.
-const SELF_COMPARED: u64 = 1_200;
+const SELF_COMPARED: u64 = 2_400;
 
 fn main() -> ExitCode {
     let arguments: Vec<String> = std::env::args().skip(1).collect();
@@ -140,6 +143,7 @@ fn run_self() -> ExitCode {
     land::run(&mut checks);
     spares::run(&mut checks);
     last::run(&mut checks);
+    rule::run(&mut checks);
     check_hire(&mut checks);
     check_search(&mut checks);
     check_sheets(&mut checks);
@@ -177,6 +181,9 @@ fn check_search(checks: &mut Checks) {
         "unlike pairs are met",
         searched.unlike_pairs > SELF_PAIRS / 20,
     );
+    let [all, equal] = [searched.two_rules, searched.two_rules_equal];
+    checks.check("equal pairs of two rules are met", equal > SELF_PAIRS / 50);
+    checks.check("other pairs of two rules are met", all > equal);
 }
 
 /// What the search says of a program on two small sheets.
@@ -213,9 +220,10 @@ fn check_sheets(checks: &mut Checks) {
 /// Every wrong program is noticed, and one that is wrong in its meaning is also found by search.
 fn check_wrong(checks: &mut Checks) {
     let lines_and_spares = || wrong::MEANING.iter().chain(&wrong_spares::MEANING);
-    let meaning = || lines_and_spares().chain(&wrong_last::MEANING);
+    let marked = || lines_and_spares().chain(&wrong_last::MEANING);
+    let meaning = || marked().chain(&wrong_rule::MEANING);
     let others = wrong::READING.iter().chain(&wrong_spares::OTHERS);
-    let others = others.chain(&wrong_last::OTHERS);
+    let others = others.chain(&wrong_last::OTHERS).chain(&wrong_rule::OTHERS);
     for (name, wrong) in meaning().chain(others) {
         let noticed = (0..SELF_COMPARED).any(|number| noticed(wrong, number));
         checks.check(&format!("noticed: {name}"), noticed);
@@ -251,13 +259,16 @@ fn noticed(tried: &Operations, number: u64) -> bool {
 struct Tally {
     passed: u64,
     failed: u64,
-    codes: [u64; 9],
+    /// Good sheets, and those refused, in the order of `REFUSALS`.
+    good: u64,
+    refused: [u64; REFUSALS.len()],
     sizes: [[u64; 6]; 6],
     listed: u64,
     /// Good sheets with land lines, and with an entry in them.
     land: [u64; 2],
-    /// Good sheets with a last line.
+    /// Good sheets with a last line, and under rule 2.
     last: u64,
+    by_spread: u64,
     /// Good sheets by the number of their spare triggers.
     spares: [u64; 6],
     too_small: u64,
@@ -268,6 +279,8 @@ struct Tally {
     /// refused, and how often it was known that the same timings are tightest.
     two: [u64; 5],
     known: u64,
+    /// Same and other timings of two sheets of which one alone is under rule 2.
+    two_rules: [u64; 2],
     hired: hire::Seen,
 }
 
@@ -280,6 +293,7 @@ fn run(seconds: f64, seed: u64) -> ExitCode {
         land::sheets(),
         spares::sheets(),
         last::sheets(),
+        rule::sheets(),
     ];
     let named = named.concat();
     for (number, sheet) in named.into_iter().enumerate() {
@@ -338,6 +352,10 @@ impl Tally {
                     _ => self.two[if code < SECOND { 3 } else { 4 }] += 1,
                 }
                 self.known += u64::from(known && code == SAME);
+                let [one, other] = sheets.map(|sheet| sheet.starts_with(RULE.as_bytes()));
+                if one != other && [SAME, DIFFERENT].contains(&code) {
+                    self.two_rules[(code - SAME) as usize] += 1;
+                }
             }
             Err(difference) => self.fail(&sheets, &difference),
         }
@@ -352,7 +370,10 @@ impl Tally {
     }
 
     fn add(&mut self, seen: &Seen) {
-        self.codes[seen.code as usize] += 1;
+        self.good += u64::from(seen.code == 0);
+        for (count, refusal) in self.refused.iter_mut().zip(REFUSALS) {
+            *count += u64::from(seen.code == refusal);
+        }
         if let Some((panels, triggers)) = seen.size {
             self.sizes[panels - 1][triggers - 1] += 1;
             self.spares[seen.spares] += 1;
@@ -361,6 +382,7 @@ impl Tally {
         self.land[0] += u64::from(seen.land_lines);
         self.land[1] += u64::from(seen.land_rules);
         self.last += u64::from(seen.last_line);
+        self.by_spread += u64::from(seen.by_spread);
         self.too_small += seen.too_small;
         let sums = self.tests.iter_mut().chain(&mut self.latest);
         for (sum, count) in sums.zip(seen.tests.into_iter().chain(seen.latest)) {
@@ -385,15 +407,16 @@ impl Tally {
         let [lines, rules] = self.land;
         println!(
             "good {}, of these with the list compared {}, with land lines {lines}, \
-             with land rules {rules}, with a last line {}",
-            self.codes[0], self.listed, self.last
+             with land rules {rules}, with a last line {}, under rule 2 {}",
+            self.good, self.listed, self.last, self.by_spread
         );
         println!(
             "good by the number of spare triggers, none first: {:?}",
             self.spares
         );
-        let refused: Vec<String> = (1..9)
-            .map(|code| format!("{code}: {}", self.codes[code]))
+        let refused = REFUSALS.iter().zip(&self.refused);
+        let refused: Vec<String> = refused
+            .map(|(refusal, count)| format!("{refusal}: {count}"))
             .collect();
         println!("refused {}", refused.join(", "));
         println!("plannings refused with 9: {}", self.too_small);
@@ -416,12 +439,14 @@ impl Tally {
         let searched = &self.searched;
         println!(
             "searched {} sheets, {} timings, {} latest ones; {} pairs, {} with equal lists; \
-             {} pairs with other triggers or spares",
+             {} pairs of two rules, {} with equal lists; {} pairs with other triggers or spares",
             searched.sheets,
             searched.timings,
             searched.latest,
             searched.pairs,
             searched.equal_pairs,
+            searched.two_rules,
+            searched.two_rules_equal,
             searched.unlike_pairs
         );
         let [same, other, unlike, first, second] = self.two;
@@ -430,6 +455,8 @@ impl Tally {
              other triggers or spares {unlike}, first refused {first}, second {second}",
             self.known
         );
+        let [same, other] = self.two_rules;
+        println!("of these of two rules: same timings {same}, others {other}");
     }
 }
 
@@ -441,6 +468,8 @@ impl std::ops::AddAssign for Searched {
         self.pairs += more.pairs;
         self.equal_pairs += more.equal_pairs;
         self.unlike_pairs += more.unlike_pairs;
+        self.two_rules += more.two_rules;
+        self.two_rules_equal += more.two_rules_equal;
     }
 }
 

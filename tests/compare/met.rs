@@ -1,68 +1,97 @@
-//! What the sheets of `compare --self` are like: every refusal of reading, 8, every size, with land rules and
-//! with a last line too, and every kind of spare trigger and of last line are wanted.
+//! What the sheets of `compare --self` are like: every refusal of reading, 8, every size, with land rules, with a
+//! last line and under rule 2 too, and every kind of spare trigger, of last line and of sheet under rule 2 are
+//! wanted.
 
 use crate::cases::Checks;
-use crate::reference::{self, Tables};
-use crate::{last, spares};
+use crate::reference::{self, REFUSALS, Refusal, Survey, Tables};
+use crate::{last, rule, spares};
 
-/// Kinds of last lines are looked for on sheets with no more selections, whose lines are found soon.
+/// Kinds of last lines are looked for on sheets with no more selections, whose lines are found soon, and those of
+/// sheets under rule 2 there too.
 const FEW_SELECTIONS: u64 = 20;
 
 /// How many sheets of each kind were met.
 #[derive(Default)]
 pub struct Met {
-    /// 0 for good sheets, then the refusals 1 to 8.
-    codes: [u32; 9],
-    /// Good sheets by panels and triggers: all, those with land rules, those with a last line.
-    sizes: [[[u32; 6]; 6]; 3],
+    /// The refusals, in the order of `REFUSALS`.
+    refused: [u32; REFUSALS.len()],
+    /// Good sheets by panels and triggers: all, those with land rules, those with a last line, those under rule 2.
+    sizes: [[[u32; 6]; 6]; 4],
     spares: [u32; spares::KINDS.len()],
     last: [u32; last::KINDS.len()],
+    rule: [u32; rule::KINDS.len()],
+    lagless: [u32; rule::REFUSED.len()],
 }
 
 impl Met {
     pub fn sheet(&mut self, sheet: &[u8]) {
-        let tables = reference::read(sheet).and_then(reference::tables);
-        let code = tables.as_ref().err().copied().unwrap_or(0);
-        self.codes[code as usize] += 1;
-        if let Ok(tables) = tables {
-            self.good(tables);
+        match reference::read(sheet).and_then(reference::tables) {
+            Ok(tables) => self.good(tables),
+            Err(number) => self.refused(sheet, number),
+        }
+    }
+
+    fn refused(&mut self, sheet: &[u8], number: Refusal) {
+        for (count, refusal) in self.refused.iter_mut().zip(REFUSALS) {
+            *count += u32::from(number == refusal);
+        }
+        if number == 14 {
+            let sheet = reference::read(&rule::with_marks(sheet));
+            let sheet = sheet.expect("14 is the last that reading refuses");
+            for (count, (_, is_met)) in self.lagless.iter_mut().zip(&rule::REFUSED) {
+                *count += u32::from(is_met(&sheet));
+            }
         }
     }
 
     fn good(&mut self, tables: Tables) {
         let sheet = &tables.sheet;
-        let has = [true, sheet.has_land_rules(), sheet.last.is_some()];
+        let has = [
+            true,
+            sheet.has_land_rules(),
+            sheet.last.is_some(),
+            sheet.by_spread,
+        ];
         for (sizes, has) in self.sizes.iter_mut().zip(has) {
             sizes[sheet.panels - 1][sheet.triggers - 1] += u32::from(has);
         }
         for (count, (_, is_met)) in self.spares.iter_mut().zip(&spares::KINDS) {
             *count += u32::from(is_met(sheet));
         }
-        if sheet.last.is_some() {
-            self.capped(tables);
+        if sheet.last.is_none() && !sheet.by_spread {
+            return;
+        }
+        let survey = reference::walked(tables);
+        if survey.selections() <= FEW_SELECTIONS {
+            self.surveyed(&survey);
         }
     }
 
-    fn capped(&mut self, tables: Tables) {
-        let survey = reference::walked(tables);
-        if survey.selections() > FEW_SELECTIONS {
+    fn surveyed(&mut self, survey: &Survey) {
+        let sheet = &survey.tables.sheet;
+        if sheet.by_spread {
+            for (count, (_, is_met)) in self.rule.iter_mut().zip(&rule::KINDS) {
+                *count += u32::from(is_met(survey));
+            }
+        }
+        if sheet.last.is_none() {
             return;
         }
         let lines = survey.lines();
         for (count, (_, is_met)) in self.last.iter_mut().zip(&last::KINDS) {
-            *count += u32::from(is_met(&survey.tables.sheet, &lines));
+            *count += u32::from(is_met(sheet, &lines));
         }
     }
 
     /// A check for each kind.
     pub fn check(&self, checks: &mut Checks) {
         let mut check = |what: &str, count: u32| checks.check(&format!("met: {what}"), count > 0);
-        for (code, count) in self.codes.iter().enumerate() {
-            check(&format!("sheets with code {code}"), *count);
+        for (refusal, count) in REFUSALS.iter().zip(&self.refused) {
+            check(&format!("sheets refused with {refusal}"), *count);
         }
         let least =
             |sizes: &[[u32; 6]; 6]| sizes.iter().flatten().copied().fold(u32::MAX, u32::min);
-        let with = ["nothing more", "land rules", "a last line"];
+        let with = ["nothing more", "land rules", "a last line", "rule 2"];
         for (with, sizes) in with.iter().zip(&self.sizes) {
             check(
                 &format!("good sheets of every size with {with}"),
@@ -74,6 +103,12 @@ impl Met {
         }
         for (count, (kind, _)) in self.last.iter().zip(&last::KINDS) {
             check(&format!("sheets with a last line and {kind}"), *count);
+        }
+        for (count, (kind, _)) in self.rule.iter().zip(&rule::KINDS) {
+            check(&format!("sheets under rule 2 with {kind}"), *count);
+        }
+        for (count, (kind, _)) in self.lagless.iter().zip(&rule::REFUSED) {
+            check(&format!("sheets refused with 14 for {kind}"), *count);
         }
     }
 }

@@ -1,6 +1,6 @@
 //! Document 01, word for word, in plain Rust: from a sheet's bytes to the answers; with document 02's
-//! No. 2, "Triggers that wait for a landing", No. 4, "Spare triggers", and No. 5, "Landings before the
-//! downbeat".
+//! No. 2, "Triggers that wait for a landing", No. 4, "Spare triggers", No. 5, "Landings before the
+//! downbeat", and No. 7, "The new rule of the houses".
 //! Clarity before speed; it shares no code with the planner it is compared with.
 
 use std::collections::BTreeSet;
@@ -29,15 +29,20 @@ pub type Line = [Entry; SIZE];
 pub type Kept = [[bool; SIZE]; SIZE];
 /// The number of a refusal.
 pub type Refusal = u32;
+/// What the kept table may refuse, in that order: reading's refusals, then 8.
+pub const REFUSALS: [Refusal; 9] = [1, 2, 3, 4, 5, 6, 7, 14, 8];
 
 // ---------------------------------------------------------------- The sheet
 
 /// What a good sheet says.
 #[derive(Clone)]
 pub struct Sheet {
+    /// Whether it begins with `rule=2`, so that a cue is measured by the spread of landings.
+    pub by_spread: bool,
     pub panels: usize,
     pub triggers: usize,
     pub lag: Table,
+    /// The marks that its lines give, or that count under rule 2.
     pub floor: Vec<Entry>,
     pub due: Vec<Entry>,
     pub after: Table,
@@ -63,9 +68,14 @@ impl Sheet {
     /// No. 4: "A trigger is now spare if it has no lag to any panel, no present after entry in its row or
     /// column, and no present land entry in its row."
     pub fn is_spare(&self, j: usize) -> bool {
-        let no_column = |table: &Table| table.iter().all(|row| row[j].is_none());
         let no_row = |table: &Table| all_absent(&table[j]);
-        no_column(&self.lag) && no_row(&self.after) && no_column(&self.after) && no_row(&self.land)
+        let no_column = self.after.iter().all(|row| row[j].is_none());
+        self.is_lagless(j) && no_row(&self.after) && no_column && no_row(&self.land)
+    }
+
+    /// Whether a trigger has no lag to any panel.
+    fn is_lagless(&self, j: usize) -> bool {
+        self.lag.iter().all(|row| row[j].is_none())
     }
 
     /// The triggers that are not spare.
@@ -80,32 +90,28 @@ impl Sheet {
     }
 }
 
-/// "Reading": refusals 1 to 7.
+/// "Reading": refusals 1 to 7 and 14.
 pub fn read(bytes: &[u8]) -> Result<Sheet, Refusal> {
     if bytes.len() > LONGEST_SHEET {
         return Err(1);
     }
     // "Lines in order: panels, triggers, m lines lag, floor, due, n lines after."
     let mut rest = bytes;
+    let by_spread = read_rule(&mut rest)?;
     let panels = read_size(&mut rest, b"panels=")?;
     let triggers = read_size(&mut rest, b"triggers=")?;
     let lag = read_rows(&mut rest, b"lag=", panels, triggers)?;
-    let floor = read_entries(&mut rest, b"floor=", panels)?;
-    let due = read_present(&mut rest, b"due=", triggers)?;
+    let (floor, due) = if by_spread {
+        marks_of_lags(&lag)
+    } else {
+        let floor = read_entries(&mut rest, b"floor=", panels)?;
+        (floor, read_present(&mut rest, b"due=", triggers)?)
+    };
     let after = read_rows(&mut rest, b"after=", triggers, triggers)?;
     let land = read_land(&mut rest, triggers, panels)?;
     let last = read_last(&mut rest, panels)?;
-    // "After the lines: bytes left over are 2; then 6: a panel with no lag; then 7: no floor at all."
-    if !rest.is_empty() {
-        return Err(2);
-    }
-    if lag.iter().any(|row| all_absent(row)) {
-        return Err(6);
-    }
-    if all_absent(&floor) {
-        return Err(7);
-    }
-    Ok(Sheet {
+    let sheet = Sheet {
+        by_spread,
         panels,
         triggers,
         lag,
@@ -114,11 +120,49 @@ pub fn read(bytes: &[u8]) -> Result<Sheet, Refusal> {
         after,
         land,
         last,
-    })
+    };
+    refused_after_lines(rest, &sheet).map_or(Ok(sheet), Err)
+}
+
+/// "After the lines: bytes left over are 2; then 6: a panel with no lag; then 7: no floor at all." No. 7: "It
+/// refuses a trigger that is not spare and has no lag, under rule 2, as 14, after 7."
+fn refused_after_lines(rest: &[u8], sheet: &Sheet) -> Option<Refusal> {
+    if !rest.is_empty() {
+        Some(2)
+    } else if sheet.lag.iter().any(|row| all_absent(row)) {
+        Some(6)
+    } else if all_absent(&sheet.floor) {
+        Some(7)
+    } else if sheet.by_spread && sheet.in_use().any(|j| sheet.is_lagless(j)) {
+        Some(14)
+    } else {
+        None
+    }
 }
 
 fn all_absent(entries: &[Entry]) -> bool {
     entries.iter().all(Option::is_none)
+}
+
+/// No. 7: "A sheet may begin with `rule=2`; without it the old rule holds, and any other value there is refused
+/// as 2." Whether it does.
+fn read_rule(rest: &mut &[u8]) -> Result<bool, Refusal> {
+    if !rest.starts_with(b"rule=") {
+        return Ok(false);
+    }
+    *rest = rest.strip_prefix(b"rule=2\n").ok_or(2u32)?;
+    Ok(true)
+}
+
+/// No. 7: "every floor counts as 0 and due j as minus the largest lag of trigger j". A spare trigger has no lag,
+/// and its mark, 0 here, plays no part.
+fn marks_of_lags(lag: &Table) -> (Vec<Entry>, Vec<Entry>) {
+    let longest = |j: usize| largest(lag.iter().map(|row| row[j]));
+    let due = |j: usize| Some(-longest(j).unwrap_or(0));
+    (
+        vec![Some(0); lag.len()],
+        (0..lag[0].len()).map(due).collect(),
+    )
 }
 
 /// A size line: "an absent size" is 2, "3: a size not 1 to 6".
@@ -726,11 +770,21 @@ fn rules_kept(rules: &Table, x: &[Entry], waited_for: &[Entry]) -> bool {
 }
 
 /// "Deviation is the largest x(j) − q(j) plus the largest p(i) − y(i) over panels with a floor." By
-/// No. 4 "The largest x(j) − q(j) is taken over triggers that are not spare."
+/// No. 4 "The largest x(j) − q(j) is taken over triggers that are not spare." No. 7: "Houses now measure a cue by
+/// the spread of landings".
 fn deviation(sheet: &Sheet, x: &[Entry]) -> Entry {
+    if sheet.by_spread {
+        return spread(sheet, x);
+    }
     let late = largest(sheet.in_use().map(|j| Some(x[j]? - sheet.due[j]?)));
     let short = largest((0..sheet.panels).map(|i| Some(sheet.floor[i]? - landing(sheet, x, i)?)));
     plus(late, short)
+}
+
+/// "the spread of landings, latest less earliest"
+pub fn spread(sheet: &Sheet, x: &[Entry]) -> Entry {
+    let landings = || (0..sheet.panels).map(|i| landing(sheet, x, i));
+    Some(landings().max()?? - landings().min()??)
 }
 
 /// No. 5: whether times, or a line with a weight, meet "every last moment", if the sheet has any. An absent

@@ -1,5 +1,5 @@
 //! The meaning of a plan, checked by search on small sheets: document 01's definitions of landing,
-//! deviation, order and tightest, with document 02's land rules, spare triggers and last moments, over
+//! deviation, order and tightest, with document 02's land rules, spare triggers, last moments and rule 2, over
 //! every timing of a window, and none of its method.
 //!
 //! Why a window is enough. Moving all times together changes neither order nor deviation, so x(1)
@@ -15,6 +15,9 @@
 //! - Least deviation: one from the window for order is at most (n − 1)·R + 3·E, none is below −3·E.
 //! - Deviation at most Δ: some choice of a trigger k for each panel i with a floor has
 //!   x(k) − x(j) ≥ p(i) − Δ − q(j) − a(i,k) for all j, so C = (n − 1)·R + 6·E.
+//! - Under rule 2 none is below 0, one from that window is at most (n − 1)·R + 2·E, and for at most Δ some
+//!   choice for each panel i has x(k) − x(j) ≥ a(h,j) − Δ − a(i,k) for every j and panel h that it reaches:
+//!   no larger a C.
 //! - Combination of lines: each j has a line whose present components fulfil
 //!   x(k) − x(j) ≥ line(k) − line(j), so C = D, the largest component absolutely.
 //! - Where two such sets differ, one system of the first holds with one rule of each system of the
@@ -96,14 +99,22 @@ fn landing(draft: &Draft, x: &[i64], i: usize) -> i64 {
 }
 
 /// "the largest x(j) − q(j) plus the largest p(i) − y(i) over panels with a floor", the first "taken over
-/// triggers that are not spare"
+/// triggers that are not spare"; under rule 2 "the spread of landings"
 fn deviation(draft: &Draft, x: &[i64]) -> i64 {
+    if draft.by_spread {
+        return spread(draft, x);
+    }
     let late = in_use(draft).map(|j| x[j] - draft.due[j]).max();
     let floors = draft.floor.iter().enumerate();
     let short = floors
         .filter_map(|(i, p)| p.map(|p| p - landing(draft, x, i)))
         .max();
     late.expect("a trigger has a lag") + short.expect("there is a floor")
+}
+
+/// "latest less earliest"
+fn spread(draft: &Draft, x: &[i64]) -> i64 {
+    apart((0..draft.panels()).map(|i| landing(draft, x, i)))
 }
 
 /// The triggers that are not spare.
@@ -150,8 +161,10 @@ fn largest_entry(draft: &Draft) -> i64 {
     let land = draft.land.iter().flatten();
     let tables = draft.lag.iter().chain(&draft.after).chain(land).flatten();
     let due = in_use(draft).map(|j| &draft.due[j]);
-    let entries = tables.chain(&draft.floor).flatten().chain(due);
-    entries.map(|v| v.abs()).max().expect("there is a floor")
+    let marks = draft.floor.iter().flatten().chain(due);
+    let marks = marks.filter(|_| !draft.by_spread);
+    let entries = tables.flatten().chain(marks);
+    entries.map(|v| v.abs()).max().expect("panels have lags")
 }
 
 /// Half the window for a sheet and its lines, by the bounds above, last moments left out.

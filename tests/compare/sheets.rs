@@ -40,12 +40,17 @@ impl Random {
     }
 }
 
+/// The line with which a sheet under rule 2 begins.
+pub const RULE: &str = "rule=2\n";
+
 /// Rows of entries. Absent is `None`.
 pub type Table = Vec<Vec<Option<i64>>>;
 
 /// A sheet before it is written.
 #[derive(Clone, Debug)]
 pub struct Draft {
+    /// Whether it begins with rule=2; its floors and due marks are not written then.
+    pub by_spread: bool,
     pub lag: Table,
     pub floor: Vec<Option<i64>>,
     pub due: Vec<i64>,
@@ -67,10 +72,14 @@ impl Draft {
 
     /// The sheet's bytes.
     pub fn write(&self) -> Vec<u8> {
-        let mut text = format!("panels={}\ntriggers={}\n", self.panels(), self.triggers());
+        let rule = if self.by_spread { RULE } else { "" };
+        let (m, n) = (self.panels(), self.triggers());
+        let mut text = format!("{rule}panels={m}\ntriggers={n}\n");
         self.lag.iter().for_each(|row| text += &written("lag", row));
-        text += &written("floor", &self.floor);
-        text += &written("due", &all_present(&self.due));
+        if !self.by_spread {
+            text += &written("floor", &self.floor);
+            text += &written("due", &all_present(&self.due));
+        }
         self.after
             .iter()
             .for_each(|row| text += &written("after", row));
@@ -88,6 +97,34 @@ impl Draft {
         let waits = self.land.iter().flat_map(|land| &land[j]);
         let rules = self.after[j].iter().chain(waits).copied().chain(behind_it);
         lags.chain(rules).all(|entry| entry.is_none())
+    }
+
+    /// The largest lag of a trigger, where it has any.
+    fn longest_lag(&self, j: usize) -> Option<i64> {
+        self.lag.iter().filter_map(|row| row[j]).max()
+    }
+
+    /// Whether rule 2 does not take a trigger: it is not spare and has no lag.
+    fn is_lagless(&self, j: usize) -> bool {
+        !self.is_spare(j) && self.longest_lag(j).is_none()
+    }
+
+    /// The marks that say what rule 2 would. A spare trigger could have any.
+    pub fn say_by_marks(&mut self) {
+        self.by_spread = false;
+        self.floor = vec![Some(0); self.panels()];
+        let due = |j: usize| -self.longest_lag(j).unwrap_or(0);
+        self.due = (0..self.triggers()).map(due).collect();
+    }
+
+    /// Whether its marks say what rule 2 would: every floor is the same, and every due mark as long before one
+    /// moment as the largest lag of its trigger.
+    fn says_spread(&self) -> bool {
+        let in_use = || (0..self.triggers()).filter(|&j| !self.is_spare(j));
+        let mut moments = in_use().map(|j| self.longest_lag(j).map(|a| self.due[j] + a));
+        let first = moments.next().flatten();
+        let floors = self.floor[0].is_some() && self.floor.iter().all(|p| *p == self.floor[0]);
+        floors && first.is_some() && moments.all(|moment| moment == first)
     }
 
     /// For each trigger whether it is spare.
@@ -158,6 +195,7 @@ impl Manner {
 
     fn draft(&self, random: &mut Random, m: usize, n: usize) -> Draft {
         Draft {
+            by_spread: false,
             lag: (0..m).map(|_| self.row(random, n, self.no_lag)).collect(),
             floor: self.row(random, m, self.no_floor),
             due: (0..n).map(|_| self.number(random)).collect(),
@@ -191,11 +229,12 @@ pub fn tiny(random: &mut Random) -> Draft {
     side_panel(random, &mut draft);
     land(random, &mut draft, manner.size);
     idle(random, &mut draft);
+    rule(random, &mut draft, manner.size, 0);
     last(random, &mut draft, 3 * manner.size);
     draft
 }
 
-/// A draft of any size. Nearly all are good sheets; some are refused with 6, 7 or 8.
+/// A draft of any size. Nearly all are good sheets; some are refused with 6, 7, 14 or 8.
 pub fn any_size(random: &mut Random) -> Draft {
     let (m, n) = (1 + random.below(6), 1 + random.below(6));
     let size = *random.pick(&[1, 1, 2, 2, 3, 5, 20, 400, 100_000]);
@@ -218,6 +257,7 @@ pub fn any_size(random: &mut Random) -> Draft {
     side_panel(random, &mut draft);
     land(random, &mut draft, (3 * size).min(100_000));
     idle(random, &mut draft);
+    rule(random, &mut draft, size, 10);
     last(random, &mut draft, (3 * size).min(100_000));
     draft
 }
@@ -248,6 +288,7 @@ pub fn at_limits(random: &mut Random) -> Draft {
         draft.land = Some((0..n).map(|_| manner.row(random, m, 80)).collect());
     }
     idle(random, &mut draft);
+    rule(random, &mut draft, 100_000, 10);
     last(random, &mut draft, 100_000);
     if random.chance(20) {
         draft.last = Some((0..m).map(|_| manner.number(random)).collect());
@@ -277,14 +318,16 @@ fn land_chain(draft: &mut Draft, step: i64) {
 }
 
 /// A draft whose floors nearly tie: lag, floor and due come from marks, so that many entries are
-/// kept and many are tied for pruning.
+/// kept and many are tied for pruning; under rule 2 where all panels have the same height.
 pub fn nearly_tied(random: &mut Random) -> Draft {
     let (m, n) = (1 + random.below(6), 1 + random.below(6));
     let noise = random.between(0, 2);
     let absent = *random.pick(&[0, 30, 50]);
+    let tallest = *random.pick(&[0, 9]);
     let marks: Vec<i64> = (0..n).map(|_| random.between(-9, 9)).collect();
-    let heights: Vec<i64> = (0..m).map(|_| random.between(-9, 9)).collect();
+    let heights: Vec<i64> = (0..m).map(|_| random.between(-tallest, tallest)).collect();
     let mut draft = Draft {
+        by_spread: false,
         lag: vec![vec![None; n]; m],
         floor: Vec::new(),
         due: marks.iter().map(|v| v + random.between(0, noise)).collect(),
@@ -305,6 +348,7 @@ pub fn nearly_tied(random: &mut Random) -> Draft {
     side_panel(random, &mut draft);
     land(random, &mut draft, 40);
     idle(random, &mut draft);
+    rule(random, &mut draft, 3, 10);
     last(random, &mut draft, 40);
     draft
 }
@@ -501,6 +545,33 @@ fn give_one(random: &mut Random, draft: &mut Draft, trigger: usize, other: usize
     }
 }
 
+/// In a third of the sheets rule 2, in a few more marks that say the same; for so many percent of them some
+/// trigger may be left without a lag that it needs, elsewhere each has one.
+fn rule(random: &mut Random, draft: &mut Draft, size: i64, lagless: usize) {
+    let manner = random.below(12);
+    if manner > 4 {
+        return;
+    }
+    if !random.chance(lagless) {
+        give_lags(random, draft, size);
+    }
+    if manner == 0 {
+        draft.say_by_marks();
+    } else {
+        draft.by_spread = true;
+    }
+}
+
+/// A lag for each trigger that rule 2 would not take.
+fn give_lags(random: &mut Random, draft: &mut Draft, size: i64) {
+    for j in 0..draft.triggers() {
+        if draft.is_lagless(j) {
+            let panel = random.below(draft.panels());
+            draft.lag[panel][j] = Some(random.between(-size, size));
+        }
+    }
+}
+
 /// In four sheets of nine a last line: one moment for all panels, moments within ±`size`, or such as the
 /// landings of some times just meet or miss. A panel without a floor may have an early one: it decides for
 /// the lines that reach it, and not for those that do not.
@@ -546,9 +617,15 @@ pub fn related(random: &mut Random, draft: &Draft) -> (Draft, bool) {
         (0..1 + random.below(2)).for_each(|_| keep_timings(random, &mut other));
     } else {
         (0..1 + random.below(3)).for_each(|_| change_entry(random, &mut other));
+        if random.chance(20) {
+            other.by_spread = !other.by_spread;
+        }
         mend(random, &mut other, 1);
         if random.chance(30) {
             idle(random, &mut other);
+        }
+        if other.by_spread {
+            give_lags(random, &mut other, 1);
         }
     }
     if random.chance(20) {
@@ -567,13 +644,15 @@ fn keep_timings(random: &mut Random, draft: &mut Draft) {
     let by = *random.pick(&[-1, 1]);
     let move_floors = |draft: &mut Draft| draft.floor.iter_mut().for_each(|p| *p = moved(*p, by));
     let move_dues = |draft: &mut Draft| draft.due.iter_mut().for_each(|q| *q += by);
-    match random.below(17) {
+    match random.below(19) {
         0 => move_floors(draft),
         1 => move_dues(draft),
         2 => {
             move_floors(draft);
             move_dues(draft);
         }
+        // By the spread of landings, all panels together.
+        3 if draft.by_spread => (0..draft.panels()).for_each(|i| move_panel(draft, i, by)),
         3 => move_panel(draft, panel, by),
         4 => {
             let other = random.below(draft.panels());
@@ -593,7 +672,17 @@ fn keep_timings(random: &mut Random, draft: &mut Draft) {
         12 => draft.land = land_said_otherwise(draft),
         13 => change_moment(random, draft, by),
         14 => draft.last = last_or_none(random, draft),
+        15 | 16 => rule_said_otherwise(draft),
         _ => change_spare_dues(random, draft),
+    }
+}
+
+/// Marks in the place of rule 2; rule 2 in the place of marks that say the same.
+fn rule_said_otherwise(draft: &mut Draft) {
+    if draft.by_spread {
+        draft.say_by_marks();
+    } else {
+        draft.by_spread = draft.says_spread();
     }
 }
 
@@ -781,17 +870,23 @@ pub fn damaged(random: &mut Random, draft: &Draft) -> Vec<u8> {
     let mut draft = draft.clone();
     if random.chance(10) {
         without_lag_or_floor(random, &mut draft);
+        if random.chance(30) {
+            return draft.write();
+        }
     }
     // Such lines are a fault by themselves, which any other would hide.
     if random.chance(15) {
         draft.land = Some(misshapen_land(random, &draft));
         return draft.write();
     }
-    if random.chance(30) {
+    if random.chance(25) {
         return with_faulty_last(random, draft);
     }
+    if random.chance(40) {
+        return with_faulty_rule(random, draft);
+    }
     let spare = (0..draft.triggers()).find(|&j| draft.is_spare(j));
-    if let (Some(spare), true) = (spare, random.chance(20)) {
+    if let (Some(spare), false, true) = (spare, draft.by_spread, random.chance(20)) {
         return with_faulty_due(random, &draft, spare);
     }
     let mut bytes = draft.write();
@@ -856,6 +951,103 @@ fn faulty_moments(random: &mut Random, m: usize) -> Vec<&'static str> {
         items[random.below(m)] = *random.pick(&faults);
     }
     items
+}
+
+/// Rule lines that a reader gets wrong, most easily the first four: none of them is good at the front of a sheet.
+const RULES: [&str; 26] = [
+    "rule=1\n",
+    "rule=2",
+    "rule=02\n",
+    "rule=2,2\n",
+    "rule=3\n",
+    "rule=0\n",
+    "rule=-\n",
+    "rule=-2\n",
+    "rule=+2\n",
+    "rule=22\n",
+    "rule=2.\n",
+    "rule=100001\n",
+    "rule=4294967298\n",
+    "rule=\n",
+    "rule=2,\n",
+    "rule= 2\n",
+    "rule=2 \n",
+    "rule=2\r\n",
+    "rule=",
+    "rule",
+    "Rule=2\n",
+    "rule =2\n",
+    " rule=2\n",
+    "\nrule=2\n",
+    "rule=2\n\n",
+    "rule=2\nrule=2\n",
+];
+
+/// A rule line that is wrong, perhaps in a sheet near the limit of length, one line more or in another place, marks
+/// beside rule 2 or none without it, or a trigger that rule 2 does not take.
+fn with_faulty_rule(random: &mut Random, mut draft: Draft) -> Vec<u8> {
+    draft.by_spread = random.chance(60);
+    match random.below(8) {
+        0 | 1 => with_wrong_rule(random, &draft),
+        2 => {
+            let mut sheet = with_wrong_rule(random, &draft);
+            sheet.resize(2046 + random.below(5), b'\n');
+            sheet
+        }
+        3 | 4 => {
+            let mut lines = lines_of(&draft.write());
+            let moved = random.chance(50);
+            lines.retain(|line| !(moved && line == RULE.as_bytes()));
+            let any = random.below(lines.len() + 1);
+            lines.insert(*random.pick(&[0, any]), RULE.into());
+            lines.concat()
+        }
+        5 => with_some_marks(random, draft),
+        _ => {
+            draft.by_spread = true;
+            take_lags(random, &mut draft);
+            draft.write()
+        }
+    }
+}
+
+fn with_wrong_rule(random: &mut Random, draft: &Draft) -> Vec<u8> {
+    let sheet = draft.write();
+    let lines = sheet.strip_prefix(RULE.as_bytes()).unwrap_or(&sheet);
+    let rules = *random.pick(&[&RULES[..4], &RULES]);
+    [random.pick(rules).as_bytes(), lines].concat()
+}
+
+/// Under rule 2 with some of its marks, or without the rule and without some of them.
+fn with_some_marks(random: &mut Random, mut draft: Draft) -> Vec<u8> {
+    let ways: [(&str, &[&str]); 6] = [
+        (RULE, &[]),
+        (RULE, &["floor="]),
+        (RULE, &["due="]),
+        ("", &["floor="]),
+        ("", &["due="]),
+        ("", &["floor=", "due="]),
+    ];
+    let (rule, left_out) = random.pick(&ways);
+    draft.by_spread = false;
+    let mut lines = lines_of(&draft.write());
+    lines.retain(|line| !left_out.iter().any(|key| line.starts_with(key.as_bytes())));
+    [rule.as_bytes(), &lines.concat()].concat()
+}
+
+/// Takes all lags of a trigger, which often has a rule, and sometimes those of a panel.
+fn take_lags(random: &mut Random, draft: &mut Draft) {
+    let n = draft.triggers();
+    let trigger = random.below(n);
+    let busy = (trigger + 1) % n;
+    take_all(draft, trigger, busy);
+    if random.chance(80) {
+        give_one(random, draft, trigger, busy);
+    }
+    if random.chance(20) {
+        let panel = random.below(draft.panels());
+        draft.lag[panel].fill(None);
+    }
 }
 
 /// A byte changed, removed, inserted or duplicated.
@@ -947,18 +1139,16 @@ fn change_item(random: &mut Random, line: &[u8]) -> Vec<u8> {
     format!("{key}={}\n", items.join(",")).into_bytes()
 }
 
-/// Another size, or an absent or wrong due mark.
+/// Another size, or an absent or wrong due mark, where the sheet has the line.
 fn damage_size_or_due(random: &mut Random, bytes: Vec<u8>) -> Vec<u8> {
     let mut lines = lines_of(&bytes);
-    let due = lines.iter().position(|line| line.starts_with(b"due="));
-    match random.below(3) {
-        0 if !lines.is_empty() => lines[0] = size_line(random, "panels"),
-        1 if lines.len() > 1 => lines[1] = size_line(random, "triggers"),
-        _ => {
-            if let Some(at) = due {
-                lines[at] = due_with_absent(random, &lines[at]);
-            }
-        }
+    let key = *random.pick(&["panels", "triggers", "due"]);
+    let is_it = |line: &Vec<u8>| line.starts_with(format!("{key}=").as_bytes());
+    if let Some(at) = lines.iter().position(is_it) {
+        lines[at] = match key {
+            "due" => due_with_absent(random, &lines[at]),
+            _ => size_line(random, key),
+        };
     }
     lines.concat()
 }
@@ -994,12 +1184,13 @@ fn with_faulty_due(random: &mut Random, draft: &Draft, spare: usize) -> Vec<u8> 
 
 /// What is put behind a sheet. To one of a single panel and trigger, such land lines are no fault, and to one
 /// of a single panel such a last line.
-const LEFT_OVER: [&[u8]; 13] = [
+const LEFT_OVER: [&[u8]; 14] = [
     b"\n",
     b"x",
     b"\0",
     b"after=-\n",
     b"panels=1\n",
+    b"rule=2\n",
     b"land=-\n",
     b"land=",
     b"land",
@@ -1049,8 +1240,10 @@ pub fn raw(random: &mut Random) -> Vec<u8> {
     } else {
         length
     };
-    let begins: [&[u8]; 4] = [
+    let begins: [&[u8]; 6] = [
         b"",
+        b"rule=",
+        b"rule=2\n",
         b"panels=1\n",
         b"panels=1\ntriggers=1\n",
         b"panels=1\ntriggers=1\nlag=",

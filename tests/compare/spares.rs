@@ -295,7 +295,7 @@ fn has_one_between(sheet: &Sheet) -> bool {
 
 /// Whether some trigger has entries of one kind and no other: lags, the diagonal after entry, those of its
 /// row, of its column, land entries.
-fn has_only(sheet: &Sheet, kind: usize) -> bool {
+pub fn has_only(sheet: &Sheet, kind: usize) -> bool {
     let mut only = [false; 5];
     only[kind] = true;
     (0..sheet.triggers).any(|j| kinds_of_entries(sheet, j) == only)
@@ -343,6 +343,7 @@ fn of_triggers(sheet: &Sheet, places: &[usize]) -> Sheet {
     let items = |row: &Vec<Entry>| places.iter().map(|&j| row[j]).collect();
     let rows = |table: &Table| places.iter().map(|&j| table[j].clone()).collect::<Table>();
     Sheet {
+        by_spread: sheet.by_spread,
         panels: sheet.panels,
         triggers: places.len(),
         lag: sheet.lag.iter().map(items).collect(),

@@ -70,6 +70,7 @@ pub fn changed(sheet: &[u8], change: impl FnOnce(&mut Draft)) -> Vec<u8> {
 
 fn draft_of(sheet: Sheet) -> Draft {
     Draft {
+        by_spread: sheet.by_spread,
         lag: sheet.lag,
         floor: sheet.floor,
         due: sheet.due.into_iter().flatten().collect(),

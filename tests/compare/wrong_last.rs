@@ -298,7 +298,7 @@ impl Mistake for NoneBeside9 {
 const LAST: &str = "last=";
 
 /// The lines of a sheet, changed; the original where they are no text.
-fn with_lines(sheet: &[u8], change: impl FnOnce(&mut Vec<String>)) -> Vec<u8> {
+pub fn with_lines(sheet: &[u8], change: impl FnOnce(&mut Vec<String>)) -> Vec<u8> {
     let Ok(text) = std::str::from_utf8(sheet) else {
         return sheet.to_vec();
     };

@@ -36,9 +36,13 @@ pub const OTHERS: [(&str, Operations); 4] = [
     ("no due mark for a spare", operations::<NoSpareDue>()),
 ];
 
-/// The sheet with a rule that asks nothing for each spare trigger, which then is in use.
+/// The sheet with a rule that asks nothing for each spare trigger, which then is in use; its due mark under rule 2,
+/// which does not take it there, is 0.
 fn all_in_use(sheet: &[u8]) -> Vec<u8> {
     changed(sheet, |draft| {
+        if draft.by_spread && draft.spares().contains(&true) {
+            draft.say_by_marks();
+        }
         for (j, spare) in draft.spares().into_iter().enumerate() {
             if spare {
                 draft.after[j][j] = Some(0);
