@@ -1,28 +1,30 @@
 //! The two sides on random sheets: small, with many equal entries, absent ones, after and land rules, last
-//! moments, idle triggers, some with a fault, some with too little space.
+//! moments, idle triggers, some under rule 2, some with a fault, some with too little space.
 
 use crate::classes::{KEPT, LATEST, PLAN, SHEETS};
 use crate::plain::{CAPPED_WORDS, LINE_WORDS, MOST};
 use crate::random::Random;
+use crate::rule::RULE;
 use crate::sides::{Answer, SPACE, Side, Work, agreed};
 use std::io::Result;
 
 /// Differences that are printed in full.
 const SHOWN: usize = 3;
 
-/// Answers by their code, 0 to 9, and those in which the sides differ.
+/// Answers by their code, 0 to 14, and those in which the sides differ.
 #[derive(Default)]
 pub struct Tally {
     plans: Codes,
     tables: Codes,
     latest: Codes,
-    /// Plans of sheets with a spare trigger, and with a last line.
+    /// Plans of sheets with a spare trigger, with a last line, and under rule 2.
     with_spares: usize,
     with_caps: usize,
+    under_rule_2: usize,
     differ: usize,
 }
 
-type Codes = [usize; 10];
+type Codes = [usize; 15];
 
 impl Tally {
     /// Compares the stored sheets, then `count` random ones; true if no answer and no word differs.
@@ -37,11 +39,12 @@ impl Tally {
             let line_words = *random.pick(&[LINE_WORDS, CAPPED_WORDS]);
             self.compare(&sheet, line_words * lines + random.below(line_words));
         }
-        println!("plans by code 0 to 9: {:?}", self.plans);
-        println!("kept tables by code 0 to 9: {:?}", self.tables);
-        println!("latest times by code 0 to 9: {:?}", self.latest);
+        println!("plans by code 0 to 14: {:?}", self.plans);
+        println!("kept tables by code 0 to 14: {:?}", self.tables);
+        println!("latest times by code 0 to 14: {:?}", self.latest);
         println!("plans with spare triggers: {}", self.with_spares);
         println!("plans with a last line: {}", self.with_caps);
+        println!("plans under rule 2: {}", self.under_rule_2);
         println!("different: {}", self.differ);
         Ok(self.differ == 0)
     }
@@ -55,6 +58,7 @@ impl Tally {
         if let Some(Answer { code: 0, words }) = plan {
             self.with_spares += usize::from(words[4] != 0);
             self.with_caps += usize::from(words[5] == CAPPED_WORDS as i64);
+            self.under_rule_2 += usize::from(sheet.starts_with(RULE.as_bytes()));
         }
         if table.is_some_and(|answer| answer.code == 0) {
             let latest = self.compare_in("latest times", LATEST, sheet, words);
@@ -153,35 +157,21 @@ fn idle(random: &mut Random, n: usize) -> Vec<bool> {
         .collect()
 }
 
-/// A sheet that is good more often than not; one in eight has a byte changed.
+/// A sheet that is good more often than not, one in three under rule 2; one in eight has a byte changed.
 fn sheet(random: &mut Random) -> Vec<u8> {
     let (m, n) = (1 + random.below(6), 1 + random.below(6));
     let (none, idle) = ([false; MOST], idle(random, n));
     // Sometimes there are rules for idle triggers, which then are not spare.
     let no_rules = *random.pick(&[&none[..n], &idle, &idle, &idle]);
-    let (lag, floor, mut due, mut after) = (
-        Kind::some(random),
-        Kind::some(random),
-        Kind::some(random),
-        Kind::some(random),
-    );
-    due.absent = 0;
-    // Rules above 0 make circles that cannot be kept, so most are below.
-    after.shift = -after.span.min(500) * *random.pick(&[0, 1, 1, 2]);
-    let mut text = format!("panels={m}\ntriggers={n}\n");
+    let by_spread = random.below(3) == 0;
+    let rule = if by_spread { RULE } else { "" };
+    let mut text = format!("{rule}panels={m}\ntriggers={n}\n");
+    let lag = Kind::some(random);
     (0..m).for_each(|_| text += &lag.needed_line(random, "lag", &idle));
-    text += &floor.needed_line(random, "floor", &none[..m]);
-    text += &due.line(random, "due", &none[..n]);
-    for &idle in no_rules {
-        let row: Vec<bool> = no_rules.iter().map(|other| idle || *other).collect();
-        text += &after.line(random, "after", &row);
+    if !by_spread {
+        text += &marks(random, m, n);
     }
-    if random.below(2) == 0 {
-        let land = land_kind(random, &lag);
-        for &idle in no_rules {
-            text += &land.line(random, "land", &[idle; MOST][..m]);
-        }
-    }
+    text += &rules(random, &lag, no_rules, m);
     if random.below(3) == 0 {
         let mut last = Kind::some(random);
         // An absent moment is refused.
@@ -194,6 +184,33 @@ fn sheet(random: &mut Random) -> Vec<u8> {
         bytes[at] = *random.pick(b"0123456789-,=\nx");
     }
     bytes
+}
+
+/// The floor line and the due line.
+fn marks(random: &mut Random, m: usize, n: usize) -> String {
+    let none = [false; MOST];
+    let (floor, mut due) = (Kind::some(random), Kind::some(random));
+    due.absent = 0;
+    floor.needed_line(random, "floor", &none[..m]) + &due.line(random, "due", &none[..n])
+}
+
+/// The after lines, and in every other sheet land lines, without rules for some triggers.
+fn rules(random: &mut Random, lag: &Kind, no_rules: &[bool], m: usize) -> String {
+    let mut after = Kind::some(random);
+    // Rules above 0 make circles that cannot be kept, so most are below.
+    after.shift = -after.span.min(500) * *random.pick(&[0, 1, 1, 2]);
+    let mut text = String::new();
+    for &idle in no_rules {
+        let row: Vec<bool> = no_rules.iter().map(|other| idle || *other).collect();
+        text += &after.line(random, "after", &row);
+    }
+    if random.below(2) == 0 {
+        let land = land_kind(random, lag);
+        for &idle in no_rules {
+            text += &land.line(random, "land", &[idle; MOST][..m]);
+        }
+    }
+    text
 }
 
 /// Land entries that often are as low as the lags are high, so that they can be kept.

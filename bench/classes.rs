@@ -1,7 +1,7 @@
 //! What is timed.
 
 use crate::sides::{Side, Work};
-use crate::{chain, land, last, spare};
+use crate::{chain, land, last, rule, spare};
 
 /// Where the stored sheets are, from the top of the repository.
 pub const SHEETS: &str = "tests/programs/sheets";
@@ -10,7 +10,7 @@ pub const SHEETS: &str = "tests/programs/sheets";
 pub const WHOLE: &str = "whole";
 
 /// The class of request 6's sheets, and how many they are; the first of them with land lines, with spare
-/// triggers, and with a last line; the states from which they are made.
+/// triggers, with a last line, and under rule 2; the states from which they are made.
 const HIRE: &str = "hire";
 const HIRED: usize = 1000;
 const LAND: &str = "land";
@@ -19,6 +19,8 @@ const SPARE: &str = "spare";
 const SPARED: usize = 300;
 const LAST: &str = "last";
 const TIMED: usize = 300;
+const RULE: &str = "rule";
+const RULED: usize = 300;
 const MAKE: &str = "make";
 
 /// The planning of a class's sheets, their kept tables, the latest times asked of them, and making them.
@@ -27,14 +29,15 @@ pub const KEPT: fn(&Side) -> Work = |side| side.kept;
 pub const LATEST: fn(&Side) -> Work = |side| side.latest;
 const MADE: fn(&Side) -> Work = |side| side.make;
 
-/// Key, name, sheets and work of each class that both sides do; sheets but HIRE, LAND, SPARE, LAST and MAKE
+/// Key, name, sheets and work of each class that both sides do; sheets but HIRE, LAND, SPARE, LAST, RULE and MAKE
 /// are a stored one.
-const CLASSES: [Kind; 14] = [
+const CLASSES: [Kind; 15] = [
     (WHOLE, "whole case", WHOLE, PLAN),
     (HIRE, "1,000 sheets of request 6", HIRE, PLAN),
     (LAND, "300 sheets with land lines", LAND, PLAN),
     (SPARE, "300 sheets with two spare triggers", SPARE, PLAN),
     (LAST, "300 sheets with a last line", LAST, PLAN),
+    (RULE, "300 sheets under rule 2", RULE, PLAN),
     (UNPRUNED, "46,656 selections", UNPRUNED, PLAN),
     (AFTER, "46,656 selections, after rules", AFTER, PLAN),
     (LISTED, "22,500 selections, 22 lines", LISTED, PLAN),
@@ -100,6 +103,7 @@ fn sheets(key: &str) -> Result<Vec<Vec<u8>>, String> {
         LAND => Ok(land::chained(LANDED)),
         SPARE => Ok(spare::chained(SPARED)),
         LAST => Ok(last::chained(TIMED)),
+        RULE => Ok(rule::chained(RULED)),
         MAKE => Ok(chain::states(HIRED)),
         _ => stored(&path(key)).map(|sheet| vec![sheet]),
     }

@@ -18,6 +18,7 @@ mod plain;
 mod programs;
 mod random;
 mod report;
+mod rule;
 mod sides;
 mod spare;
 mod times;
@@ -28,7 +29,7 @@ use sides::{SIDES, SPACE};
 use std::process::ExitCode;
 
 const USAGE: &str = "usage: bench [CLASS..] | --count [CLASS..] | --check [SHEETS [SEED]] | --plans library|plain CLASS all|none
-classes: whole hire land spare last unpruned_distinct unpruned_after lines_times_selections lines72 kept kept_after latest latest72 make programs";
+classes: whole hire land spare last rule unpruned_distinct unpruned_after lines_times_selections lines72 kept kept_after latest latest72 make programs";
 /// What `--check` does by default.
 const CHECKED: &str = "20000";
 const SEED: &str = "1";

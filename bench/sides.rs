@@ -168,10 +168,12 @@ fn state_of(bytes: &[u8]) -> u32 {
     u32::from_ne_bytes(bytes.try_into().expect("a state has four bytes"))
 }
 
-/// The number of triggers of a good sheet: its second line's.
+/// The number of triggers of a good sheet: that of the second line behind the one of rule 2, if it begins with
+/// that.
 fn triggers(sheet: &[u8]) -> usize {
     const KEYS: usize = "panels=6\ntriggers=".len();
-    usize::from(sheet[KEYS] - b'0')
+    let lines = sheet.strip_prefix(b"rule=2\n").unwrap_or(sheet);
+    usize::from(lines[KEYS] - b'0')
 }
 
 fn by_plain(sheet: &[u8], space: &mut [i32]) -> Answer {

@@ -1,13 +1,13 @@
 //! Reading a sheet: its tables, or the refusal of the first fault met.
 
-use super::entry::{ABSENT, Entry, Line, MOST, NO_LINE, Table, join, largest, places};
+use super::entry::{ABSENT, Entry, Line, MOST, NO_LINE, Table, join, largest, minus, places};
 
 /// The most bytes that a sheet may have.
 pub const LONGEST: usize = 2048;
 /// Entries lie from −LIMIT to LIMIT.
 const LIMIT: Entry = 100_000;
 
-/// Document 01's refusals before the list is known.
+/// The refusals before the list is known: document 01's, and 14 of document 02's No. 7.
 #[derive(Clone, Copy)]
 pub enum Refusal {
     TooLong = 1,
@@ -18,6 +18,7 @@ pub enum Refusal {
     NoLag = 6,
     NoFloor = 7,
     NoOrder = 8,
+    Lagless = 14,
 }
 
 pub struct Sheet {
@@ -49,6 +50,25 @@ impl Sheet {
         }
         places(&most, ABSENT) % (1 << self.triggers)
     }
+
+    /// The largest lag of each trigger, absent where it has none.
+    fn longest_lags(&self) -> Line {
+        let mut most = NO_LINE;
+        self.lag.iter().for_each(|row| join(&mut most, row));
+        most
+    }
+
+    /// The marks that count under rule 2: floors of 0, and each trigger due so long before 0 as its largest lag.
+    fn mark_by_lags(&mut self) {
+        self.floor[..self.panels].fill(0);
+        self.due = self.longest_lags().map(|lag| minus(0, lag));
+    }
+
+    /// Whether some trigger is not spare and has no lag.
+    fn has_lagless(&self) -> bool {
+        let lagless = places(&self.longest_lags(), ABSENT) % (1 << self.triggers);
+        lagless != self.spares()
+    }
 }
 
 pub fn read(bytes: &[u8]) -> Result<Sheet, Refusal> {
@@ -56,6 +76,7 @@ pub fn read(bytes: &[u8]) -> Result<Sheet, Refusal> {
         return Err(Refusal::TooLong);
     }
     let mut reader = Reader { rest: bytes };
+    let by_spread = reader.rule()?;
     let panels = reader.size(b"panels=")?;
     let triggers = reader.size(b"triggers=")?;
     let mut sheet = Sheet {
@@ -69,19 +90,31 @@ pub fn read(bytes: &[u8]) -> Result<Sheet, Refusal> {
         last: None,
     };
     reader.rows(b"lag=", &mut sheet.lag[..panels], triggers)?;
-    sheet.floor = reader.entries(b"floor=", panels)?;
-    sheet.due = reader.present(b"due=", triggers)?;
+    if by_spread {
+        sheet.mark_by_lags();
+    } else {
+        sheet.floor = reader.entries(b"floor=", panels)?;
+        sheet.due = reader.present(b"due=", triggers)?;
+    }
     reader.rows(b"after=", &mut sheet.after[..triggers], triggers)?;
     sheet.land = reader.land(triggers, panels)?;
     sheet.last = reader.last(panels)?;
     if !reader.rest.is_empty() {
         return Err(Refusal::Form);
     }
-    if sheet.lag[..panels].contains(&NO_LINE) {
+    complete(sheet, by_spread)
+}
+
+/// What is asked of all lines together.
+fn complete(sheet: Sheet, by_spread: bool) -> Result<Sheet, Refusal> {
+    if sheet.lag[..sheet.panels].contains(&NO_LINE) {
         return Err(Refusal::NoLag);
     }
     if sheet.floor == NO_LINE {
         return Err(Refusal::NoFloor);
+    }
+    if by_spread && sheet.has_lagless() {
+        return Err(Refusal::Lagless);
     }
     Ok(sheet)
 }
@@ -92,6 +125,15 @@ struct Reader<'a> {
 }
 
 impl Reader<'_> {
+    /// Whether the sheet begins with the line of rule 2.
+    fn rule(&mut self) -> Result<bool, Refusal> {
+        if !self.rest.starts_with(b"rule=") {
+            return Ok(false);
+        }
+        self.rest = self.rest.strip_prefix(b"rule=2\n").ok_or(Refusal::Form)?;
+        Ok(true)
+    }
+
     fn size(&mut self, key: &[u8]) -> Result<usize, Refusal> {
         match self.items(key, 1)?[0] {
             ABSENT => Err(Refusal::Form),
