@@ -119,7 +119,8 @@ example =
       lag = table
           ((num (pos 3) ∷ num (negsuc 0) ∷ absent ∷ []) ∷ (num (negsuc 1) ∷ num (pos 2) ∷ num (pos 0) ∷ []) ∷
           (num (negsuc 0) ∷ absent ∷ num (pos 4) ∷ []) ∷ []);
-      measure = by-marks (row (num (pos 0) ∷ num (pos 0) ∷ num (pos 0) ∷ [])) (λ j. val (row (num (negsuc 2) ∷ num (negsuc 1) ∷ num (negsuc 3) ∷ []) j));
+      measure = by-marks (row (num (pos 0) ∷ num (pos 0) ∷ num (pos 0) ∷ []))
+          (λ j. val (row (num (negsuc 2) ∷ num (negsuc 1) ∷ num (negsuc 3) ∷ []) j));
       after = table
           ((absent ∷ absent ∷ num (negsuc 2) ∷ []) ∷ (num (pos 2) ∷ absent ∷ absent ∷ []) ∷
           (num (pos 1) ∷ num (negsuc 1) ∷ absent ∷ []) ∷ []);

@@ -1,7 +1,7 @@
 -- Cases of document 02's No. 7.
 use mathlib.Core.Path.{refl}
 use mathlib.Core.Bool.{decide}
-use mathlib.Core.Option.{none, some}
+use mathlib.Core.Option.{none}
 use mathlib.Core.List.{List, [], _∷_, _++_}
 use Prim.Native.Nat.{ℕ, _-_, _<_}
 use Prim.Native.Nat as nat
@@ -32,8 +32,8 @@ use Rattle.cue.specs.Method.{selections, steps, need, seed, ray, candidate, can
 use Rattle.cue.proofs.Order.{keeps?}
 use Rattle.cue.proofs.Deviation.{tightest?}
 use Rattle.sheet.specs.Text.{bytes}
-use Rattle.sheet.specs.Sheet.{literal, value, behind, signed, item, ended, items, any, checked, rows, row, table, sections, optional, read}
-use Rattle.sheet.specs.Sheet.{Sheet, by-marks, by-spread, spare}
+use Rattle.sheet.specs.Sheet.{literal, value, behind, signed, item, ended, items, any, checked, rows, table, sections, optional, read}
+use Rattle.sheet.specs.Sheet.{Sheet, by-spread, spare}
 use Rattle.sheet.specs.Meaning.{line-landing}
 use Rattle.sheet.specs.Cue.{used, cue-size, order-table, cue-of, Orderly, orderly?, sheet-kept, sheet-byte, sheet-count, sheet-lines, cap}
 use Rattle.sheet.specs.Overruns.{overrun, lowered}

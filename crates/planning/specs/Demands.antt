@@ -115,8 +115,8 @@ Last-ignored = (s₁ s₂ : List ℕ) (t₁ t₂ : Sheet) (space₁ space₂ : L
 
 -- ---- the spread of landings is never below 0, and so is no deviation that is returned under rule 2 (document 02, No. 7)
 abbrev pub Not-negative : Type 0
-Not-negative = (s : List ℕ) (t : Sheet) (r : List ℕ) (space : List ℤ) → read s ≡ got t r → t .measure ≡ by-spread → Planned (planning s space) →
-    pos 0 ≤z deviation-of (planning s space)
+Not-negative = (s : List ℕ) (t : Sheet) (r : List ℕ) (space : List ℤ) → read s ≡ got t r → t .measure ≡ by-spread →
+    Planned (planning s space) → pos 0 ≤z deviation-of (planning s space)
 
 -- ---- "With f panels that have a floor, steps is at most n + n² + ... + n to the power f": the number that is returned
 abbrev pub Steps-at-most : Type 0

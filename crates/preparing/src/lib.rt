@@ -84,12 +84,12 @@ fn floor_by(t: SheetWords) -> [u64; 6]
     requires { ⌜ ((s : spec.Sheet) × Worded s t) ⌝ }
     ensures { λ r. ⌜ ((s : spec.Sheet) → Worded s t → HoldsV (s .panels) (floor-by (s .measure)) r) ⌝ }
 {
-    if t.ruled {
-        let zero = words::of_number(0);
-        return [zero; 6];
+    if !t.ruled {
+        let floor = t.floor;
+        return floor;
     }
-    let floor = t.floor;
-    floor
+    let zero = words::of_number(0);
+    [zero; 6]
 }
 
 // The due marks that the cue goes by: under rule 2 minus the largest lag of each of its triggers, whose lags are lent.

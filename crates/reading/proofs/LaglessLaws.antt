@@ -97,8 +97,8 @@ land-none m n s none lands few-m few-n e w j h = none-yes size-limit (meant land
         ap (λ v. present? (entry v)) (strip-at (given-table none j) k q) ∙ ap present? (word-back absent refl)
 
 -- ---- the triggers that make 14
-module _ {ps : List (List (List ℕ))} {landed timed two : Bool} {lands lasts : List (List ℕ)} {m n : ℕ} (few-m : m ≤ size-limit) (few-n : n ≤ size-limit)
-    {ts : List (List (List E))} {land last : Option Mat} (K : Kinds ps landed lands timed lasts two m n ts land last) where
+module _ {ps : List (List (List ℕ))} {landed timed two : Bool} {lands lasts : List (List ℕ)} {m n : ℕ} (few-m : m ≤ size-limit)
+    (few-n : n ≤ size-limit) {ts : List (List (List E))} {land last : Option Mat} (K : Kinds ps landed lands timed lasts two m n ts land last) where
   abbrev lags : List (List ℕ)
   lags = getD ps lag-lines []
 

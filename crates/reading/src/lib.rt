@@ -200,8 +200,8 @@ fn read_sections(
     triggers: usize,
     parts: &mut [[[u64; 6]; 6]; TABLES],
 ) -> Place
-    requires { ⌜ (from ≤ length (now s)) × (count ≡ length (kinds group ruled panels triggers)) × (panels ≤ size-limit) × (triggers ≤ size-limit) ×
-        (length (now parts) ≡ most) ⌝ }
+    requires { ⌜ (from ≤ length (now s)) × (count ≡ length (kinds group ruled panels triggers)) × (panels ≤ size-limit) ×
+        (triggers ≤ size-limit) × (length (now parts) ≡ most) ⌝ }
     ensures { λ r. ⌜ SectionsAre (sections (kinds group ruled panels triggers) (drop from (now (s .entry)))) (now (s .entry)) r (now (parts .exit)) ⌝ }
 {
     let mut at = from;
@@ -307,6 +307,7 @@ fn finished(
     let floor = parts[FLOOR];
     let no_lag = empty_row(lag, panels);
     let no_floor = empty_row(floor, mark_lines(ruled));
+    let no_mark = unmeasured(parts, land, ruled, panels, triggers);
     if left != 0 {
         return refused(2);
     }
@@ -316,7 +317,7 @@ fn finished(
     if no_floor {
         return refused(7);
     }
-    if unmeasured(parts, land, ruled, panels, triggers) {
+    if no_mark {
         return refused(14);
     }
     good(parts, landed, land, timed, last, ruled, panels, triggers)

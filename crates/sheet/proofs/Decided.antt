@@ -28,7 +28,8 @@ tightest-on? : (t : Sheet) → Good t → (X : Timing) → Dec (Tightest t X)
 tightest-on? t G X = go (orderly? t)
   where
     go : Dec (Orderly t) → Dec (Tightest t X)
-    go (yes o) = map-dec (tightest-cue t (G .measured) X .1) (tightest-cue t (G .measured) X .0) (theory.tightest? (cue-size t) (cue-of t) (G .readable) o (at-used t X))
+    go (yes o) = let both = tightest-cue t (G .measured) X in
+        map-dec (both .1) (both .0) (theory.tightest? (cue-size t) (cue-of t) (G .readable) o (at-used t X))
     go (no f) = no (none-tightest t f X)
 
 in-time-on? : (t : Sheet) → Good t → (X : Timing) → Dec (TightestInTime t X)

@@ -11,7 +11,7 @@ use lib.ListN.{length, getD}
 use borrow.Author.Tests.{ltb-false}
 use Rattle.maxplus.specs.Whole.{up, dn, neg}
 use Rattle.maxplus.specs.Entry.{E, absent, num, val, Present}
-use Rattle.maxplus.specs.Tables.{Vec, Mat}
+use Rattle.maxplus.specs.Tables.{Mat}
 use Rattle.maxplus.proofs.EntryLaws.{num-inj, inv-num}
 use Rattle.maxplus.proofs.PackingLaws.{rank-few}
 use Rattle.cue.specs.Results.{Within}

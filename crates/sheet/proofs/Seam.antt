@@ -13,7 +13,8 @@ use Rattle.maxplus.specs.Entry.{E, absent, num, _≼_, _⊗_, _⊕_, inv}
 use Rattle.maxplus.specs.Tables.{sup, Vec, Mat, mv, mm}
 use Rattle.maxplus.specs.Packing.{rank, filled}
 use Rattle.maxplus.proofs.WholeLaws.{neg-neg}
-use Rattle.maxplus.proofs.EntryLaws.{_▸_, ≼-refl, ≼-anti, ≼-absent, ≼-of, ≼-back, ⊕-l, ⊕-r, ⊕-lub, ⊗-left, ⊗-comm, ⊗-nothing, ⊗-unit, distrib, val-of, inv-inv}
+use Rattle.maxplus.proofs.EntryLaws.{_▸_, ≼-refl, ≼-anti, ≼-absent, ≼-of, ≼-back, ⊕-l, ⊕-r, ⊕-lub, ⊗-left, ⊗-comm, ⊗-nothing}
+use Rattle.maxplus.proofs.EntryLaws.{⊗-unit, distrib, val-of, inv-inv}
 use Rattle.maxplus.proofs.SupLaws.{sup-ub, sup-lub, sup-ext, sup-⊗r, sup-comm}
 use Rattle.maxplus.proofs.TableLaws.{mv-mm, mv-at, mv-ext}
 use Rattle.maxplus.proofs.FiniteLaws.{test, cond-yes, cond-no}
@@ -191,7 +192,8 @@ module _ (t : Sheet) where
     -- the marks of rule 2 as those of a sheet: "every floor counts as 0 and due j as minus the largest lag of trigger j"
     pub spread-marks : spread t X ≡ overdue t (due-by (t .panels) (t .lag) by-spread) X ⊗ shortfall t (floor-by by-spread) X
     unfolding spread
-    spread-marks = ap₂ _⊗_ (latest-cue ∙ sym (overdue-cue (due-by (t .panels) (t .lag) by-spread) X)) (earliest-cue ∙ sym (shortfall-cue (floor-by by-spread) X))
+    spread-marks = ap₂ _⊗_ (latest-cue ∙ sym (overdue-cue (due-by (t .panels) (t .lag) by-spread) X))
+        (earliest-cue ∙ sym (shortfall-cue (floor-by by-spread) X))
 
   -- ---- either source of marks
   pub deviation-cue : Measured t (t .measure) → (X : Timing) → deviation t X ≡ vectors.deviation (cue-size t) (cue-of t) (timing (at-used X))

@@ -185,8 +185,8 @@ module _ (t : Sheet) where
       (sup-lub panels _ (λ p hp. ≼-of (ap (λ e. given-table land i p ⊗ e) (h .no-lag p hp) ∙ ⊗-absent _)))) (≼-absent _)
 
   -- ---- a panel has a lag, so the trigger that reaches it is in use
-  pub cue-readable : ((i : ℕ) × (i < panels) × Present (floor-by (t .measure) i)) → ((i : ℕ) → i < panels → (j : ℕ) × (j < triggers) × Present (lag i j)) →
-      Readable (cue-size t) (cue-of t)
+  pub cue-readable : ((i : ℕ) × (i < panels) × Present (floor-by (t .measure) i)) →
+      ((i : ℕ) → i < panels → (j : ℕ) × (j < triggers) × Present (lag i j)) → Readable (cue-size t) (cue-of t)
   cue-readable floored lagged = record { trigger = let (k, q, p) = reached (floored .0) (floored .1) in omega arith; floored = floored; lagged = reached }
     where
       reached : (i : ℕ) → i < panels → (k : ℕ) × (k < cue-size t) × Present (lag i (trigger-at t k))

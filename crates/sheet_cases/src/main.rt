@@ -1,4 +1,5 @@
 // Reading's case table. Standard input holds cases, each `label|sheet;`; standard output gets a line for each: the refusal, or the sheet read.
+use reading::SheetWords;
 use rows::Row;
 
 // One word of a table: a blank, and the number or a minus.
@@ -40,6 +41,15 @@ fn put_rows(key: &[u8], rows: [Row; 6], lines: usize, count: usize) {
     }
 }
 
+fn put_marks(t: SheetWords) {
+    let floor = t.floor;
+    let due = t.due;
+    io::write_all(1, b" floor");
+    put_row(floor, t.panels);
+    io::write_all(1, b" due");
+    put_row(due, t.triggers);
+}
+
 fn put_reading(s: &[u8]) {
     let r = reading::read_sheet(s);
     if r.refusal != 0 {
@@ -49,14 +59,14 @@ fn put_reading(s: &[u8]) {
     }
     let t = r.sheet;
     let lag = t.lag;
-    let floor = t.floor;
-    let due = t.due;
     let after = t.after;
+    if t.ruled {
+        io::write_all(1, b" rule 2");
+    }
     put_rows(b" lag", lag, t.panels, t.triggers);
-    io::write_all(1, b" floor");
-    put_row(floor, t.panels);
-    io::write_all(1, b" due");
-    put_row(due, t.triggers);
+    if !t.ruled {
+        put_marks(t);
+    }
     put_rows(b" after", after, t.triggers, t.triggers);
     let land = t.land;
     if land.given {

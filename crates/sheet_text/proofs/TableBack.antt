@@ -1,7 +1,7 @@
 -- The table of rows that were made by places is the table that they were made from, as it stands within the sizes; which rows have an entry,
 -- and which triggers a lag.
 use mathlib.Core.Path.{_≡_, refl, ap, ap₂, sym, _∙_, fun-ext}
-use mathlib.Core.List.{[], _∷_}
+use mathlib.Core.List.{[]}
 use mathlib.Core.Bool.{Bool, true, false, cond, not, _&&_}
 use mathlib.Core.Option.{Option, none, some}
 use Prim.Native.Nat.{ℕ, _<_}
@@ -11,7 +11,6 @@ use lib.Dec.{T, ltb}
 use lib.IntN.{ℤ, pos}
 use lib.ListN.{getD, List·getD-eq-default}
 use Rattle.maxplus.specs.Entry.{absent, num, val, Present, present?}
-use Rattle.maxplus.specs.Finite.{each}
 use Rattle.maxplus.specs.Tables.{Vec, Mat}
 use Rattle.maxplus.proofs.EntryLaws.{absent-not}
 use Rattle.maxplus.proofs.FiniteLaws.{both}

@@ -23,11 +23,8 @@ start c = c .before .before .before
 abbrev at-lags : tie.After-empty-row2 → tie.After-empty-row
 at-lags c = c .before .before
 
-abbrev at-else : tie.After-unmeasured → tie.Else2
-at-else c = c .before .before
-
 abbrev tested : tie.After-unmeasured → tie.After-empty-row2
-tested c = at-else c .before .before
+tested c = c .before
 
 -- the rows that were read of each kind
 abbrev Read : tie.Start → List (List (List E)) → (land last : Option Mat) → Type 0
@@ -73,6 +70,9 @@ mark-lines-requires c κs = search needs
 empty-row-requires-2 : tie.Need-empty-row-requires-2
 empty-row-requires-2 c κs = mark-few (start (c .before) .args .ruled) (c .mark-lines .ensures)
 
+unmeasured-requires : tie.Need-unmeasured-requires
+unmeasured-requires c κs = search needs
+
 refused-requires : tie.Need-refused-requires
 refused-requires c κs = search needs
 
@@ -105,9 +105,6 @@ returns-3 c = λ ts land last y K l.
     let floor : tie.After-empty-row2 = search in
     c .refused3 .ensures ∙ ap answer (sym (finished-no-floor _ _ _ ts land last y (omega arith)
     (sym (no-lag (at-lags floor) ts K) ∙ some .if2 .left) (sym (no-floor floor ts K) ∙ t .if3 .taken)))
-
-unmeasured-requires : tie.Need-unmeasured-requires
-unmeasured-requires c κs = search needs
 
 refused-requires-4 : tie.Need-refused-requires-4
 refused-requires-4 c κs = search needs
@@ -149,13 +146,13 @@ finished-spec =
     empty-row-requires
     mark-lines-requires
     empty-row-requires-2
+    unmeasured-requires
     refused-requires
     returns
     refused-requires-2
     returns-2
     refused-requires-3
     returns-3
-    unmeasured-requires
     refused-requires-4
     returns-4
     good-requires

@@ -64,7 +64,8 @@ returns-2 c = λ z ts e S.
     let t : tie.Then2 = search in
     let l : tie.After-read-last = search in
     let G = found-land (land-read l) in
-    c .refused2 .ensures ∙ ap answer (sym (sized-last (start (at-land (land-read l)) .args .ruled) _ _ z ts _ e (G .value) _ (G .is) _ (l .read-last .ensures .fault (t .if2 .taken))))
+    let two = start (at-land (land-read l)) .args .ruled in
+    c .refused2 .ensures ∙ ap answer (sym (sized-last two _ _ z ts _ e (G .value) _ (G .is) _ (l .read-last .ensures .fault (t .if2 .taken))))
 
 sub-left : tie.Need-sub-left
 sub-left c =

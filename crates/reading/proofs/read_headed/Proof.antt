@@ -139,7 +139,8 @@ returns-2 : tie.Need-returns-2
 returns-2 c =
     let t : tie.Then2 = search in
     let r : tie.After-read-sections2 = search in
-    c .refused2 .ensures ∙ ap answer (sym (rest-of (at-size2 r) ∙ sized-refused (start-of (at-size2 r) .args .ruled) _ _ _ _ (r .read-sections2 .ensures .fault (t .if2 .taken))))
+    let two = start-of (at-size2 r) .args .ruled in
+    c .refused2 .ensures ∙ ap answer (sym (rest-of (at-size2 r) ∙ sized-refused two _ _ _ _ (r .read-sections2 .ensures .fault (t .if2 .taken))))
 
 read-further-requires : tie.Need-read-further-requires
 read-further-requires c κs =
