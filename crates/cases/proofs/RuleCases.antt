@@ -33,8 +33,8 @@ use Rattle.cue.proofs.Order.{keeps?}
 use Rattle.cue.proofs.Deviation.{tightest?}
 use Rattle.sheet.specs.Text.{bytes}
 use Rattle.sheet.specs.Sheet.{literal, value, behind, signed, item, ended, items, any, checked, rows, table, sections, optional, read}
-use Rattle.sheet.specs.Sheet.{Sheet, by-spread, spare}
-use Rattle.sheet.specs.Meaning.{line-landing}
+use Rattle.sheet.specs.Sheet.{Sheet, row, by-marks, by-spread, spare}
+use Rattle.sheet.specs.Meaning.{line-landing, SameTimings}
 use Rattle.sheet.specs.Cue.{used, cue-size, order-table, cue-of, Orderly, orderly?, sheet-kept, sheet-byte, sheet-count, sheet-lines, cap}
 use Rattle.sheet.specs.Overruns.{overrun, lowered}
 use Rattle.sheet.proofs.Spares.{cue-readable}
@@ -45,6 +45,7 @@ use Rattle.sheet.specs.Admitted.{admitted}
 use Rattle.sheet.proofs.Latest.{latest-on, latest-exists}
 use Rattle.cue.specs.Latest.{fit, made, latest}
 use Rattle.planning.specs.Planning.{planning, space-after}
+use Rattle.planning.proofs.Demands.{demand-3}
 use Rattle.keeping.specs.Keeping.{keeping}
 use Rattle.testing.specs.Testing.{testing}
 use Rattle.reaching.specs.Reaching.{reaching, reached-space}
@@ -129,6 +130,29 @@ ruled-readable = cue-readable ruled (0, lit< tt, (pos 0, refl)) lagged
 ruled-ordered : Orderly ruled
 unfolding orderly? order-table spare used rank place sum no-gain? gain-or mm mv power idm sup supL _⊗_ _⊕_ ≼-dec all-or all-dec decide
 ruled-ordered = decide-yes (orderly? ruled) tt
+
+-- ---- the same lists, so the same tightest timings, whichever rule (demand 3)
+abbrev marked : Sheet
+marked =
+    record {
+      panels = 2;
+      triggers = 2;
+      lag = ruled .lag;
+      measure = by-marks (row (num (pos 5) ∷ num (pos 5) ∷ [])) (λ j. val (row (num (pos 0) ∷ num (pos 3) ∷ []) j));
+      after = ruled .after;
+      land = none;
+      last = none;
+    }
+
+pub rules-alike : SameTimings ruled marked
+unfolding planning space-after sheet-byte sheet-count sheet-kept byte-of sheet-lines spare used rank place filled layout ordered orderly?
+    order-table line-words lent-words read sheet.lines sheet.ruled sheet.line rows sections optional checked any ended items item signed value behind
+    literal bytes least leastE shortfall steps selections lines minimal needed? others combination? asked? met? under-dec fixings walk kept cut
+    serves-as-well floor-panels through pull pullE overdue need seed ray candidate candidates no-gain? gain-or mm mv star power idm normal sup supL at
+    line put sift each mapL sum val inv _⊗_ _⊕_ maxz _+z_ neg decLe z-dec ≼-dec present-dec all-or all-dec any-dec dec-× dec-¬ dec-→ ltE-cmp ltL-cmp
+    strict same? decide
+rules-alike = demand-3 (bytes (ruled-by "after=-,-\nafter=-,-\n")) (bytes marked-so) ruled marked (old 14) (old 14)
+    (record { rest₁ = []; rest₂ = []; read₁ = refl; read₂ = refl; same-size = refl; planned₁ = tt; planned₂ = tt }) (λ j h. refl) .0 (refl, refl)
 
 -- ---- the whole table
 pub rule-cases-hold : Every CaseHolds rule-cases

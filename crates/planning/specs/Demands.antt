@@ -113,7 +113,7 @@ Last-ignored = (s₁ s₂ : List ℕ) (t₁ t₂ : Sheet) (space₁ space₂ : L
     let q = plan-answer (planning s₂ space₂) in
     (p .deviation ≡ q .deviation) × (p .steps ≡ q .steps) × (p .selections ≡ q .selections) × SameWritten s₁ s₂ space₁ space₂
 
--- ---- the spread of landings is never below 0, and so is no deviation that is returned under rule 2 (document 02, No. 7)
+-- ---- the spread of landings is never below 0, and neither is a deviation that is returned under rule 2 (document 02, No. 7)
 abbrev pub Not-negative : Type 0
 Not-negative = (s : List ℕ) (t : Sheet) (r : List ℕ) (space : List ℤ) → read s ≡ got t r → t .measure ≡ by-spread →
     Planned (planning s space) → pos 0 ≤z deviation-of (planning s space)

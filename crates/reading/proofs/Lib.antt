@@ -1,6 +1,6 @@
 -- Laws of reading a sheet.
 pub mod SectionsRead
 pub mod EmptyLaws
-pub mod LaglessLaws
+pub mod MissingLaws
 pub mod WordsLaws
 pub mod Refusals

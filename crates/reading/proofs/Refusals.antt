@@ -15,7 +15,7 @@ use Rattle.sheet.specs.Text.{bytes}
 use Rattle.sheet.specs.Sheet.{Got, got, refused, got?, _>>=_, literal, leading, value, behind, signed, item}
 use Rattle.sheet.specs.Sheet.{ending, ended, items, Content, size, entry, mark, out-of-range, no-size, absent?, any, all, checked}
 use Rattle.sheet.specs.Sheet.{line, rows, Section, section, sections, sizes, tables, part, count, panels-line, triggers-line, lag-lines, floor-line}
-use Rattle.sheet.specs.Sheet.{optional, land-kind, last-kind, sheet-of, some-lagless, finished, ruled, headed, lines, read}
+use Rattle.sheet.specs.Sheet.{optional, land-kind, last-kind, sheet-of, some-lag-missing, finished, ruled, headed, lines, read}
 
 abbrev Numbered : {A : Type 0} → Got A → Type 0
 Numbered (got a s) = Unit {0}
@@ -97,7 +97,7 @@ finished-numbered : (two : Bool) (m n : ℕ) (ts : List (List (List E))) (land l
 finished-numbered two m n ts land last (b ∷ s) = (omega arith, omega arith)
 finished-numbered two m n ts land last [] = if-numbered (any (all absent?) (part ts lag-lines)) (refused 6) _ (omega arith, omega arith)
     (if-numbered (any (all absent?) (part ts floor-line)) (refused 7) _ (omega arith, omega arith)
-    (if-numbered (two && some-lagless (sheet-of two m n ts land last)) (refused 14) (got (sheet-of two m n ts land last) [])
+    (if-numbered (two && some-lag-missing (sheet-of two m n ts land last)) (refused 14) (got (sheet-of two m n ts land last) [])
     (omega arith, omega arith) tt))
 
 ruled-numbered : (s : List ℕ) → Numbered (ruled s)

@@ -106,19 +106,19 @@ abbrev pub meant : List (List ℕ) → Mat
 meant ws i j = entry (getD (getD ws i []) j 0)
 
 -- not spare and without a lag: from whether its lags, the row and the column of its after rules and the row of its land rules are empty
-unfoldable pub only-lagless : (lags row column lands : Bool) → Bool
-only-lagless a b c d = not (a && b && c && d) && a
+unfoldable pub lag-missing-by : (lags row column lands : Bool) → Bool
+lag-missing-by a b c d = not (a && b && c && d) && a
 
 -- so is trigger j, by the words of these; so is some trigger
 module _ (lags afters lands : List (List ℕ)) (m n : ℕ) where
-  abbrev pub lagless-at : ℕ → Bool
-  lagless-at j = only-lagless (none-present m (λ i. meant lags i j)) (none-present size-limit (meant afters j)) (none-present n (λ k. meant afters k j))
+  abbrev pub lag-missing-at : ℕ → Bool
+  lag-missing-at j = lag-missing-by (none-present m (λ i. meant lags i j)) (none-present size-limit (meant afters j)) (none-present n (λ k. meant afters k j))
       (none-present size-limit (meant lands j))
 
-  abbrev pub some-lagless-at : Bool
-  some-lagless-at = any lagless-at (each n (λ j. j ∷ []))
+  abbrev pub some-lag-missing-at : Bool
+  some-lag-missing-at = any lag-missing-at (each n (λ j. j ∷ []))
 
 -- 14, from the words of the tables and of the land lines
 abbrev pub UnmeasuredIs : List (List (List ℕ)) → List (List ℕ) → Bool → ℕ → ℕ → Bool → Type 0
 UnmeasuredIs ps lands two m n r =
-    r ≡ (two && some-lagless-at (getD ps sheet.lag-lines []) (getD ps sheet.after-lines []) lands m n)
+    r ≡ (two && some-lag-missing-at (getD ps sheet.lag-lines []) (getD ps sheet.after-lines []) lands m n)

@@ -10,7 +10,7 @@ ghost use Rattle.sheet.specs.Sheet as sheet;
 ghost use Rattle.sheet.specs.Sheet.{read, headed, sections, mark-lines, land-kind, last-kind, none-present};
 ghost use Rattle.reading.specs.Reading.{answer};
 ghost use Rattle.reading.specs.Inner.{kinds, most, SectionIs, SectionsAre, RuleIs, MaybeIs, FurtherIs, FinishedIs, GoodIs, LastIs, EmptyRow};
-ghost use Rattle.reading.specs.Inner.{EmptyWords, each-row, meant, lagless-at, some-lagless-at, UnmeasuredIs};
+ghost use Rattle.reading.specs.Inner.{EmptyWords, each-row, meant, lag-missing-at, some-lag-missing-at, UnmeasuredIs};
 ghost use Rattle.cue.specs.Sizes.{size-limit};
 use rows::Items;
 use rows::Optional;
@@ -339,11 +339,11 @@ fn unmeasured(
     }
     let lag = parts[LAG];
     let after = parts[AFTER];
-    some_lagless(&lag, &after, land, panels, triggers)
+    some_lag_missing(&lag, &after, land, panels, triggers)
 }
 
-// A trigger is not spare and has no lag.
-fn some_lagless(
+// Some trigger is not spare and has no lag.
+fn some_lag_missing(
     lag: &[[u64; 6]; 6],
     after: &[[u64; 6]; 6],
     land: &[[u64; 6]; 6],
@@ -351,11 +351,11 @@ fn some_lagless(
     triggers: usize,
 ) -> bool
     requires { ⌜ (panels ≤ size-limit) × (triggers ≤ size-limit) ⌝ }
-    ensures { λ r. ⌜ r ≡ some-lagless-at (now (lag .entry)) (now (after .entry)) (now (land .entry)) panels triggers ⌝ }
+    ensures { λ r. ⌜ r ≡ some-lag-missing-at (now (lag .entry)) (now (after .entry)) (now (land .entry)) panels triggers ⌝ }
 {
     let mut j: usize = 0;
     while j < triggers {
-        if lagless(lag, after, land, panels, triggers, j) {
+        if lag_missing(lag, after, land, panels, triggers, j) {
             return true;
         }
         j += 1;
@@ -364,7 +364,7 @@ fn some_lagless(
 }
 
 // Trigger `j` is not spare and has no lag: an after entry in its row or column, or a land entry in its row, makes it wait or be waited for.
-fn lagless(
+fn lag_missing(
     lag: &[[u64; 6]; 6],
     after: &[[u64; 6]; 6],
     land: &[[u64; 6]; 6],
@@ -373,7 +373,7 @@ fn lagless(
     j: usize,
 ) -> bool
     requires { ⌜ (panels ≤ size-limit) × (triggers ≤ size-limit) × (j < size-limit) ⌝ }
-    ensures { λ r. ⌜ r ≡ lagless-at (now (lag .entry)) (now (after .entry)) (now (land .entry)) panels triggers j ⌝ }
+    ensures { λ r. ⌜ r ≡ lag-missing-at (now (lag .entry)) (now (after .entry)) (now (land .entry)) panels triggers j ⌝ }
 {
     if !empty_column(lag, panels, j) {
         return false;

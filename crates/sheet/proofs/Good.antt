@@ -17,7 +17,7 @@ use Rattle.maxplus.proofs.PackingLaws.{rank-few}
 use Rattle.cue.specs.Results.{Within}
 use Rattle.sheet.specs.Sheet.{got, refused, Content, size, entry, mark, limit, out-of-range, absent?, any, all, table, Sheet, Measure, by-marks}
 use Rattle.sheet.specs.Sheet.{by-spread, own-due, sections, sizes, tables, part, count, panels-line, triggers-line, lag-lines, floor-line, due-line}
-use Rattle.sheet.specs.Sheet.{after-lines, optional, land-kind, last-kind, given-table, moments, measure-of, sheet-of, lagless, spare, some-lagless}
+use Rattle.sheet.specs.Sheet.{after-lines, optional, land-kind, last-kind, given-table, moments, measure-of, sheet-of, lagless, spare, some-lag-missing}
 use Rattle.sheet.specs.Sheet.{ruled, finished, lines, read}
 use Rattle.sheet.specs.Cue.{floor-by, due-by, used}
 use Rattle.sheet.specs.Good.{RowsOf, Measured, Good}
@@ -123,7 +123,7 @@ due-within t lags dues j h = go (t .measure) dues
     go by-spread d = number _ (within-sup (t .panels) _ (λ i k. lags i j k h))
 
 -- where 14 is not met
-lags-there : (t : Sheet) → some-lagless t ≡ false → Measured t by-spread
+lags-there : (t : Sheet) → some-lag-missing t ≡ false → Measured t by-spread
 lags-there t e j h s =
     let c = none-place (t .triggers) (λ j. not (spare t j) && lagless t j) e j h in
     reached (lagless t j) (not-both (not (spare t j)) (lagless t j) s c) refl
@@ -141,8 +141,8 @@ module _ (two : Bool) (m n : ℕ) (some-m : 1 ≤ m) (few-m : m ≤ size-limit) 
     {ts : List (List (List E))} {x : List ℕ} (e : sections (tables two m n) s ≡ got ts x) where
   parts-good : (land last : Option Mat) {y z : List ℕ} → optional (land-kind m n) x ≡ got land y → optional (last-kind m) y ≡ got last z →
       any (all absent?) (part ts lag-lines) ≡ false → any (all absent?) (part ts floor-line) ≡ false →
-      two && some-lagless (sheet-of two m n ts land last) ≡ false → Good (sheet-of two m n ts land last)
-  parts-good land last {y} f g no-lag no-floor no-lagless =
+      two && some-lag-missing (sheet-of two m n ts land last) ≡ false → Good (sheet-of two m n ts land last)
+  parts-good land last {y} f g no-lag no-floor none-missing =
       let t = sheet-of two m n ts land last in
       let lags = sections-of (tables two m n) s e lag-lines refl in
       let afters = sections-of (tables two m n) s e after-lines refl in
@@ -153,7 +153,7 @@ module _ (two : Bool) (m n : ℕ) (some-m : 1 ≤ m) (few-m : m ≤ size-limit) 
         few = let h = rank-few (used t) n in omega arith;
         readable = cue-readable t (some-floor two m n s e some-m no-floor) (λ i h. some-there lags i h no-lag);
         lags = table-within lags;
-        measured = measured two no-lagless;
+        measured = measured two none-missing;
         dues = dues-of two m n s e;
         afters = table-within afters;
         lands = land-within m n x land f;
@@ -162,7 +162,7 @@ module _ (two : Bool) (m n : ℕ) (some-m : 1 ≤ m) (few-m : m ≤ size-limit) 
             (table-within afters) (land-within m n x land f);
       }
     where
-      measured : (b : Bool) → b && some-lagless (sheet-of two m n ts land last) ≡ false → Measured (sheet-of two m n ts land last) (measure-of b ts)
+      measured : (b : Bool) → b && some-lag-missing (sheet-of two m n ts land last) ≡ false → Measured (sheet-of two m n ts land last) (measure-of b ts)
       measured true h = lags-there (sheet-of two m n ts land last) h
       measured false h = tt
 
@@ -172,17 +172,17 @@ pub record Ended (two : Bool) (m n : ℕ) (ts : List (List (List E))) (l d : Opt
   pub none-left : y ≡ []
   pub lagged : any (all absent?) (part ts lag-lines) ≡ false
   pub floored : any (all absent?) (part ts floor-line) ≡ false
-  pub measured : two && some-lagless (sheet-of two m n ts l d) ≡ false
+  pub measured : two && some-lag-missing (sheet-of two m n ts l d) ≡ false
   pub is : sheet-of two m n ts l d ≡ t
 
 pub finished-got : (two : Bool) (m n : ℕ) (ts : List (List (List E))) (l d : Option Mat) (y : List ℕ) {t : Sheet} {x : List ℕ} →
     finished two m n ts l d y ≡ got t x → Ended two m n ts l d y t
 finished-got two m n ts l d (b ∷ y) e = absurd (not-got e)
 finished-got two m n ts l d [] {t} e =
-    let last = cond (two && some-lagless (sheet-of two m n ts l d)) (refused 14) (got (sheet-of two m n ts l d) []) in
+    let last = cond (two && some-lag-missing (sheet-of two m n ts l d)) (refused 14) (got (sheet-of two m n ts l d) []) in
     let (f, g) = passed (any (all absent?) (part ts lag-lines)) 6 (cond (any (all absent?) (part ts floor-line)) (refused 7) last) e in
     let (h, i) = passed (any (all absent?) (part ts floor-line)) 7 last g in
-    let (j, k) = passed (two && some-lagless (sheet-of two m n ts l d)) 14 (got (sheet-of two m n ts l d) []) i in
+    let (j, k) = passed (two && some-lag-missing (sheet-of two m n ts l d)) 14 (got (sheet-of two m n ts l d) []) i in
     record { none-left = refl; lagged = f; floored = h; measured = j; is = cc }
 
 pub size-good : {t : List (List E)} → RowsOf size 1 1 t → (1 ≤ count t) × (count t ≤ size-limit)

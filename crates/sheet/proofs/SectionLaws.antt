@@ -18,7 +18,7 @@ use Rattle.sheet.specs.Text.{bytes}
 use Rattle.sheet.specs.Good.{Passes, RowsOf}
 use Rattle.sheet.specs.Sheet.{got, refused, got?, _>>=_, literal, ended, items, Content, size, absent?, no-size, any, all, line, rows, table}
 use Rattle.sheet.specs.Sheet.{Section, section, sections, optional, land-kind, last-kind, part, sizes, tables, count, panels-line}
-use Rattle.sheet.specs.Sheet.{triggers-line, lag-lines, floor-line, ruled, sheet-of, some-lagless, finished, sized, headed}
+use Rattle.sheet.specs.Sheet.{triggers-line, lag-lines, floor-line, ruled, sheet-of, some-lag-missing, finished, sized, headed}
 use Rattle.sheet.specs.Sheet.{lines, read}
 use Rattle.sheet.proofs.LineLaws.{bind-got, onto, front, none-at, checked-passes, size-there}
 use Rattle.cue.specs.Sizes.{size-limit}
@@ -202,10 +202,10 @@ module _ (two : Bool) (m n : ℕ) (ts : List (List (List E))) (land last : Optio
       finished-no-floor f = finished-all x none ∙ rw (e, f)
 
       module _ (f : any (all absent?) (part ts floor-line) ≡ false) where
-        pub finished-lagless : two && some-lagless (sheet-of two m n ts land last) ≡ true → finished two m n ts land last x ≡ refused 14
-        finished-lagless g = finished-all x none ∙ rw (e, f, g)
+        pub finished-missing : two && some-lag-missing (sheet-of two m n ts land last) ≡ true → finished two m n ts land last x ≡ refused 14
+        finished-missing g = finished-all x none ∙ rw (e, f, g)
 
-        pub finished-good : two && some-lagless (sheet-of two m n ts land last) ≡ false →
+        pub finished-good : two && some-lag-missing (sheet-of two m n ts land last) ≡ false →
             finished two m n ts land last x ≡ got (sheet-of two m n ts land last) []
         finished-good g = finished-all x none ∙ rw (e, f, g)
 

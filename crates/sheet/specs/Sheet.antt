@@ -278,8 +278,8 @@ module _ (S : Sheet) where
       none-present panels (λ i. given-table land j i)
 
   -- "a trigger that is not spare and has no lag" (document 02, No. 7)
-  abbrev pub some-lagless : Bool
-  some-lagless = any (λ j. not (spare j) && lagless j) (each triggers (λ j. j ∷ []))
+  abbrev pub some-lag-missing : Bool
+  some-lag-missing = any (λ j. not (spare j) && lagless j) (each triggers (λ j. j ∷ []))
 
 -- "After the lines: bytes left over are 2; then 6: a panel with no lag; then 7: no floor at all"; "under rule 2, as 14, after 7"
 abbrev pub finished : Bool → ℕ → ℕ → List (List (List E)) → (land last : Option Mat) → List ℕ → Got Sheet
@@ -287,7 +287,7 @@ finished two m n ts land last (b ∷ s) = refused 2
 finished two m n ts land last [] =
     cond (any (all absent?) (part ts lag-lines)) (refused 6)
     (cond (any (all absent?) (part ts floor-line)) (refused 7)
-    (cond (two && some-lagless (sheet-of two m n ts land last)) (refused 14)
+    (cond (two && some-lag-missing (sheet-of two m n ts land last)) (refused 14)
     (got (sheet-of two m n ts land last) [])))
 
 -- the rest of a sheet with m panels and n triggers

@@ -11,14 +11,14 @@ use Rattle.maxplus.specs.Finite.{each}
 use Rattle.maxplus.specs.Tables.{Mat}
 use Rattle.sheet.specs.Text.{bytes}
 use Rattle.sheet.specs.Sheet.{got, refused, literal, table, ruled, sizes, mark-lines, tables, land-kind, last-kind, Measure, by-marks, by-spread, by-spread?}
-use Rattle.sheet.specs.Sheet.{own-floor, own-due, Sheet, moments, measure-of, sheet-of, some-lagless, sized}
+use Rattle.sheet.specs.Sheet.{own-floor, own-due, Sheet, moments, measure-of, sheet-of, some-lag-missing, sized}
 use Rattle.sheet.proofs.SectionLaws.{sized-read, finished-good, headed-sized, read-headed}
 use Rattle.sheet.proofs.Longest.{longest-is}
 use Rattle.sheet_text.specs.SheetText.{rows-text, sections-text, optional-text, one-line, number-line, rule-text, if-given, sheet-text, trimmed}
 use Rattle.sheet_text.specs.SheetText.{first-rows, first-numbers, first-marks, Floored, Sound, Read-back}
 use Rattle.sheet_text.proofs.LineBack.{section-rows, sections-rows, sections-back, optional-back}
 use Rattle.sheet_text.proofs.SoundFits.{size-tables, entry-tables, sizes-fit, tables-fit, land-fits, last-fits, text-short}
-use Rattle.sheet_text.proofs.TableBack.{table-back, numbers-back, rows-there, no-lagless}
+use Rattle.sheet_text.proofs.TableBack.{table-back, numbers-back, rows-there, none-missing}
 
 -- ---- the parts of the text, one after the other
 abbrev pub sizes-text : Sheet → List ℕ
@@ -113,7 +113,7 @@ module _ (t : Sheet) where
       last-read [] (optional-back (last-kind m) (if-given number-line (t .last)) [] (last-fits t S) (λ e. no-last m))
       ∙ finished-good two m n rows-read land-read last-read [] refl (rows-there m n (t .lag) (S .lagged))
       (rows-there (mark-lines two) m (one-line (own-floor (t .measure))) (floor-there (t .measure) (S .floored)))
-      (ap (λ u. two && some-lagless u) sheet-back ∙ no-lagless t (t .measure) (S .measured)) ∙ ap (λ u. got u []) sheet-back
+      (ap (λ u. two && some-lag-missing u) sheet-back ∙ none-missing t (t .measure) (S .measured)) ∙ ap (λ u. got u []) sheet-back
     where
       floor-there : (M : Measure) → Floored t M → (i : ℕ) → i < mark-lines (by-spread? M) → (j : ℕ) × (j < t .panels) × Present (own-floor M j)
       floor-there (by-marks p q) there i h = there

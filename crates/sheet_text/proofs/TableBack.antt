@@ -16,7 +16,7 @@ use Rattle.maxplus.proofs.EntryLaws.{absent-not}
 use Rattle.maxplus.proofs.FiniteLaws.{both}
 use Rattle.maxplus.proofs.EachLaws.{length-each, each-at}
 use Rattle.sheet.specs.Sheet.{absent?, any, all, row, table, Measure, by-marks, by-spread, by-spread?, Sheet, given-table, lagless, spare}
-use Rattle.sheet.specs.Sheet.{some-lagless}
+use Rattle.sheet.specs.Sheet.{some-lag-missing}
 use Rattle.sheet.specs.Good.{Measured}
 use Rattle.sheet.proofs.LineLaws.{any-none, any-at, place-none}
 use Rattle.sheet.proofs.Spares.{none-absent, none-same}
@@ -78,9 +78,9 @@ module _ (t : Sheet) where
       (none-same panels _ _ (λ i q. ap present? (given-within triggers panels land j i h q)))
 
   -- 14 is not met: a trigger that is not spare has a lag within the sizes
-  pub no-lagless : (M : Measure) → Measured t M → by-spread? M && some-lagless (trimmed t) ≡ false
-  no-lagless (by-marks p q) reached = refl
-  no-lagless by-spread reached = place-none triggers (λ j. not (spare (trimmed t) j) && lagless (trimmed t) j) (λ j h. is-false _ (not-met j h))
+  pub none-missing : (M : Measure) → Measured t M → by-spread? M && some-lag-missing (trimmed t) ≡ false
+  none-missing (by-marks p q) reached = refl
+  none-missing by-spread reached = place-none triggers (λ j. not (spare (trimmed t) j) && lagless (trimmed t) j) (λ j h. is-false _ (not-met j h))
     where
       is-false : (b : Bool) → (T b → ⊥) → b ≡ false
       is-false true h = absurd (h tt)

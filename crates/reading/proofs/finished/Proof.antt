@@ -7,9 +7,9 @@ use native.Mathlib.Omega.{arith}
 use borrow.Author.Needs.{needs}
 use Rattle.maxplus.specs.Entry.{E}
 use Rattle.maxplus.specs.Tables.{Mat}
-use Rattle.sheet.specs.Sheet.{any, all, absent?, part, lag-lines, floor-line, some-lagless, sheet-of}
-use Rattle.sheet.proofs.SectionLaws.{sections-of, sections-many, finished-left, finished-no-lag, finished-no-floor, finished-lagless, finished-good}
-use Rattle.reading.proofs.LaglessLaws.{lagless-words}
+use Rattle.sheet.specs.Sheet.{any, all, absent?, part, lag-lines, floor-line, some-lag-missing, sheet-of}
+use Rattle.sheet.proofs.SectionLaws.{sections-of, sections-many, finished-left, finished-no-lag, finished-no-floor, finished-missing, finished-good}
+use Rattle.reading.proofs.MissingLaws.{missing-words}
 use Rattle.reading.proofs.WordsLaws.{mark-few}
 use Rattle.reading.specs.Reading.{answer}
 use Rattle.reading.specs.Inner.{Kinds}
@@ -47,13 +47,13 @@ no-floor c ts K =
     c .empty-row2 .ensures _ (part ts floor-line) (start (at-lags c) .pre .0)
     (rw (c .before .mark-lines .ensures) (sections-of _ _ (K .of-tables) floor-line refl)) (K .tables-are .at floor-line (omega arith))
 
-no-lagless : (c : tie.After-unmeasured) (ts : List (List (List E))) {land last : Option Mat} →
+none-missing : (c : tie.After-unmeasured) (ts : List (List (List E))) {land last : Option Mat} →
     let a = start (at-lags (tested c)) .args in
     Read (start (at-lags (tested c))) ts land last →
-    c .unmeasured .result ≡ a .ruled && some-lagless (sheet-of (a .ruled) (a .panels) (a .triggers) ts land last)
-no-lagless c ts K =
+    c .unmeasured .result ≡ a .ruled && some-lag-missing (sheet-of (a .ruled) (a .panels) (a .triggers) ts land last)
+none-missing c ts K =
     let p = start (at-lags (tested c)) .pre in
-    c .unmeasured .ensures ∙ lagless-words (p .0) (p .1) K
+    c .unmeasured .ensures ∙ missing-words (p .0) (p .1) K
 
 element-copy-out-lag : tie.Need-element-copy-out-lag
 element-copy-out-lag c = search needs
@@ -118,8 +118,8 @@ returns-4 c = λ ts land last y K l.
     let all : tie.Else1 = search in
     let none = all .if1 .left in
     let floor : tie.After-empty-row2 = search in
-    c .refused4 .ensures ∙ ap answer (sym (finished-lagless _ _ _ ts land last y (omega arith) (sym (no-lag (at-lags floor) ts K) ∙ some .if2 .left)
-    (sym (no-floor floor ts K) ∙ floored .if3 .left) (sym (no-lagless asked ts K) ∙ t .if4 .taken)))
+    c .refused4 .ensures ∙ ap answer (sym (finished-missing _ _ _ ts land last y (omega arith) (sym (no-lag (at-lags floor) ts K) ∙ some .if2 .left)
+    (sym (no-floor floor ts K) ∙ floored .if3 .left) (sym (none-missing asked ts K) ∙ t .if4 .taken)))
 
 good-requires : tie.Need-good-requires
 good-requires c κs = search needs
@@ -135,7 +135,7 @@ returns-5 c = λ ts land last y K l.
     let floor : tie.After-empty-row2 = search in
     c .good2 .ensures ts land last K
     ∙ ap answer (sym (finished-good _ _ _ ts land last y (omega arith) (sym (no-lag (at-lags floor) ts K) ∙ some .if2 .left)
-    (sym (no-floor floor ts K) ∙ floored .if3 .left) (sym (no-lagless asked ts K) ∙ good .if4 .left)))
+    (sym (no-floor floor ts K) ∙ floored .if3 .left) (sym (none-missing asked ts K) ∙ good .if4 .left)))
 
 pub finished-spec : {M : Type 1} → statement M
 finished-spec =

@@ -12,13 +12,13 @@ use Rattle.words.specs.Words.{entry}
 use Rattle.sheet.specs.Good.{RowsOf}
 use Rattle.sheet.specs.Sheet as sheet
 use Rattle.sheet.specs.Sheet.{got, table, optional, land-kind, tables, part, lag-lines, after-lines, given-table, none-present, lagless, spare, sheet-of}
-use Rattle.sheet.specs.Sheet.{some-lagless}
+use Rattle.sheet.specs.Sheet.{some-lag-missing}
 use Rattle.sheet.proofs.LineLaws.{true-not-false, place-same}
 use Rattle.sheet.proofs.SectionLaws.{row-long, sections-of, sections-many, optional-of}
 use Rattle.sheet.proofs.Spares.{none-yes, none-no, none-same, none-past}
 use Rattle.rows.specs.Grid.{strips}
 use Rattle.rows.proofs.PlaceLaws.{strip-at, strips-at}
-use Rattle.reading.specs.Inner.{EmptyWords, Kinds, meant, only-lagless, lagless-at, some-lagless-at, UnmeasuredIs}
+use Rattle.reading.specs.Inner.{EmptyWords, Kinds, meant, lag-missing-by, lag-missing-at, some-lag-missing-at, UnmeasuredIs}
 use Rattle.reading.proofs.EmptyLaws.{word-back, entry-there}
 use Rattle.cue.specs.Sizes.{size-limit}
 
@@ -29,8 +29,8 @@ empty-is ws false (j, h, e) = sym (none-no size-limit (λ j. entry (getD ws j 0)
 
 -- ---- one trigger, test by test: what each of the four came to decides, or leaves it to the next
 module _ {a A : Bool} (lags-are : a ≡ A) where
-  pub lag-decides : (B C D : Bool) → not a ≡ true → false ≡ only-lagless A B C D
-  unfolding only-lagless
+  pub lag-decides : (B C D : Bool) → not a ≡ true → false ≡ lag-missing-by A B C D
+  unfolding lag-missing-by
   lag-decides B C D h = rw (← lags-are) (go a h)
     where
       go : (a : Bool) → not a ≡ true → false ≡ (not (a && B && C && D) && a)
@@ -38,8 +38,8 @@ module _ {a A : Bool} (lags-are : a ≡ A) where
       go false h = refl
 
   module _ (none : not a ≡ false) {b B : Bool} (row-is : b ≡ B) where
-    pub row-decides : (C D : Bool) → not b ≡ true → true ≡ only-lagless A B C D
-    unfolding only-lagless
+    pub row-decides : (C D : Bool) → not b ≡ true → true ≡ lag-missing-by A B C D
+    unfolding lag-missing-by
     row-decides C D h = rw (← lags-are, ← row-is) (go a b none h)
       where
         go : (a b : Bool) → not a ≡ false → not b ≡ true → true ≡ (not (a && b && C && D) && a)
@@ -48,8 +48,8 @@ module _ {a A : Bool} (lags-are : a ≡ A) where
         go false b g h = absurd (true-not-false g)
 
     module _ (no-row : not b ≡ false) {c C : Bool} (column-is : c ≡ C) where
-      pub column-decides : (D : Bool) → not c ≡ true → true ≡ only-lagless A B C D
-      unfolding only-lagless
+      pub column-decides : (D : Bool) → not c ≡ true → true ≡ lag-missing-by A B C D
+      unfolding lag-missing-by
       column-decides D h = rw (← lags-are, ← row-is, ← column-is) (go a b c none no-row h)
         where
           go : (a b c : Bool) → not a ≡ false → not b ≡ false → not c ≡ true → true ≡ (not (a && b && c && D) && a)
@@ -58,8 +58,8 @@ module _ {a A : Bool} (lags-are : a ≡ A) where
           go true false c g f h = absurd (true-not-false f)
           go false b c g f h = absurd (true-not-false g)
 
-      pub land-decides : {d D : Bool} → not c ≡ false → d ≡ D → not d ≡ only-lagless A B C D
-      unfolding only-lagless
+      pub land-decides : {d D : Bool} → not c ≡ false → d ≡ D → not d ≡ lag-missing-by A B C D
+      unfolding lag-missing-by
       land-decides {d} no-column land-is = rw (← lags-are, ← row-is, ← column-is, ← land-is) (go a b c none no-row no-column)
         where
           go : (a b c : Bool) → not a ≡ false → not b ≡ false → not c ≡ false → not d ≡ (not (a && b && c && d) && a)
@@ -105,11 +105,11 @@ module _ {ps : List (List (List ℕ))} {landed timed two : Bool} {lands lasts : 
   abbrev afters : List (List ℕ)
   afters = getD ps after-lines []
 
-  lagless-same : (j : ℕ) → j < n →
+  missing-same : (j : ℕ) → j < n →
       let t = sheet-of two m n ts land last in
-      lagless-at lags afters lands m n j ≡ (not (spare t j) && lagless t j)
-  unfolding spare only-lagless
-  lagless-same j h =
+      lag-missing-at lags afters lands m n j ≡ (not (spare t j) && lagless t j)
+  unfolding spare lag-missing-by
+  missing-same j h =
       let many = sections-many (tables two m n) (K .start) (K .of-tables) in
       let R = sections-of (tables two m n) (K .start) (K .of-tables) lag-lines refl in
       let S = sections-of (tables two m n) (K .start) (K .of-tables) after-lines refl in
@@ -119,11 +119,11 @@ module _ {ps : List (List (List ℕ))} {landed timed two : Bool} {lands lasts : 
       (column-none afters n n (part ts after-lines) few-n few-n S a j h)
       (land-none m n (K .behind) land lands few-m few-n (K .of-land) (K .lands-are .words) j h)
     where
-      four : {a b c d p q r s : Bool} → a ≡ p → b ≡ q → c ≡ r → d ≡ s → only-lagless a b c d ≡ only-lagless p q r s
+      four : {a b c d p q r s : Bool} → a ≡ p → b ≡ q → c ≡ r → d ≡ s → lag-missing-by a b c d ≡ lag-missing-by p q r s
       four e f g h = rw (e, f, g, h)
 
-  pub lagless-words : two && some-lagless-at lags afters lands m n ≡ two && some-lagless (sheet-of two m n ts land last)
-  lagless-words = ap (λ b. two && b) (place-same n (lagless-at lags afters lands m n) _ lagless-same)
+  pub missing-words : two && some-lag-missing-at lags afters lands m n ≡ two && some-lag-missing (sheet-of two m n ts land last)
+  missing-words = ap (λ b. two && b) (place-same n (lag-missing-at lags afters lands m n) _ missing-same)
 
 -- ---- a sheet with marks is not asked, one under rule 2 is
 module _ (ps : List (List (List ℕ))) (lands : List (List ℕ)) (m n : ℕ) where
@@ -131,7 +131,7 @@ module _ (ps : List (List (List ℕ))) (lands : List (List ℕ)) (m n : ℕ) whe
   unasked true h = absurd (true-not-false (sym h))
   unasked false h = refl
 
-  pub asked : (two : Bool) {r : Bool} → not two ≡ false → r ≡ some-lagless-at (getD ps lag-lines []) (getD ps after-lines []) lands m n →
+  pub asked : (two : Bool) {r : Bool} → not two ≡ false → r ≡ some-lag-missing-at (getD ps lag-lines []) (getD ps after-lines []) lands m n →
       UnmeasuredIs ps lands two m n r
   asked true h e = e
   asked false h e = absurd (true-not-false h)

@@ -1,8 +1,8 @@
--- `reading::lagless` meets its contract. Assumes nothing.
+-- `reading::lag_missing` meets its contract. Assumes nothing.
 use borrow.Author.Needs.{needs}
-use Rattle.reading.proofs.LaglessLaws.{empty-is, lag-decides, row-decides, column-decides, land-decides}
-use Rattle.reading.proofs.lagless.Statement.{statement}
-use Rattle.reading.proofs.lagless.Tie as tie
+use Rattle.reading.proofs.MissingLaws.{empty-is, lag-decides, row-decides, column-decides, land-decides}
+use Rattle.reading.proofs.lag_missing.Statement.{statement}
+use Rattle.reading.proofs.lag_missing.Tie as tie
 
 empty-column-requires : tie.Need-empty-column-requires
 empty-column-requires c κs = search needs
@@ -61,8 +61,8 @@ returns-4 c =
     land-decides (l .empty-column .ensures) (e .if1 .left) (empty-is _ (r .empty .result) (r .empty .ensures)) (f .if2 .left)
     (k .empty-column2 .ensures) (g .if3 .left) (empty-is _ (c .empty2 .result) (c .empty2 .ensures))
 
-pub lagless-spec : {M : Type 1} → statement M
-lagless-spec =
+pub lag-missing-spec : {M : Type 1} → statement M
+lag-missing-spec =
     tie.close
     (tie.spec
     empty-column-requires
