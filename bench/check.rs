@@ -1,12 +1,11 @@
-//! The two sides on random sheets: small, with many equal entries, absent ones, after and land rules, last
+//! All sides on random sheets: small, with many equal entries, absent ones, after and land rules, last
 //! moments, idle triggers, some under rule 2, some with a fault, some with too little space.
 
-use crate::classes::{KEPT, LATEST, PLAN, SHEETS};
+use crate::classes;
 use crate::plain::{CAPPED_WORDS, LINE_WORDS, MOST};
 use crate::random::Random;
 use crate::rule::RULE;
-use crate::sides::{Answer, SPACE, Side, Work, agreed};
-use std::io::Result;
+use crate::sides::{Answer, KEPT, LATEST, PLAN, SPACE, Task, agreed};
 
 /// Differences that are printed in full.
 const SHOWN: usize = 3;
@@ -28,9 +27,9 @@ type Codes = [usize; 15];
 
 impl Tally {
     /// Compares the stored sheets, then `count` random ones; true if no answer and no word differs.
-    pub fn run(mut self, count: usize, seed: u64) -> Result<bool> {
-        for file in std::fs::read_dir(SHEETS)? {
-            self.compare(&std::fs::read(file?.path())?, SPACE);
+    pub fn run(mut self, count: usize, seed: u64) -> Result<bool, String> {
+        for sheet in classes::all_stored()? {
+            self.compare(&sheet, SPACE);
         }
         let mut random = Random { state: seed };
         for _ in 0..count {
@@ -66,15 +65,9 @@ impl Tally {
         }
     }
 
-    /// What both sides answer, or a difference more.
-    fn compare_in(
-        &mut self,
-        name: &str,
-        work: fn(&Side) -> Work,
-        sheet: &[u8],
-        words: usize,
-    ) -> Option<Answer> {
-        let answer = agreed(work, sheet, words);
+    /// What all sides answer, or a difference more.
+    fn compare_in(&mut self, name: &str, task: Task, sheet: &[u8], words: usize) -> Option<Answer> {
+        let answer = agreed(task, sheet, words);
         self.differ += usize::from(answer.is_none());
         if answer.is_none() && self.differ <= SHOWN {
             let text = String::from_utf8_lossy(sheet);

@@ -2,15 +2,14 @@
 
 use crate::classes::Class;
 use crate::programs::{PROGRAMS, on_whole_case};
-use crate::sides::{SIDES, SPACE, Side};
+use crate::sides::{SIDES, SPACE, Work};
 use std::hint::black_box;
 use std::io::{Error, Result};
 use std::process::Command;
 
 /// Plans a class's sheets once on one side, or prepares it and plans none: what callgrind runs.
-pub fn plan_only(class: &Class, side: &Side, planned: bool) {
+pub fn plan_only(class: &Class, work: Work, planned: bool) {
     let mut space = vec![0; SPACE];
-    let work = (class.work)(side);
     let sheets = if planned { &class.sheets[..] } else { &[] };
     for sheet in sheets {
         black_box(work(black_box(sheet), &mut space));
@@ -19,24 +18,25 @@ pub fn plan_only(class: &Class, side: &Side, planned: bool) {
 
 /// Instructions of one plan on each side: those of a run with all plans beyond those of a run with
 /// none.
-pub fn side_by_side(class: &Class) -> Result<[f64; 2]> {
-    let mut counts = [0.0; 2];
-    for (count, side) in counts.iter_mut().zip(SIDES) {
-        let all = of_plans(class.key, side.name, "all")?;
-        let none = of_plans(class.key, side.name, "none")?;
-        *count = all.saturating_sub(none) as f64 / class.sheets.len() as f64;
-    }
-    Ok(counts)
+pub fn side_by_side(class: &Class) -> Result<Vec<f64>> {
+    let sides = SIDES.iter().filter(|side| (class.task)(side).is_some());
+    sides
+        .map(|side| {
+            let all = of_plans(class.key, side.name, "all")?;
+            let none = of_plans(class.key, side.name, "none")?;
+            Ok(all.saturating_sub(none) as f64 / class.sheets.len() as f64)
+        })
+        .collect()
 }
 
 /// Instructions of both programs for the whole case, from start to exit.
-pub fn programs() -> Result<[f64; 2]> {
-    let mut counts = [0.0; 2];
-    for (count, program) in counts.iter_mut().zip(PROGRAMS) {
+pub fn programs() -> Result<Vec<f64>> {
+    let count = |program: &&str| {
         let mut command = callgrind();
-        *count = collected(on_whole_case(command.arg(program))?)? as f64;
-    }
-    Ok(counts)
+        let count = collected(on_whole_case(command.arg(program))?)?;
+        Ok(count as f64)
+    };
+    PROGRAMS.iter().map(count).collect()
 }
 
 fn of_plans(key: &str, side: &str, plans: &str) -> Result<u64> {

@@ -1,10 +1,10 @@
 //! Times planning, the kept table, asking for the latest times and making sheets, by the proved library
-//! beside a plain Rust planner that goes the same way, and a plain generator. Run from the top of the
-//! repository:
+//! beside a plain Rust planner, which lists the lines in two ways, and a plain generator. Run from the top of
+//! the repository:
 //!
 //! - `bench [CLASS..]` writes a table of times, of all classes or of those named
 //! - `bench --count [CLASS..]` writes a table of instructions
-//! - `bench --check [SHEETS [SEED]]` compares both sides on random sheets (20,000 and 1)
+//! - `bench --check [SHEETS [SEED]]` compares all sides on random sheets (20,000 and 1)
 //! - `bench --plans SIDE CLASS all|none` plans a class once, or prepares it only; for `--count`
 
 mod chain;
@@ -28,8 +28,8 @@ use report::Row;
 use sides::{SIDES, SPACE};
 use std::process::ExitCode;
 
-const USAGE: &str = "usage: bench [CLASS..] | --count [CLASS..] | --check [SHEETS [SEED]] | --plans library|plain CLASS all|none
-classes: whole hire land spare last rule unpruned_distinct unpruned_after lines_times_selections lines72 kept kept_after latest latest72 make programs";
+const USAGE: &str = "usage: bench [CLASS..] | --count [CLASS..] | --check [SHEETS [SEED]] | --plans library|bounds|adding CLASS all|none
+classes: whole hire land spare last rule unpruned_distinct unpruned_after lines_times_selections lines72 bounds_spread climbed kept kept_after latest latest72 make programs";
 /// What `--check` does by default.
 const CHECKED: &str = "20000";
 const SEED: &str = "1";
@@ -93,7 +93,7 @@ fn generators_agree() -> Outcome<()> {
     }
 }
 
-/// The chosen classes, once both sides are known to accept and to agree on every sheet.
+/// The chosen classes, once all sides are known to accept and to agree on every sheet.
 fn agreed_classes(keys: &[&str]) -> Outcome<Vec<Class>> {
     let known = |key: &&str| *key == programs::KEY || classes::known(key);
     if !keys.iter().all(known) {
@@ -103,7 +103,7 @@ fn agreed_classes(keys: &[&str]) -> Outcome<Vec<Class>> {
     let classes = classes::classes(|key| chosen(keys, key))?;
     for class in &classes {
         for sheet in &class.sheets {
-            if sides::agreed(class.work, sheet, SPACE).is_none_or(|answer| answer.code != 0) {
+            if sides::agreed(class.task, sheet, SPACE).is_none_or(|answer| answer.code != 0) {
                 let text = String::from_utf8_lossy(sheet);
                 return Err(format!("{}: not the same answer for\n{text}", class.name));
             }
@@ -114,7 +114,7 @@ fn agreed_classes(keys: &[&str]) -> Outcome<Vec<Class>> {
     }
     let sheets: usize = classes.iter().map(|class| class.sheets.len()).sum();
     println!(
-        "Both sides give the same answer and leave the same words in the lent space: {sheets} sheets. The generators make the same sheets. The programs write the same.\n"
+        "All sides give the same answer and leave the same words in the lent space: {sheets} sheets. The generators make the same sheets. The programs write the same.\n"
     );
     Ok(classes)
 }
@@ -124,7 +124,7 @@ fn check(sheets: &str, seed: &str) -> Outcome<()> {
         return Err(USAGE.into());
     };
     generators_agree()?;
-    if check::Tally::default().run(sheets, seed).map_err(said)? {
+    if check::Tally::default().run(sheets, seed)? {
         Ok(())
     } else {
         Err("the sides differ".into())
@@ -137,7 +137,8 @@ fn plan_only(side: &str, key: &str, planned: bool) -> Outcome<()> {
     let ([class], Some(side)) = (&classes[..], side) else {
         return Err(USAGE.into());
     };
-    counts::plan_only(class, &side, planned);
+    let work = (class.task)(&side).ok_or(USAGE)?;
+    counts::plan_only(class, work, planned);
     Ok(())
 }
 

@@ -1,7 +1,7 @@
 //! The planning program beside which `plan` is timed: a sheet on standard input, its plan on
 //! standard output.
 
-// The kept table and the latest times are the benchmark's alone.
+// The kept table, the latest times and the second way to list the lines are the benchmark's alone.
 #[allow(dead_code, unused_imports)]
 mod plain;
 mod text;
@@ -18,7 +18,7 @@ fn main() -> std::io::Result<()> {
     let mut sheet = Vec::new();
     stdin().take(MOST_BYTES).read_to_end(&mut sheet)?;
     let mut space = [0; LINES * plain::CAPPED_WORDS];
-    let answer = plain::plan(&sheet, &mut space).and_then(within_lines);
+    let answer = plain::plan(&sheet, &mut space, plain::BY_BOUNDS).and_then(within_lines);
     stdout().write_all(text::answer(&answer, &space).as_bytes())
 }
 

@@ -41,10 +41,9 @@ pub fn side_by_side() -> Result<Times> {
         });
     }
     failure?;
-    let runs = both.map(|(_, runs)| runs);
-    let longest = runs
-        .each_ref()
-        .map(|runs| runs.iter().copied().fold(0.0, f64::max));
+    let runs = both.map(|(_, runs)| runs).to_vec();
+    let longest = |runs: &Vec<f64>| runs.iter().copied().fold(0.0, f64::max);
+    let longest = runs.iter().map(longest).collect();
     Ok(Times::new(runs, longest))
 }
 

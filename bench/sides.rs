@@ -1,8 +1,8 @@
-//! The two sides, each behind the same functions: the library through its C functions, and the plain
-//! planner.
+//! The three sides, each behind the same functions: the library through its C functions, and the plain
+//! planner with either way to list the lines.
 
 use crate::hire;
-use crate::plain::{self, CAPPED_WORDS, MOST, NoPlan};
+use crate::plain::{self, ADDING, BY_BOUNDS, CAPPED_WORDS, Listing, MOST, NoPlan};
 use std::hint::black_box;
 
 /// 0 or the refusal; then planning's deviation, steps, selections, count, byte of spare triggers and words of
@@ -21,34 +21,55 @@ const WORDS: usize = 4 + 2 * MOST;
 /// What is done with a sheet and a lent space.
 pub type Work = fn(&[u8], &mut [i32]) -> Answer;
 
+/// What a side does; none where it would do the same as the side before.
 pub struct Side {
     pub name: &'static str,
     pub plan: Work,
     /// The kept table, which leaves the space alone.
-    pub kept: Work,
+    pub kept: Option<Work>,
     /// The latest times that are no later than 1 for every trigger.
     pub latest: Work,
     /// Request 6's sheet of six by six from a state, whose bytes stand in the place of a sheet; the space is
     /// left alone.
-    pub make: Work,
+    pub make: Option<Work>,
 }
 
-pub const SIDES: [Side; 2] = [
+/// The library, and plain Rust by bounds and adding panels.
+pub const SIDES: [Side; 3] = [
     Side {
         name: "library",
         plan: by_library,
-        kept: kept_by_library,
+        kept: Some(kept_by_library),
         latest: latest_by_library,
-        make: made_by_library,
+        make: Some(made_by_library),
     },
     Side {
-        name: "plain",
-        plan: by_plain,
-        kept: kept_by_plain,
-        latest: latest_by_plain,
-        make: made_by_plain,
+        name: "bounds",
+        plan: |sheet, space| by_plain(sheet, space, BY_BOUNDS),
+        kept: Some(kept_by_plain),
+        latest: |sheet, space| latest_by_plain(sheet, space, BY_BOUNDS),
+        make: Some(made_by_plain),
+    },
+    Side {
+        name: "adding",
+        plan: |sheet, space| by_plain(sheet, space, ADDING),
+        kept: None,
+        latest: |sheet, space| latest_by_plain(sheet, space, ADDING),
+        make: None,
     },
 ];
+
+/// Which of its works a side is to do.
+pub type Task = fn(&Side) -> Option<Work>;
+pub const PLAN: Task = |side| Some(side.plan);
+pub const KEPT: Task = |side| side.kept;
+pub const LATEST: Task = |side| Some(side.latest);
+pub const MADE: Task = |side| side.make;
+
+/// The works of the sides that do the task, the library's first.
+pub fn works(task: Task) -> Vec<Work> {
+    SIDES.iter().filter_map(task).collect()
+}
 
 /// Words lent to each plan: the space of the planning program, 2,000 lines with caps.
 pub const SPACE: usize = 2000 * CAPPED_WORDS;
@@ -176,9 +197,9 @@ fn triggers(sheet: &[u8]) -> usize {
     usize::from(lines[KEYS] - b'0')
 }
 
-fn by_plain(sheet: &[u8], space: &mut [i32]) -> Answer {
+fn by_plain(sheet: &[u8], space: &mut [i32], list: Listing) -> Answer {
     let mut words = [0; WORDS];
-    match plain::plan(sheet, space) {
+    match plain::plan(sheet, space, list) {
         Ok(plan) => {
             let numbers = [
                 plan.deviation.into(),
@@ -215,9 +236,9 @@ fn kept_by_plain(sheet: &[u8], _: &mut [i32]) -> Answer {
     }
 }
 
-fn latest_by_plain(sheet: &[u8], space: &mut [i32]) -> Answer {
+fn latest_by_plain(sheet: &[u8], space: &mut [i32], list: Listing) -> Answer {
     let mut words = [0; WORDS];
-    match plain::latest(sheet, &GIVEN, space) {
+    match plain::latest(sheet, &GIVEN, space, list) {
         Ok(latest) => {
             words[0] = latest.count as i64;
             words[1..=MOST].copy_from_slice(&latest.times);
@@ -252,12 +273,13 @@ fn refusal(refused: NoPlan, places: [usize; 2]) -> Answer {
     Answer { code, words }
 }
 
-/// What both sides answer, if it is the same and they leave the same words in a space that held the
+/// What all sides answer, if it is the same and they leave the same words in a space that held the
 /// same before.
-pub fn agreed(work: fn(&Side) -> Work, sheet: &[u8], words: usize) -> Option<Answer> {
-    let [library, plain] = SIDES.map(|side| {
+pub fn agreed(task: Task, sheet: &[u8], words: usize) -> Option<Answer> {
+    let mut answers = works(task).into_iter().map(|work| {
         let mut space: Vec<i32> = (0..words as i32).collect();
-        (work(&side)(sheet, &mut space), space)
+        (work(sheet, &mut space), space)
     });
-    (library == plain).then_some(library.0)
+    let library = answers.next()?;
+    answers.all(|plain| plain == library).then_some(library.0)
 }

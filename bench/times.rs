@@ -1,7 +1,7 @@
-//! Times of both sides, taken in turns.
+//! Times of all sides, taken in turns.
 
 use crate::classes::Class;
-use crate::sides::{SIDES, SPACE, Side, Work};
+use crate::sides::{SPACE, Work, works};
 use std::hint::black_box;
 use std::time::{Duration, Instant};
 
@@ -15,32 +15,42 @@ const DEPTHS: usize = 16;
 /// Bytes of a depth, beside what a call takes.
 const FRAME: usize = 200;
 
-/// Times in seconds, the library's first.
+/// Times of each side in seconds, the library's first.
 pub struct Times {
-    /// The median round of each side, for one pass over the class's sheets.
-    pub median: [f64; 2],
+    /// The median round, for one pass over the class's sheets.
+    pub median: Vec<f64>,
     /// The lower quartile, which other work on the machine disturbs less.
-    pub quartile: [f64; 2],
-    /// The longest that a single plan took.
-    pub longest: [f64; 2],
+    pub quartile: Vec<f64>,
+    /// The sheet that takes longest by itself.
+    pub longest: Vec<f64>,
 }
 
 impl Times {
-    pub fn new(mut rounds: [Vec<f64>; 2], longest: [f64; 2]) -> Times {
-        for side in &mut rounds {
-            side.sort_by(f64::total_cmp);
-        }
+    pub fn new(mut rounds: Vec<Vec<f64>>, longest: Vec<f64>) -> Times {
+        let mut at = |part| rounds.iter_mut().map(|side| nth(side, part)).collect();
         Times {
-            median: rounds.each_ref().map(|side| side[side.len() / 2]),
-            quartile: rounds.each_ref().map(|side| side[side.len() / 4]),
+            median: at(2),
+            quartile: at(4),
             longest,
         }
     }
 
-    /// How many times as long as plain Rust the library takes, by medians and by quartiles.
+    /// How many times as long as the faster plain Rust the library takes, by medians and by quartiles.
     pub fn ratios(&self) -> [f64; 2] {
-        [self.median, self.quartile].map(|[library, plain]| library / plain)
+        [&self.median, &self.quartile].map(|times| ratio(times))
     }
+}
+
+/// The library's number to the least of the others.
+pub fn ratio(sides: &[f64]) -> f64 {
+    let least = sides[1..].iter().copied().fold(f64::INFINITY, f64::min);
+    sides[0] / least
+}
+
+/// The time at one in so many of them, by length.
+fn nth(times: &mut [f64], part: usize) -> f64 {
+    times.sort_by(f64::total_cmp);
+    times[times.len() / part]
 }
 
 /// One side at work on a class.
@@ -50,19 +60,20 @@ struct Lane<'a> {
     space: Vec<i32>,
     passes: u32,
     rounds: Vec<f64>,
-    longest: Duration,
+    /// The times of each sheet by itself.
+    single: Vec<Vec<f64>>,
 }
 
 impl<'a> Lane<'a> {
     /// Finds how many passes make a round, which warms the side up as well.
-    fn new(side: Side, class: &'a Class) -> Lane<'a> {
+    fn new(work: Work, sheets: &'a [Vec<u8>]) -> Lane<'a> {
         let mut lane = Lane {
-            work: (class.work)(&side),
-            sheets: &class.sheets,
+            work,
+            sheets,
             space: vec![0; SPACE],
             passes: 1,
             rounds: Vec::new(),
-            longest: Duration::ZERO,
+            single: vec![Vec::with_capacity(ROUNDS); sheets.len()],
         };
         while lane.passed() < ROUND {
             lane.passes *= 2;
@@ -90,19 +101,24 @@ impl<'a> Lane<'a> {
         let depth = self.rounds.len() % DEPTHS;
         let passed = deeper(depth, &mut || self.passed()).as_secs_f64();
         self.rounds.push(passed / f64::from(self.passes));
-        for sheet in self.sheets {
+        for (k, sheet) in self.sheets.iter().enumerate() {
             let start = Instant::now();
             self.plan(sheet);
-            self.longest = self.longest.max(start.elapsed());
+            self.single[k].push(start.elapsed().as_secs_f64());
         }
+    }
+
+    /// The greatest of the sheets' medians.
+    fn longest(&mut self) -> f64 {
+        let medians = self.single.iter_mut().map(|times| nth(times, 2));
+        medians.fold(0.0, f64::max)
     }
 }
 
 /// The times of each class. A round of every class is taken before the next round of any, so that a
 /// while in which the machine is slow is a small part of each.
 pub fn side_by_side(classes: &[Class]) -> Vec<Times> {
-    let lanes = |class| SIDES.map(|side| Lane::new(side, class));
-    let mut all: Vec<[Lane; 2]> = classes.iter().map(lanes).collect();
+    let mut all: Vec<Vec<Lane>> = classes.iter().map(lanes).collect();
     for round in 0..ROUNDS {
         for lanes in &mut all {
             in_turn(lanes, round, Lane::round);
@@ -111,9 +127,14 @@ pub fn side_by_side(classes: &[Class]) -> Vec<Times> {
     all.into_iter().map(times).collect()
 }
 
-fn times(lanes: [Lane; 2]) -> Times {
-    let longest = lanes.each_ref().map(|lane| lane.longest.as_secs_f64());
-    Times::new(lanes.map(|lane| lane.rounds), longest)
+fn lanes(class: &Class) -> Vec<Lane<'_>> {
+    let works = works(class.task).into_iter();
+    works.map(|work| Lane::new(work, &class.sheets)).collect()
+}
+
+fn times(mut lanes: Vec<Lane>) -> Times {
+    let longest = lanes.iter_mut().map(Lane::longest).collect();
+    Times::new(lanes.into_iter().map(|lane| lane.rounds).collect(), longest)
 }
 
 /// Acts some frames further down the stack: where a buffer on the stack happens to lie can make a side
@@ -130,11 +151,10 @@ fn deeper(frames: usize, act: &mut dyn FnMut() -> Duration) -> Duration {
     passed
 }
 
-/// Lets both act; who begins changes from round to round, so that none has the better place.
-pub fn in_turn<T>(both: &mut [T; 2], round: usize, mut act: impl FnMut(&mut T)) {
-    let begins = round % 2;
-    act(&mut both[begins]);
-    act(&mut both[1 - begins]);
+/// Lets each act; who begins changes from round to round, so that none has the better place.
+pub fn in_turn<T>(all: &mut [T], round: usize, mut act: impl FnMut(&mut T)) {
+    let (before, from) = all.split_at_mut(round % all.len());
+    from.iter_mut().chain(before).for_each(&mut act);
 }
 
 /// The time that this thread has had a processor, so that others on the machine do not count.

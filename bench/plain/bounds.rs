@@ -2,7 +2,7 @@
 //! nowhere above gives no line of its own.
 
 use super::cue::{Cue, Level};
-use super::entry::{Line, NO_LINE};
+use super::entry::{Line, NO_LINE, nowhere_above};
 use super::few::Few;
 
 /// A level is applied to this many bounds at a time: each gives at most six, and all have room.
@@ -42,10 +42,6 @@ impl Bounds {
         }
         raised
     }
-}
-
-fn nowhere_above(a: &Line, b: &Line) -> bool {
-    a.iter().zip(b).all(|(a, b)| a <= b)
 }
 
 /// Hands each least bound on.

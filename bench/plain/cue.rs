@@ -1,7 +1,8 @@
 //! Steps 1 to 4: star, product, new due marks, least deviation and kept triggers.
 
 use super::entry::{
-    ABSENT, Entry, Line, MOST, NO_LINE, Table, join, join_rows, largest, minus, product, sums,
+    ABSENT, Entry, Line, MOST, NO_LINE, Table, join, largest, minus, present, raise, row_product,
+    settle, sums,
 };
 use super::sheet::{Refusal, Sheet};
 
@@ -24,7 +25,7 @@ pub struct Cue {
     floors: usize,
 }
 
-/// A panel with a floor.
+/// A panel with a floor. Gains and needs are of use for its kept triggers alone.
 #[derive(Clone, Copy)]
 pub struct Level {
     pub lag: Line,
@@ -48,10 +49,9 @@ const NO_LEVEL: Level = Level {
 
 impl Cue {
     pub fn new(sheet: &Sheet) -> Result<Cue, Refusal> {
-        let star = star(&order(sheet), sheet.triggers).ok_or(Refusal::NoOrder)?;
-        let through = product(&sheet.lag, &star);
+        let star = star(order(sheet), sheet.triggers).ok_or(Refusal::NoOrder)?;
         let marks = marks(&star, &sheet.due);
-        let deviation = deviation(&through, &marks, &sheet.floor);
+        let deviation = deviation(sheet, &marks);
         let mut cue = Cue {
             triggers: sheet.triggers,
             spares: sheet.spares(),
@@ -63,11 +63,10 @@ impl Cue {
             levels: [NO_LEVEL; MOST],
             floors: 0,
         };
-        for ((lag, through), &floor) in sheet.lag.iter().zip(&through).zip(&sheet.floor) {
-            if floor != ABSENT {
-                cue.levels[cue.floors] = Level::new(lag, through, &marks, floor, deviation);
-                cue.floors += 1;
-            }
+        for (lag, floor) in sheet.floored() {
+            let through = row_product(lag, &cue.star);
+            cue.levels[cue.floors] = Level::new(lag, &through, &marks, floor, deviation);
+            cue.floors += 1;
         }
         Ok(cue)
     }
@@ -86,13 +85,13 @@ impl Cue {
 impl Level {
     fn new(lag: &Line, through: &Line, marks: &Line, floor: Entry, deviation: Entry) -> Level {
         let ask = floor - deviation;
-        let reach = sums(through, marks).into_iter().enumerate();
+        let reach = through.iter().zip(marks).take(MOST).rev();
         Level {
             lag: *lag,
             ask,
-            kept: reach.fold(0, |set, (j, time)| set | u8::from(time >= ask) << j),
-            gains: through.map(|d| minus(d, floor)),
-            needs: through.map(|d| minus(ask, d)),
+            kept: reach.fold(0, |set, (d, mark)| set << 1 | u8::from(d + mark >= ask)),
+            gains: through.map(|d| d - floor),
+            needs: through.map(|d| ask - d),
         }
     }
 }
@@ -101,49 +100,49 @@ impl Level {
 fn order(sheet: &Sheet) -> Table {
     let mut order = sheet.after;
     if let Some(land) = &sheet.land {
-        join_rows(&mut order, &product(land, &sheet.lag));
+        for (row, land) in order.iter_mut().zip(land) {
+            join(row, &row_product(land, &sheet.lag));
+        }
     }
     order
 }
 
-/// The sum of the powers 0 to n − 1 of the order table, if no diagonal entry of powers 1 to n is
-/// above 0.
-fn star(order: &Table, n: usize) -> Option<Table> {
-    let mut star = [NO_LINE; MOST];
-    let mut power = unit(n);
-    for _ in 0..n {
-        join_rows(&mut star, &power);
-        power = product(order, &power);
-        if (0..n).any(|i| power[i][i] > 0) {
+/// The largest sums of rules along ways through the triggers, 0 on the diagonal, if no circle's is above 0. The ways
+/// through the first triggers give those through one more; a circle is met at its last trigger.
+fn star(mut star: Table, n: usize) -> Option<Table> {
+    for k in 0..n {
+        if star[k][k] > 0 {
             return None;
         }
+        star[k][k] = 0;
+        let onward = star[k];
+        for row in &mut star[..n] {
+            if present(row[k]) {
+                raise(row, &onward, row[k]);
+            }
+        }
     }
+    settle(&mut star);
     Some(star)
 }
 
-fn unit(n: usize) -> Table {
-    let mut unit = [NO_LINE; MOST];
-    for (i, row) in unit[..n].iter_mut().enumerate() {
-        row[i] = 0;
-    }
-    unit
-}
-
-/// r(j), minus the largest of M*(i,j) − q(i).
+/// r(j), minus the largest of M*(i,j) − q(i). Under rule 2 a spare trigger has no due mark.
 fn marks(star: &Table, due: &Line) -> Line {
     let mut pulls = NO_LINE;
     for (row, &due) in star.iter().zip(due) {
-        join(&mut pulls, &row.map(|entry| minus(entry, due)));
+        if present(due) {
+            raise(&mut pulls, row, -due);
+        }
     }
     pulls.map(|pull| minus(0, pull))
 }
 
-/// Δ, the largest of p(i) minus the largest d(i,j) + r(j), over panels with a floor.
-fn deviation(through: &Table, marks: &Line, floor: &Line) -> Entry {
-    let landings = through.iter().map(|row| largest(&sums(row, marks)));
-    let short = floor.iter().zip(landings);
-    short.fold(ABSENT, |most, (&floor, lands)| {
-        most.max(minus(floor, lands))
+/// Δ, the largest of p(i) minus the largest d(i,j) + r(j), over panels with a floor. The marks keep the order, so
+/// that a(i,j) + r(j) is as large.
+fn deviation(sheet: &Sheet, marks: &Line) -> Entry {
+    let short = sheet.floored();
+    short.fold(ABSENT, |most, (lag, floor)| {
+        most.max(floor - largest(&sums(lag, marks)))
     })
 }
 

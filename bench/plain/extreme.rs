@@ -2,7 +2,7 @@
 //! triggers have a trigger in common. A set is six bits in a byte.
 
 use super::cue::{Cue, Level};
-use super::entry::{ABSENT, Entry, Line, MOST, largest, minus, places, plus, sums};
+use super::entry::{Entry, Line, MOST, largest, minus, places, plus, present, sums};
 
 /// In the place of a panel's set where the panel is not tight: no set of triggers holds it.
 const NEVER: u8 = 64;
@@ -16,7 +16,7 @@ pub fn extreme(line: &Line, cue: &Cue) -> bool {
     for (set, level) in tight.iter_mut().zip(cue.levels()) {
         *set = reaching(level, line, most);
     }
-    let closures = line.iter().zip(held).filter(|&(&at, _)| at != ABSENT);
+    let closures = line.iter().zip(held).filter(|&(&at, _)| present(at));
     closures.fold(63, |all, (_, held)| all & closed(held, &tight, front)) != 0
 }
 

@@ -1,6 +1,6 @@
 //! A list of lines with a fixed room.
 
-use super::entry::{Line, MOST};
+use super::entry::{Line, PLACES};
 use std::ops::Deref;
 
 /// Lines at the front of a fixed space.
@@ -14,7 +14,7 @@ impl<const ROOM: usize> Few<ROOM> {
     pub fn none() -> Self {
         Few {
             len: 0,
-            at: [[0; MOST]; ROOM],
+            at: [[0; PLACES]; ROOM],
         }
     }
 }

@@ -1,7 +1,7 @@
 //! The kept table: steps 1 to 4, with the numbers of step 5's walk.
 
 use super::cue::{Cue, Level};
-use super::entry::{ABSENT, Line, MOST};
+use super::entry::{Line, MOST, present};
 use super::sheet::{self, Refusal};
 use super::walk;
 
@@ -35,7 +35,7 @@ pub fn kept_table(bytes: &[u8]) -> Result<KeptTable, Refusal> {
 fn by_panel(levels: &[Level], floor: &Line) -> [u8; MOST] {
     let mut kept = [0; MOST];
     let panels = kept.iter_mut().zip(floor);
-    let floored = panels.filter(|&(_, &floor)| floor != ABSENT);
+    let floored = panels.filter(|&(_, &floor)| present(floor));
     for ((kept, _), level) in floored.zip(levels) {
         *kept = level.kept;
     }

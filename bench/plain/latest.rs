@@ -3,9 +3,9 @@
 //! no component and keeps its given time.
 
 use super::cue::Cue;
-use super::entry::{ABSENT, Line, MOST};
-use super::lines::{LINE_WORDS, line_words, list};
-use super::{NoPlan, sheet};
+use super::entry::{Line, MOST, present};
+use super::words::{ABSENT_WORD, LINE_WORDS, line_words};
+use super::{Listing, NoPlan, sheet};
 
 /// The count of lines in the lent space and how many words each takes, and the latest times, 0 past the
 /// number of triggers.
@@ -17,7 +17,12 @@ pub struct Latest {
 
 /// The latest tightest times that are no later than those given, of which there are enough and none
 /// beyond the limit.
-pub fn latest(bytes: &[u8], given: &[i64; MOST], space: &mut [i32]) -> Result<Latest, NoPlan> {
+pub fn latest(
+    bytes: &[u8],
+    given: &[i64; MOST],
+    space: &mut [i32],
+    list: Listing,
+) -> Result<Latest, NoPlan> {
     let sheet = sheet::read(bytes)?;
     let cue = Cue::new(&sheet)?;
     let count = list(&cue, space)?;
@@ -42,14 +47,14 @@ pub fn latest(bytes: &[u8], given: &[i64; MOST], space: &mut [i32]) -> Result<La
 /// The times, none of them later than lands in time.
 fn lowered(given: &[i64; MOST], overruns: &Line) -> [i64; MOST] {
     std::array::from_fn(|j| match overruns[j] {
-        ABSENT => given[j],
-        overrun => given[j].min(-i64::from(overrun)),
+        overrun if present(overrun) => given[j].min(-i64::from(overrun)),
+        _ => given[j],
     })
 }
 
 /// Raises the times to a line, as high as it may go.
 fn raise(times: &mut [i64; MOST], line: &[i32], within: &[i64; MOST]) {
-    let present = || line.iter().enumerate().filter(|&(_, &c)| c != ABSENT);
+    let present = || line.iter().enumerate().filter(|&(_, &c)| c != ABSENT_WORD);
     let weight = present().map(|(j, &c)| within[j] - i64::from(c)).min();
     let weight = weight.expect("a line's greatest component is 0");
     for (j, &c) in present() {

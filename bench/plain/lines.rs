@@ -4,25 +4,14 @@
 use super::NoPlan;
 use super::bounds::each_bound;
 use super::cue::Cue;
-use super::entry::{Line, NO_LINE, applied, largest, minus, sums};
+use super::entry::{Line, NO_LINE, applied, largest, minus};
 use super::extreme::extreme;
 use super::few::Few;
+use super::words::{line_words, write};
 
-/// A line's words in the lent space: the count of triggers and six components, and on a sheet with a last
-/// line the cap.
-pub const LINE_WORDS: usize = 7;
-pub const CAPPED_WORDS: usize = 8;
 /// More lines than nearly every sheet has.
 const ROOM: usize = 128;
 type Buffer = Few<ROOM>;
-
-/// How many words a line of the sheet takes.
-pub fn line_words(cue: &Cue) -> usize {
-    match cue.overruns {
-        Some(_) => CAPPED_WORDS,
-        None => LINE_WORDS,
-    }
-}
 
 /// Writes the list at the front of the space and gives its count, or the count that does not fit.
 pub fn list(cue: &Cue, space: &mut [i32]) -> Result<usize, NoPlan> {
@@ -54,18 +43,6 @@ fn counted(cue: &Cue, mut lines: Buffer) -> usize {
     count
 }
 
-/// Writes lines at the front of the space and gives their count.
-fn write(cue: &Cue, lines: &[Line], space: &mut [i32]) -> usize {
-    for (line, words) in lines.iter().zip(space.chunks_exact_mut(line_words(cue))) {
-        words[0] = cue.triggers as i32;
-        words[1..LINE_WORDS].copy_from_slice(line);
-        if let Some(overruns) = &cue.overruns {
-            words[LINE_WORDS] = -largest(&sums(overruns, line));
-        }
-    }
-    lines.len()
-}
-
 /// The least lines above the last one, as many as there is room for.
 fn gathered(cue: &Cue, last: &Line) -> Buffer {
     let mut lines = Buffer::none();
@@ -85,7 +62,10 @@ fn gathered(cue: &Cue, last: &Line) -> Buffer {
 /// component is 0.
 fn candidate(cue: &Cue, starred: &Line, t: usize) -> Line {
     let mark = cue.marks[t];
-    let ray: Line = std::array::from_fn(|i| minus(starred[i], mark).max(cue.star[i][t]));
+    let mut ray = starred.map(|at| minus(at, mark));
+    for (at, row) in ray.iter_mut().zip(&cue.star) {
+        *at = (*at).max(row[t]);
+    }
     let top = largest(&ray);
     ray.map(|at| minus(at, top))
 }

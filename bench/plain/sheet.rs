@@ -1,11 +1,12 @@
 //! Reading a sheet: its tables, or the refusal of the first fault met.
 
-use super::entry::{ABSENT, Entry, Line, MOST, NO_LINE, Table, join, largest, minus, places};
+use super::entry::{
+    ABSENT, Entry, Line, MOST, NO_LINE, Table, join, largest, minus, places, present,
+};
+use super::item::{LIMIT, item};
 
 /// The most bytes that a sheet may have.
 pub const LONGEST: usize = 2048;
-/// Entries lie from −LIMIT to LIMIT.
-const LIMIT: Entry = 100_000;
 
 /// The refusals before the list is known: document 01's, and 14 of document 02's No. 7.
 #[derive(Clone, Copy)]
@@ -35,20 +36,41 @@ pub struct Sheet {
 }
 
 impl Sheet {
+    /// The panels with a floor, each with its row of lags and its floor.
+    pub fn floored(&self) -> impl Iterator<Item = (&Line, Entry)> {
+        let panels = self.lag.iter().zip(self.floor);
+        panels.filter(|&(_, floor)| present(floor))
+    }
+
     /// The spare triggers, bit 0 for trigger 1: no lag, no after entry in the row or column, and no land
     /// entry in the row.
     pub fn spares(&self) -> u8 {
-        let mut most = NO_LINE;
-        for row in self.lag.iter().chain(&self.after) {
-            join(&mut most, row);
+        let lagless = self.lagless();
+        if lagless == 0 {
+            0
+        } else {
+            lagless & self.without_rules()
         }
+    }
+
+    /// The triggers without an after entry in the row or column and without a land entry in the row.
+    fn without_rules(&self) -> u8 {
+        let mut most = NO_LINE;
+        self.after.iter().for_each(|row| join(&mut most, row));
         for rules in [Some(&self.after), self.land.as_ref()]
             .into_iter()
             .flatten()
         {
-            join(&mut most, &rules.each_ref().map(largest));
+            for (most, row) in most.iter_mut().zip(rules) {
+                *most = (*most).max(largest(row));
+            }
         }
-        places(&most, ABSENT) % (1 << self.triggers)
+        places(&most, ABSENT)
+    }
+
+    /// The triggers without a lag.
+    fn lagless(&self) -> u8 {
+        places(&self.longest_lags(), ABSENT) % (1 << self.triggers)
     }
 
     /// The largest lag of each trigger, absent where it has none.
@@ -66,8 +88,7 @@ impl Sheet {
 
     /// Whether some trigger is not spare and has no lag.
     fn has_lagless(&self) -> bool {
-        let lagless = places(&self.longest_lags(), ABSENT) % (1 << self.triggers);
-        lagless != self.spares()
+        self.lagless() != self.spares()
     }
 }
 
@@ -75,7 +96,7 @@ pub fn read(bytes: &[u8]) -> Result<Sheet, Refusal> {
     if bytes.len() > LONGEST {
         return Err(Refusal::TooLong);
     }
-    let mut reader = Reader { rest: bytes };
+    let mut reader = Reader { bytes, at: 0 };
     let by_spread = reader.rule()?;
     let panels = reader.size(b"panels=")?;
     let triggers = reader.size(b"triggers=")?;
@@ -99,14 +120,15 @@ pub fn read(bytes: &[u8]) -> Result<Sheet, Refusal> {
     reader.rows(b"after=", &mut sheet.after[..triggers], triggers)?;
     sheet.land = reader.land(triggers, panels)?;
     sheet.last = reader.last(panels)?;
-    if !reader.rest.is_empty() {
+    if reader.at != bytes.len() {
         return Err(Refusal::Form);
     }
-    complete(sheet, by_spread)
+    complete(&sheet, by_spread)?;
+    Ok(sheet)
 }
 
 /// What is asked of all lines together.
-fn complete(sheet: Sheet, by_spread: bool) -> Result<Sheet, Refusal> {
+fn complete(sheet: &Sheet, by_spread: bool) -> Result<(), Refusal> {
     if sheet.lag[..sheet.panels].contains(&NO_LINE) {
         return Err(Refusal::NoLag);
     }
@@ -116,25 +138,34 @@ fn complete(sheet: Sheet, by_spread: bool) -> Result<Sheet, Refusal> {
     if by_spread && sheet.has_lagless() {
         return Err(Refusal::Lagless);
     }
-    Ok(sheet)
+    Ok(())
 }
 
-/// The bytes that are still to be read.
+/// The bytes, and where the next line is to be read.
 struct Reader<'a> {
-    rest: &'a [u8],
+    bytes: &'a [u8],
+    at: usize,
 }
 
 impl Reader<'_> {
     /// Whether the sheet begins with the line of rule 2.
     fn rule(&mut self) -> Result<bool, Refusal> {
-        if !self.rest.starts_with(b"rule=") {
+        if !self.follows(b"rule=") {
             return Ok(false);
         }
-        self.rest = self.rest.strip_prefix(b"rule=2\n").ok_or(Refusal::Form)?;
+        if !self.follows(b"rule=2\n") {
+            return Err(Refusal::Form);
+        }
+        self.at = b"rule=2\n".len();
         Ok(true)
     }
 
-    fn size(&mut self, key: &[u8]) -> Result<usize, Refusal> {
+    /// Whether the bytes to be read begin with a key.
+    fn follows<const LEN: usize>(&self, key: &[u8; LEN]) -> bool {
+        self.bytes[self.at..].first_chunk() == Some(key)
+    }
+
+    fn size<const LEN: usize>(&mut self, key: &[u8; LEN]) -> Result<usize, Refusal> {
         match self.items(key, 1)?[0] {
             ABSENT => Err(Refusal::Form),
             size @ 1..=6 => Ok(size as usize),
@@ -142,7 +173,12 @@ impl Reader<'_> {
         }
     }
 
-    fn rows(&mut self, key: &[u8], rows: &mut [Line], count: usize) -> Result<(), Refusal> {
+    fn rows<const LEN: usize>(
+        &mut self,
+        key: &[u8; LEN],
+        rows: &mut [Line],
+        count: usize,
+    ) -> Result<(), Refusal> {
         for row in rows {
             *row = self.entries(key, count)?;
         }
@@ -150,7 +186,11 @@ impl Reader<'_> {
     }
 
     /// A line of due marks or last moments, none of them absent.
-    fn present(&mut self, key: &[u8], count: usize) -> Result<Line, Refusal> {
+    fn present<const LEN: usize>(
+        &mut self,
+        key: &[u8; LEN],
+        count: usize,
+    ) -> Result<Line, Refusal> {
         let marks = self.entries(key, count)?;
         if marks[..count].contains(&ABSENT) {
             return Err(Refusal::NoMark);
@@ -160,75 +200,52 @@ impl Reader<'_> {
 
     /// The first key decides whether there are land lines; then there is one for each trigger.
     fn land(&mut self, triggers: usize, panels: usize) -> Result<Option<Table>, Refusal> {
-        const KEY: &[u8] = b"land=";
-        if !self.rest.starts_with(KEY) {
+        if !self.follows(b"land=") {
             return Ok(None);
         }
         let mut land = [NO_LINE; MOST];
-        self.rows(KEY, &mut land[..triggers], panels)?;
+        self.rows(b"land=", &mut land[..triggers], panels)?;
         Ok(Some(land))
     }
 
     fn last(&mut self, panels: usize) -> Result<Option<Line>, Refusal> {
-        const KEY: &[u8] = b"last=";
-        if !self.rest.starts_with(KEY) {
+        if !self.follows(b"last=") {
             return Ok(None);
         }
-        self.present(KEY, panels).map(Some)
+        self.present(b"last=", panels).map(Some)
     }
 
     /// A line's range is looked at when its form is known to be good.
-    fn entries(&mut self, key: &[u8], count: usize) -> Result<Line, Refusal> {
+    fn entries<const LEN: usize>(
+        &mut self,
+        key: &[u8; LEN],
+        count: usize,
+    ) -> Result<Line, Refusal> {
         let items = self.items(key, count)?;
-        let good = |&item: &Entry| item == ABSENT || (-LIMIT..=LIMIT).contains(&item);
-        if items.iter().all(good) {
-            Ok(items)
-        } else {
-            Err(Refusal::Range)
-        }
-    }
-
-    /// One line: its key, its items, LF.
-    fn items(&mut self, key: &[u8], count: usize) -> Result<Line, Refusal> {
-        self.rest = self.rest.strip_prefix(key).ok_or(Refusal::Form)?;
-        let mut items = NO_LINE;
-        for (k, item) in items[..count].iter_mut().enumerate() {
-            *item = self.item(if k + 1 < count { b',' } else { b'\n' })?;
+        let beyond = |item: Entry| present(item) & (item.abs() > LIMIT);
+        if items.iter().fold(false, |any, &item| any | beyond(item)) {
+            return Err(Refusal::Range);
         }
         Ok(items)
     }
 
-    /// One item and the byte behind it.
-    fn item(&mut self, end: u8) -> Result<Entry, Refusal> {
-        let item = match *self.rest {
-            [b'0', ref rest @ ..] => {
-                self.rest = rest;
-                0
-            }
-            [b'1'..=b'9', ..] => self.digits(),
-            [b'-', ref rest @ ..] => {
-                self.rest = rest;
-                match rest {
-                    [b'1'..=b'9', ..] => -self.digits(),
-                    _ => ABSENT,
-                }
-            }
-            _ => return Err(Refusal::Form),
-        };
-        match *self.rest {
-            [byte, ref rest @ ..] if byte == end => self.rest = rest,
-            _ => return Err(Refusal::Form),
+    /// One line: its key, its items, LF.
+    fn items<const LEN: usize>(&mut self, key: &[u8; LEN], count: usize) -> Result<Line, Refusal> {
+        if !self.follows(key) {
+            return Err(Refusal::Form);
         }
-        Ok(item)
-    }
-
-    /// A numeral of any length; a number beyond the limit is read as the first one beyond.
-    fn digits(&mut self) -> Entry {
-        let mut value = 0;
-        while let [digit @ b'0'..=b'9', ref rest @ ..] = *self.rest {
-            value = (value * 10 + Entry::from(digit - b'0')).min(LIMIT + 1);
-            self.rest = rest;
+        let mut rest = &self.bytes[self.at + LEN..];
+        let mut items = NO_LINE;
+        for (k, read) in items[..count].iter_mut().enumerate() {
+            let end = if k + 1 < count { b',' } else { b'\n' };
+            let (item, len) = item(rest).ok_or(Refusal::Form)?;
+            match rest.get(len..) {
+                Some([byte, behind @ ..]) if *byte == end => rest = behind,
+                _ => return Err(Refusal::Form),
+            }
+            *read = item;
         }
-        value
+        self.at = self.bytes.len() - rest.len();
+        Ok(items)
     }
 }

@@ -3,7 +3,7 @@
 //! answer with those triggers.
 
 use super::cue::Level;
-use super::entry::MOST;
+use super::entry::{MOST, PLACES};
 
 #[derive(Clone, Copy, Default)]
 pub struct Counts {
@@ -11,30 +11,41 @@ pub struct Counts {
     pub selections: u32,
 }
 
-struct Tally<'a> {
-    levels: &'a [Level],
-    /// The triggers left to all levels, and what happens from the level on with them. No triggers
-    /// at all give nothing, which is right from the start.
-    seen: [([u8; MOST], Counts); MOST],
+/// The triggers left to all levels: a byte for each trigger, a bit for each level.
+type Left = u64;
+/// The first level, of every trigger.
+const FIRST: Left = 0x0101_0101_0101_0101;
+
+struct Tally {
+    last: usize,
+    /// For each level and trigger the later levels that the trigger serves as well.
+    serves: [[i32; PLACES]; MOST],
+    /// What was left to a level and to the later ones, and what happens from the level on with that.
+    /// Nothing at all gives nothing, which is right from the start.
+    seen: [(Left, Counts); MOST],
 }
 
-impl Tally<'_> {
-    /// What happens from a level on, where these triggers are left.
-    fn below(&mut self, level: usize, left: [u8; MOST]) -> Counts {
-        if level == self.levels.len() {
+impl Tally {
+    /// What happens from a level on, where these triggers are left to it and to the later ones.
+    fn below(&mut self, level: usize, left: Left) -> Counts {
+        if level == self.last {
+            let count = (left.wrapping_mul(FIRST)) >> 56 >> level;
             return Counts {
-                steps: 0,
-                selections: 1,
+                steps: count as u32,
+                selections: count as u32,
             };
         }
-        let (seen, counts) = &self.seen[level];
-        if seen[level..] == left[level..] {
-            return *counts;
+        let (seen, counts) = self.seen[level];
+        if seen == left {
+            return counts;
         }
         let mut counts = Counts::default();
-        let mut untried = left[level];
+        let here = FIRST << level;
+        let later = left & !here;
+        let mut untried = left & here;
         while untried != 0 {
-            let below = self.below(level + 1, self.cut(level, untried.trailing_zeros(), left));
+            let j = untried.trailing_zeros() as usize / 8;
+            let below = self.below(level + 1, self.cut(level, j, later));
             counts.steps += 1 + below.steps;
             counts.selections += below.selections;
             untried &= untried - 1;
@@ -44,23 +55,34 @@ impl Tally<'_> {
     }
 
     /// What fixing trigger j at a level leaves to the later ones.
-    fn cut(&self, level: usize, j: u32, mut left: [u8; MOST]) -> [u8; MOST] {
-        let gain = self.levels[level].gains[j as usize];
-        for (left, later) in left.iter_mut().zip(self.levels).skip(level + 1) {
-            if *left >> j & 1 == 1 && gain <= later.gains[j as usize] {
-                *left = 1 << j;
-            }
-        }
-        left
+    fn cut(&self, level: usize, j: usize, left: Left) -> Left {
+        let own = left >> (8 * j) & self.serves[level][j] as Left;
+        left & !(own * FIRST) | own << (8 * j)
     }
+}
+
+/// A set of triggers, bit by bit, as what is left to the first level.
+fn of_level(set: u8) -> Left {
+    /// Takes bit j from place j to place 8 j, among others.
+    const SPREAD: Left = 0x0002_0408_1020_4081;
+    Left::from(set) * SPREAD & FIRST
 }
 
 /// The fixings and the selections of the whole walk.
 pub fn count(levels: &[Level]) -> Counts {
-    let mut left = [0; MOST];
-    for (left, level) in left.iter_mut().zip(levels) {
-        *left = level.kept;
+    let mut tally = Tally {
+        last: levels.len() - 1,
+        serves: [[0; PLACES]; MOST],
+        seen: [(0, Counts::default()); MOST],
+    };
+    let mut left = 0;
+    for (i, level) in levels.iter().enumerate() {
+        left |= of_level(level.kept) << i;
+        for (k, later) in levels.iter().enumerate().skip(i + 1) {
+            for (j, serves) in tally.serves[i].iter_mut().enumerate() {
+                *serves |= i32::from(level.gains[j] <= later.gains[j]) << k;
+            }
+        }
     }
-    let seen = [([0; MOST], Counts::default()); MOST];
-    Tally { levels, seen }.below(0, left)
+    tally.below(0, left)
 }
