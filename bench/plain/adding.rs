@@ -6,14 +6,14 @@
 use super::NoPlan;
 use super::cue::{Cue, Level};
 use super::entry::{
-    ABSENT, Entry, LEAST, Line, MOST, NO_LINE, PLACES, Table, largest, nowhere_above, present,
+    ABSENT, Entry, LEAST, Line, MOST, PLACES, Table, largest, nowhere_above, present,
 };
 use super::lines;
 use super::words::{line_words, write};
 
 /// Lines that are enough for most sheets, and for all that are known.
 const SOME: usize = 32;
-const MANY: usize = 512;
+const MANY: usize = 256;
 
 /// Writes the list at the front of the space and gives its count, or the count that does not fit.
 pub fn list(cue: &Cue, space: &mut [i32]) -> Result<usize, NoPlan> {
@@ -59,7 +59,7 @@ impl<'a, const ROOM: usize> Stage<'a, ROOM> {
     fn of_columns(cue: &'a Cue) -> Self {
         let mut stage = Stage {
             cue,
-            columns: transposed(&cue.star),
+            columns: cue.columns,
             at: [[0; PLACES]; ROOM],
             excess: [0; ROOM],
             len: 0,
@@ -194,14 +194,4 @@ fn landing(level: &Level, line: &Line) -> Entry {
 
 fn joined(line: &Line, other: &Line, by: Entry) -> Line {
     std::array::from_fn(|j| line[j].max(other[j] + by))
-}
-
-fn transposed(table: &Table) -> Table {
-    let mut transposed = [NO_LINE; MOST];
-    for (i, row) in table.iter().enumerate() {
-        for (column, &entry) in transposed.iter_mut().zip(row) {
-            column[i] = entry;
-        }
-    }
-    transposed
 }

@@ -9,12 +9,12 @@ use super::sheet::{Refusal, Sheet};
 /// What the walk and the lines are drawn from. A spare trigger keeps its place: it has its 0 on the
 /// diagonal of M* and no other entry, so that no panel keeps it and no line of another has it.
 pub struct Cue {
-    pub triggers: usize,
+    pub sheet: Sheet,
     /// Bit 0 for trigger 1.
     pub spares: u8,
-    pub due: Line,
-    /// M*
+    /// M*, and its columns.
     pub star: Table,
+    pub columns: Table,
     /// r, the new due marks
     pub marks: Line,
     /// Δ
@@ -48,32 +48,43 @@ const NO_LEVEL: Level = Level {
 };
 
 impl Cue {
-    pub fn new(sheet: &Sheet) -> Result<Cue, Refusal> {
-        let star = star(order(sheet), sheet.triggers).ok_or(Refusal::NoOrder)?;
-        let marks = marks(&star, &sheet.due);
-        let deviation = deviation(sheet, &marks);
-        let mut cue = Cue {
-            triggers: sheet.triggers,
-            spares: sheet.spares(),
-            due: sheet.due,
-            star,
-            marks,
-            deviation,
-            overruns: sheet.last.map(|last| overruns(&sheet.lag, &last)),
-            levels: [NO_LEVEL; MOST],
-            floors: 0,
-        };
-        for (lag, floor) in sheet.floored() {
-            let through = row_product(lag, &cue.star);
-            cue.levels[cue.floors] = Level::new(lag, &through, &marks, floor, deviation);
-            cue.floors += 1;
+    pub const NONE: Cue = Cue {
+        sheet: Sheet::NONE,
+        spares: 0,
+        star: [NO_LINE; MOST],
+        columns: [NO_LINE; MOST],
+        marks: NO_LINE,
+        deviation: ABSENT,
+        overruns: None,
+        levels: [NO_LEVEL; MOST],
+        floors: 0,
+    };
+
+    /// Prepares a sheet's cue in the place of none: it is too large to be handed back.
+    pub fn prepare(&mut self, bytes: &[u8]) -> Result<(), Refusal> {
+        let sheet = &mut self.sheet;
+        sheet.read(bytes)?;
+        self.star = order(sheet);
+        if !close(&mut self.star[..sheet.triggers]) {
+            return Err(Refusal::NoOrder);
         }
-        Ok(cue)
+        transpose(&self.star, &mut self.columns);
+        self.spares = sheet.spares();
+        self.marks = marks(&self.star, &sheet.due);
+        self.deviation = deviation(sheet, &self.marks);
+        self.overruns = sheet.last.map(|last| overruns(&sheet.lag, &last));
+        for (lag, floor) in sheet.floored() {
+            let through = row_product(lag, &self.star);
+            let level = &mut self.levels[self.floors];
+            *level = Level::new(lag, &through, &self.marks, floor, self.deviation);
+            self.floors += 1;
+        }
+        Ok(())
     }
 
     /// The triggers that are not spare.
     pub fn in_use(&self) -> impl Iterator<Item = usize> {
-        (0..self.triggers).filter(|j| self.spares >> j & 1 == 0)
+        (0..self.sheet.triggers).filter(|j| self.spares >> j & 1 == 0)
     }
 
     /// The panels with a floor, in sheet order.
@@ -107,23 +118,31 @@ fn order(sheet: &Sheet) -> Table {
     order
 }
 
-/// The largest sums of rules along ways through the triggers, 0 on the diagonal, if no circle's is above 0. The ways
-/// through the first triggers give those through one more; a circle is met at its last trigger.
-fn star(mut star: Table, n: usize) -> Option<Table> {
-    for k in 0..n {
-        if star[k][k] > 0 {
-            return None;
+/// Makes M* of the order table, if no circle is above 0: the largest sums of rules along ways through the triggers. The
+/// ways through the first triggers give those through one more; a circle is met at its last trigger.
+fn close(table: &mut [Line]) -> bool {
+    for k in 0..table.len() {
+        if table[k][k] > 0 {
+            return false;
         }
-        star[k][k] = 0;
-        let onward = star[k];
-        for row in &mut star[..n] {
+        table[k][k] = 0;
+        let onward = table[k];
+        for row in table.iter_mut() {
             if present(row[k]) {
                 raise(row, &onward, row[k]);
             }
         }
     }
-    settle(&mut star);
-    Some(star)
+    table.iter_mut().for_each(settle);
+    true
+}
+
+fn transpose(rows: &Table, columns: &mut Table) {
+    for (i, row) in rows.iter().enumerate() {
+        for (column, &entry) in columns.iter_mut().zip(row) {
+            column[i] = entry;
+        }
+    }
 }
 
 /// r(j), minus the largest of M*(i,j) − q(i). Under rule 2 a spare trigger has no due mark.

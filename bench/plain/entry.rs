@@ -52,15 +52,6 @@ pub fn places(line: &Line, entry: Entry) -> u8 {
     bits.fold(0, |set, &at| set << 1 | u8::from(at == entry))
 }
 
-/// A table times a vector.
-pub fn applied(table: &Table, vector: &Line) -> Line {
-    let mut applied = NO_LINE;
-    for (at, row) in applied.iter_mut().zip(table) {
-        *at = largest(&sums(row, vector));
-    }
-    applied
-}
-
 /// A row times a table, row by row of the table, so that an absent entry costs one look.
 pub fn row_product(row: &Line, table: &Table) -> Line {
     let mut product = NO_LINE;
@@ -85,10 +76,8 @@ pub fn join(line: &mut Line, other: &Line) {
     raise(line, other, 0);
 }
 
-pub fn settle(table: &mut Table) {
-    for row in table {
-        *row = row.map(settled);
-    }
+pub fn settle(line: &mut Line) {
+    *line = line.map(settled);
 }
 
 /// Whether no place of a line is above that of the other; all are looked at, which is done at once.

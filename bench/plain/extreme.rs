@@ -8,7 +8,7 @@ use super::entry::{Entry, Line, MOST, largest, minus, places, plus, present, sum
 const NEVER: u8 = 64;
 
 pub fn extreme(line: &Line, cue: &Cue) -> bool {
-    let late = lateness(line, &cue.due);
+    let late = lateness(line, &cue.sheet.due);
     let most = largest(&late);
     let held: [u8; MOST] = std::array::from_fn(|k| places(&sums(&cue.star[k], line), line[k]));
     let front = joined(&held, places(&late, most));

@@ -7,17 +7,37 @@ pub const LIMIT: Entry = 100_000;
 /// As many digits as the limit has; a number with more is beyond it.
 const DIGITS: usize = 6;
 
-/// The item at the front of some bytes and how many it takes, if there is one. A number beyond the limit is read as some
+/// An entry, its magnitude, 0 where it is absent, and how many bytes it takes. A number beyond the limit is read as some
 /// number beyond.
+pub struct Item {
+    pub entry: Entry,
+    pub size: Entry,
+    pub len: usize,
+}
+
+const NO_NUMBER: Item = Item {
+    entry: ABSENT,
+    size: 0,
+    len: 1,
+};
+
+impl Item {
+    fn number(negative: bool, size: Entry, len: usize) -> Item {
+        let entry = if negative { -size } else { size };
+        Item { entry, size, len }
+    }
+}
+
+/// The item at the front of some bytes, if there is one.
 #[inline(always)]
-pub fn item(bytes: &[u8]) -> Option<(Entry, usize)> {
+pub fn item(bytes: &[u8]) -> Option<Item> {
     let short = bytes.first_chunk().and_then(short_item);
     short.or_else(|| any_item(bytes))
 }
 
 /// An item of not too many digits, read at once; none where something else has to be looked at.
 #[inline(always)]
-fn short_item(bytes: &[u8; 8]) -> Option<(Entry, usize)> {
+fn short_item(bytes: &[u8; 8]) -> Option<Item> {
     const EACH: u64 = 0x0101_0101_0101_0101;
     let bytes = u64::from_le_bytes(*bytes);
     let minus = usize::from(bytes as u8 == b'-');
@@ -26,13 +46,13 @@ fn short_item(bytes: &[u8; 8]) -> Option<(Entry, usize)> {
     let others = (values | values.wrapping_add(EACH * 6)) & EACH * 0xF0;
     let len = others.trailing_zeros() as usize / 8;
     if len == 0 {
-        return (minus == 1).then_some((ABSENT, 1));
+        return (minus == 1).then_some(NO_NUMBER);
     }
     if len > DIGITS || values as u8 == 0 && minus + len > 1 {
         return None;
     }
     let size = number(values << (64 - 8 * len));
-    Some((if minus == 1 { -size } else { size }, minus + len))
+    Some(Item::number(minus == 1, size, minus + len))
 }
 
 /// The number of eight digits, the first in the lowest byte: first pairs of them, then all.
@@ -46,24 +66,21 @@ fn number(digits: u64) -> Entry {
 
 /// Any item, byte by byte.
 #[inline(never)]
-fn any_item(bytes: &[u8]) -> Option<(Entry, usize)> {
+fn any_item(bytes: &[u8]) -> Option<Item> {
     let minus = usize::from(bytes.first() == Some(&b'-'));
     let numeral = &bytes[minus..];
     let len = numeral
         .iter()
         .take_while(|byte| byte.is_ascii_digit())
         .count();
-    let item = match numeral[..len] {
-        [] if minus == 1 => ABSENT,
-        [b'0'] if minus == 0 => 0,
-        [] | [b'0', ..] => return None,
+    match numeral[..len] {
+        [] if minus == 1 => Some(NO_NUMBER),
+        [b'0'] if minus == 0 => Some(Item::number(false, 0, 1)),
+        [] | [b'0', ..] => None,
         ref digits => {
-            let first = &digits[..len.min(DIGITS + 1)];
-            let size = first
-                .iter()
-                .fold(0, |size, digit| size * 10 + Entry::from(digit - b'0'));
-            if minus == 1 { -size } else { size }
+            let first = digits.iter().take(DIGITS + 1);
+            let size = first.fold(0, |size, digit| size * 10 + Entry::from(digit - b'0'));
+            Some(Item::number(minus == 1, size, minus + len))
         }
-    };
-    Some((item, minus + len))
+    }
 }

@@ -2,7 +2,7 @@
 
 use super::cue::{Cue, Level};
 use super::entry::{Line, MOST, present};
-use super::sheet::{self, Refusal};
+use super::sheet::Refusal;
 use super::walk;
 
 pub struct KeptTable {
@@ -17,15 +17,15 @@ pub struct KeptTable {
 }
 
 pub fn kept_table(bytes: &[u8]) -> Result<KeptTable, Refusal> {
-    let sheet = sheet::read(bytes)?;
-    let cue = Cue::new(&sheet)?;
+    let mut cue = Cue::NONE;
+    cue.prepare(bytes)?;
     let counts = walk::count(cue.levels());
-    let kept = by_panel(cue.levels(), &sheet.floor);
+    let kept = by_panel(cue.levels(), &cue.sheet.floor);
     Ok(KeptTable {
         deviation: cue.deviation,
         steps: counts.steps,
         selections: counts.selections,
-        panels: sheet.panels,
+        panels: cue.sheet.panels,
         kept,
         counts: kept.map(u8::count_ones),
     })

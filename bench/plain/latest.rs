@@ -5,7 +5,7 @@
 use super::cue::Cue;
 use super::entry::{Line, MOST, present};
 use super::words::{ABSENT_WORD, LINE_WORDS, line_words};
-use super::{Listing, NoPlan, sheet};
+use super::{Listing, NoPlan};
 
 /// The count of lines in the lent space and how many words each takes, and the latest times, 0 past the
 /// number of triggers.
@@ -23,12 +23,12 @@ pub fn latest(
     space: &mut [i32],
     list: Listing,
 ) -> Result<Latest, NoPlan> {
-    let sheet = sheet::read(bytes)?;
-    let cue = Cue::new(&sheet)?;
+    let mut cue = Cue::NONE;
+    cue.prepare(bytes)?;
     let count = list(&cue, space)?;
     let line_words = line_words(&cue);
     let mut times = [0; MOST];
-    times[..sheet.triggers].copy_from_slice(&given[..sheet.triggers]);
+    times[..cue.sheet.triggers].copy_from_slice(&given[..cue.sheet.triggers]);
     cue.in_use().for_each(|j| times[j] = i64::MIN);
     let within = match &cue.overruns {
         Some(overruns) => lowered(given, overruns),

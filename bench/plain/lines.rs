@@ -4,7 +4,7 @@
 use super::NoPlan;
 use super::bounds::each_bound;
 use super::cue::Cue;
-use super::entry::{Line, NO_LINE, applied, largest, minus};
+use super::entry::{Line, NO_LINE, join, largest, minus, row_product};
 use super::extreme::extreme;
 use super::few::Few;
 use super::words::{line_words, write};
@@ -47,7 +47,7 @@ fn counted(cue: &Cue, mut lines: Buffer) -> usize {
 fn gathered(cue: &Cue, last: &Line) -> Buffer {
     let mut lines = Buffer::none();
     each_bound(cue, |bound| {
-        let starred = applied(&cue.star, bound);
+        let starred = row_product(bound, &cue.columns);
         for t in cue.in_use() {
             let line = candidate(cue, &starred, t);
             if line > *last {
@@ -63,9 +63,7 @@ fn gathered(cue: &Cue, last: &Line) -> Buffer {
 fn candidate(cue: &Cue, starred: &Line, t: usize) -> Line {
     let mark = cue.marks[t];
     let mut ray = starred.map(|at| minus(at, mark));
-    for (at, row) in ray.iter_mut().zip(&cue.star) {
-        *at = (*at).max(row[t]);
-    }
+    join(&mut ray, &cue.columns[t]);
     let top = largest(&ray);
     ray.map(|at| minus(at, top))
 }

@@ -51,8 +51,8 @@ pub const ADDING: Listing = adding::list;
 
 /// The plan of a sheet, its lines at the front of the lent space.
 pub fn plan(bytes: &[u8], space: &mut [i32], list: Listing) -> Result<Plan, NoPlan> {
-    let sheet = sheet::read(bytes)?;
-    let cue = Cue::new(&sheet)?;
+    let mut cue = Cue::NONE;
+    cue.prepare(bytes)?;
     let counts = tally::count(cue.levels());
     let count = list(&cue, space)?;
     Ok(Plan {

@@ -36,6 +36,63 @@ pub struct Sheet {
 }
 
 impl Sheet {
+    pub const NONE: Sheet = Sheet {
+        panels: 0,
+        triggers: 0,
+        lag: [NO_LINE; MOST],
+        floor: NO_LINE,
+        due: NO_LINE,
+        after: [NO_LINE; MOST],
+        land: None,
+        last: None,
+    };
+
+    /// Reads a sheet in the place of none.
+    pub fn read(&mut self, bytes: &[u8]) -> Result<(), Refusal> {
+        if bytes.len() > LONGEST {
+            return Err(Refusal::TooLong);
+        }
+        let mut reader = Reader { bytes, at: 0 };
+        let by_spread = reader.rule()?;
+        self.panels = reader.size(b"panels=")?;
+        self.triggers = reader.size(b"triggers=")?;
+        let (m, n) = (self.panels, self.triggers);
+        reader.rows(b"lag=", &mut self.lag[..m], n)?;
+        if by_spread {
+            self.mark_by_lags();
+        } else {
+            reader.entries(b"floor=", &mut self.floor[..m])?;
+            reader.present(b"due=", &mut self.due[..n])?;
+        }
+        reader.rows(b"after=", &mut self.after[..n], n)?;
+        if reader.follows(b"land=") {
+            let land = self.land.insert([NO_LINE; MOST]);
+            reader.rows(b"land=", &mut land[..n], m)?;
+        }
+        if reader.follows(b"last=") {
+            let last = self.last.insert(NO_LINE);
+            reader.present(b"last=", &mut last[..m])?;
+        }
+        if reader.at != bytes.len() {
+            return Err(Refusal::Form);
+        }
+        self.complete(by_spread)
+    }
+
+    /// What is asked of all lines together.
+    fn complete(&self, by_spread: bool) -> Result<(), Refusal> {
+        if self.lag[..self.panels].contains(&NO_LINE) {
+            return Err(Refusal::NoLag);
+        }
+        if self.floor == NO_LINE {
+            return Err(Refusal::NoFloor);
+        }
+        if by_spread && self.lagless() != self.spares() {
+            return Err(Refusal::Lagless);
+        }
+        Ok(())
+    }
+
     /// The panels with a floor, each with its row of lags and its floor.
     pub fn floored(&self) -> impl Iterator<Item = (&Line, Entry)> {
         let panels = self.lag.iter().zip(self.floor);
@@ -85,63 +142,9 @@ impl Sheet {
         self.floor[..self.panels].fill(0);
         self.due = self.longest_lags().map(|lag| minus(0, lag));
     }
-
-    /// Whether some trigger is not spare and has no lag.
-    fn has_lagless(&self) -> bool {
-        self.lagless() != self.spares()
-    }
 }
 
-pub fn read(bytes: &[u8]) -> Result<Sheet, Refusal> {
-    if bytes.len() > LONGEST {
-        return Err(Refusal::TooLong);
-    }
-    let mut reader = Reader { bytes, at: 0 };
-    let by_spread = reader.rule()?;
-    let panels = reader.size(b"panels=")?;
-    let triggers = reader.size(b"triggers=")?;
-    let mut sheet = Sheet {
-        panels,
-        triggers,
-        lag: [NO_LINE; MOST],
-        floor: NO_LINE,
-        due: NO_LINE,
-        after: [NO_LINE; MOST],
-        land: None,
-        last: None,
-    };
-    reader.rows(b"lag=", &mut sheet.lag[..panels], triggers)?;
-    if by_spread {
-        sheet.mark_by_lags();
-    } else {
-        sheet.floor = reader.entries(b"floor=", panels)?;
-        sheet.due = reader.present(b"due=", triggers)?;
-    }
-    reader.rows(b"after=", &mut sheet.after[..triggers], triggers)?;
-    sheet.land = reader.land(triggers, panels)?;
-    sheet.last = reader.last(panels)?;
-    if reader.at != bytes.len() {
-        return Err(Refusal::Form);
-    }
-    complete(&sheet, by_spread)?;
-    Ok(sheet)
-}
-
-/// What is asked of all lines together.
-fn complete(sheet: &Sheet, by_spread: bool) -> Result<(), Refusal> {
-    if sheet.lag[..sheet.panels].contains(&NO_LINE) {
-        return Err(Refusal::NoLag);
-    }
-    if sheet.floor == NO_LINE {
-        return Err(Refusal::NoFloor);
-    }
-    if by_spread && sheet.has_lagless() {
-        return Err(Refusal::Lagless);
-    }
-    Ok(())
-}
-
-/// The bytes, and where the next line is to be read.
+/// The bytes, and where the next line begins.
 struct Reader<'a> {
     bytes: &'a [u8],
     at: usize,
@@ -150,102 +153,92 @@ struct Reader<'a> {
 impl Reader<'_> {
     /// Whether the sheet begins with the line of rule 2.
     fn rule(&mut self) -> Result<bool, Refusal> {
+        const LINE: &[u8; 7] = b"rule=2\n";
         if !self.follows(b"rule=") {
             return Ok(false);
         }
-        if !self.follows(b"rule=2\n") {
+        if !self.follows(LINE) {
             return Err(Refusal::Form);
         }
-        self.at = b"rule=2\n".len();
+        self.at = LINE.len();
         Ok(true)
     }
 
-    /// Whether the bytes to be read begin with a key.
+    /// Whether the bytes to be read begin so.
     fn follows<const LEN: usize>(&self, key: &[u8; LEN]) -> bool {
         self.bytes[self.at..].first_chunk() == Some(key)
     }
 
     fn size<const LEN: usize>(&mut self, key: &[u8; LEN]) -> Result<usize, Refusal> {
-        match self.items(key, 1)?[0] {
-            ABSENT => Err(Refusal::Form),
-            size @ 1..=6 => Ok(size as usize),
+        let mut size = [ABSENT];
+        self.items(key, &mut size)?;
+        match size {
+            [ABSENT] => Err(Refusal::Form),
+            [size @ 1..=6] => Ok(size as usize),
             _ => Err(Refusal::Size),
         }
     }
 
+    /// So many entries in each row.
     fn rows<const LEN: usize>(
         &mut self,
         key: &[u8; LEN],
         rows: &mut [Line],
         count: usize,
     ) -> Result<(), Refusal> {
-        for row in rows {
-            *row = self.entries(key, count)?;
-        }
-        Ok(())
+        rows.iter_mut()
+            .try_for_each(|row| self.entries(key, &mut row[..count]))
     }
 
     /// A line of due marks or last moments, none of them absent.
     fn present<const LEN: usize>(
         &mut self,
         key: &[u8; LEN],
-        count: usize,
-    ) -> Result<Line, Refusal> {
-        let marks = self.entries(key, count)?;
-        if marks[..count].contains(&ABSENT) {
+        marks: &mut [Entry],
+    ) -> Result<(), Refusal> {
+        self.entries(key, marks)?;
+        if marks.contains(&ABSENT) {
             return Err(Refusal::NoMark);
         }
-        Ok(marks)
-    }
-
-    /// The first key decides whether there are land lines; then there is one for each trigger.
-    fn land(&mut self, triggers: usize, panels: usize) -> Result<Option<Table>, Refusal> {
-        if !self.follows(b"land=") {
-            return Ok(None);
-        }
-        let mut land = [NO_LINE; MOST];
-        self.rows(b"land=", &mut land[..triggers], panels)?;
-        Ok(Some(land))
-    }
-
-    fn last(&mut self, panels: usize) -> Result<Option<Line>, Refusal> {
-        if !self.follows(b"last=") {
-            return Ok(None);
-        }
-        self.present(b"last=", panels).map(Some)
+        Ok(())
     }
 
     /// A line's range is looked at when its form is known to be good.
     fn entries<const LEN: usize>(
         &mut self,
         key: &[u8; LEN],
-        count: usize,
-    ) -> Result<Line, Refusal> {
-        let items = self.items(key, count)?;
-        let beyond = |item: Entry| present(item) & (item.abs() > LIMIT);
-        if items.iter().fold(false, |any, &item| any | beyond(item)) {
+        entries: &mut [Entry],
+    ) -> Result<(), Refusal> {
+        let most = self.items(key, entries)?;
+        if most > LIMIT {
             return Err(Refusal::Range);
         }
-        Ok(items)
+        Ok(())
     }
 
-    /// One line: its key, its items, LF.
-    fn items<const LEN: usize>(&mut self, key: &[u8; LEN], count: usize) -> Result<Line, Refusal> {
+    /// One line, its key, its items, LF, and the largest magnitude of its numbers.
+    fn items<const LEN: usize>(
+        &mut self,
+        key: &[u8; LEN],
+        items: &mut [Entry],
+    ) -> Result<Entry, Refusal> {
         if !self.follows(key) {
             return Err(Refusal::Form);
         }
         let mut rest = &self.bytes[self.at + LEN..];
-        let mut items = NO_LINE;
-        for (k, read) in items[..count].iter_mut().enumerate() {
+        let mut most = 0;
+        let count = items.len();
+        for (k, read) in items.iter_mut().enumerate() {
             let end = if k + 1 < count { b',' } else { b'\n' };
-            let (item, len) = item(rest).ok_or(Refusal::Form)?;
-            match rest.get(len..) {
+            let item = item(rest).ok_or(Refusal::Form)?;
+            match rest.get(item.len..) {
                 Some([byte, behind @ ..]) if *byte == end => rest = behind,
                 _ => return Err(Refusal::Form),
             }
-            *read = item;
+            *read = item.entry;
+            most = most.max(item.size);
         }
         self.at = self.bytes.len() - rest.len();
-        Ok(items)
+        Ok(most)
     }
 }

@@ -27,18 +27,26 @@ struct Tally {
 
 impl Tally {
     /// What happens from a level on, where these triggers are left to it and to the later ones.
+    #[inline(always)]
     fn below(&mut self, level: usize, left: Left) -> Counts {
         if level == self.last {
-            let count = (left.wrapping_mul(FIRST)) >> 56 >> level;
+            let selections = (left.wrapping_mul(FIRST) >> 56 >> level) as u32;
             return Counts {
-                steps: count as u32,
-                selections: count as u32,
+                steps: selections,
+                selections,
             };
         }
         let (seen, counts) = self.seen[level];
         if seen == left {
             return counts;
         }
+        let counts = self.tried(level, left);
+        self.seen[level] = (left, counts);
+        counts
+    }
+
+    /// As `below`, by trying each trigger of the level.
+    fn tried(&mut self, level: usize, left: Left) -> Counts {
         let mut counts = Counts::default();
         let here = FIRST << level;
         let later = left & !here;
@@ -50,14 +58,13 @@ impl Tally {
             counts.selections += below.selections;
             untried &= untried - 1;
         }
-        self.seen[level] = (left, counts);
         counts
     }
 
     /// What fixing trigger j at a level leaves to the later ones.
-    fn cut(&self, level: usize, j: usize, left: Left) -> Left {
-        let own = left >> (8 * j) & self.serves[level][j] as Left;
-        left & !(own * FIRST) | own << (8 * j)
+    fn cut(&self, level: usize, j: usize, later: Left) -> Left {
+        let own = later >> (8 * j) & self.serves[level][j] as Left;
+        later & !(own * FIRST) | own << (8 * j)
     }
 }
 

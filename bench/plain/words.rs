@@ -21,7 +21,7 @@ pub fn line_words(cue: &Cue) -> usize {
 /// Writes lines at the front of the space and gives their count.
 pub fn write(cue: &Cue, lines: &[Line], space: &mut [i32]) -> usize {
     for (line, words) in lines.iter().zip(space.chunks_exact_mut(line_words(cue))) {
-        words[0] = cue.triggers as i32;
+        words[0] = cue.sheet.triggers as i32;
         for (word, &component) in words[1..LINE_WORDS].iter_mut().zip(line) {
             *word = if present(component) {
                 component
