@@ -118,8 +118,8 @@ fn order(sheet: &Sheet) -> Table {
     order
 }
 
-/// Makes M* of the order table, if no circle is above 0: the largest sums of rules along ways through the triggers. The
-/// ways through the first triggers give those through one more; a circle is met at its last trigger.
+/// Makes M* of the order table, if no circle is above 0: the largest sums of rules along ways through the triggers.
+/// The ways through the first triggers give those through one more; a circle is met at its last trigger.
 fn close(table: &mut [Line]) -> bool {
     for k in 0..table.len() {
         if table[k][k] > 0 {

@@ -7,8 +7,8 @@ pub const LIMIT: Entry = 100_000;
 /// As many digits as the limit has; a number with more is beyond it.
 const DIGITS: usize = 6;
 
-/// An entry, its magnitude, 0 where it is absent, and how many bytes it takes. A number beyond the limit is read as some
-/// number beyond.
+/// An entry, its magnitude, 0 where it is absent, and how many bytes it takes. A number beyond the limit is read as
+/// some number beyond.
 pub struct Item {
     pub entry: Entry,
     pub size: Entry,
