@@ -8,7 +8,7 @@ use lib.IntN.{ℤ}
 use Rattle.maxplus.specs.Whole.{_+z_, neg}
 use Rattle.maxplus.specs.Entry.{E, absent, num, _≼_, _⊗_, _⊕_, inv, unit, Present, val}
 use Rattle.maxplus.specs.Finite.{In}
-use Rattle.maxplus.specs.Tables.{sup, Vec, Mat, mv, idm, star, NoGain, normal}
+use Rattle.maxplus.specs.Tables.{Vec, Mat, mv, idm, star, NoGain, normal}
 use Rattle.maxplus.specs.Line.{Line, at, line}
 use Rattle.maxplus.specs.Normal.{Normal}
 use Rattle.maxplus.proofs.WholeLaws.{up-add, up-neg}
@@ -18,15 +18,15 @@ use Rattle.maxplus.proofs.EntryLaws.{⊗-nothing, ⊗-unit, distrib, ⊗-unit-r
 use Rattle.maxplus.proofs.FiniteLaws.{in-each, each-in, in-map, map-in}
 use Rattle.maxplus.proofs.SupLaws.{sup-lub, sup-⊗, sup-⊗r, supL-ub, supL-lub, supL-⊗}
 use Rattle.maxplus.proofs.TableLaws.{mv-mm, idm-same, idm-in, mv-mono, mv-shift, mv-ext, mv-⊕, mv-at}
-use Rattle.maxplus.proofs.LineLaws.{at-line, normal-line, normal-present}
-use Rattle.maxplus.proofs.CombinationLaws.{Under, Met, Span}
+use Rattle.maxplus.proofs.LineLaws.{normal-line, normal-present}
+use Rattle.maxplus.proofs.CombinationLaws.{Under, under-line, Met, Span}
 use Rattle.maxplus.proofs.StarLaws.{star-diag}
 use Rattle.cue.specs.Cue.{Cue, overdue, timing}
 use Rattle.cue.specs.Vectors.{Keeps}
 use Rattle.cue.specs.Method.{Selection, through, pull, floor-panels, ask, kept, selections, need, seed, ray, candidate, candidates}
 use Rattle.cue.proofs.Order.{keeps-star, star-keeps}
 use Rattle.cue.proofs.Deviation.{overdue-there, pull-at, pull-overdue}
-use Rattle.cue.proofs.Cone.{Cone, cone-⊗, cone-ext}
+use Rattle.cue.proofs.Cone.{Cone, cone-line}
 use Rattle.cue.proofs.Walk.{in-floor-panels, walk-within, walk-fixes, walk-panels, kept-above, Serves, cone-selection}
 
 -- what a trigger that serves is asked for, it gives
@@ -52,7 +52,7 @@ mark-E d absent r h = ≼-absent _
 mark-E absent (num a) r h = absurd (h .un)
 mark-E (num d) (num a) r h = omega (arith, up-add a r, up-neg d, up-add a (neg d), up-add (a +z neg d) r)
 
-reach-E : (d a : E) (r s : ℤ) → a ⊗ num s ≼ d → a ⊗ num r ≼ d ⊗ ((a ⊗ inv d) ⊗ num r)
+pub reach-E : (d a : E) (r s : ℤ) → a ⊗ num s ≼ d → a ⊗ num r ≼ d ⊗ ((a ⊗ inv d) ⊗ num r)
 unfolding _⊗_ inv
 reach-E d absent r s h = ≼-absent _
 reach-E absent (num a) r s h = absurd (h .un)
@@ -158,12 +158,8 @@ module _ (n : ℕ) (P : Cue) (D : ℤ) where
         go i hi (no p) = rw (absent-of (floor i) p) (rw (⊗-nothing, ⊗-nothing) (≼-absent _))
 
     pub line-from-cone : NoGain n order → (t : ℕ) → Cone n P D (at n (line-from n P w t))
-    unfolding line-from normal
-    line-from-cone np t = cone-ext n P D (normal n y) (at n (line n (normal n y))) (λ i hi. sym (at-line n (normal n y) i hi))
-        (cone-⊗ n P D (inv (sup n y)) y (ray-cone np t))
-      where
-        y : Vec
-        y = ray-from n P w t
+    unfolding line-from
+    line-from-cone np t = cone-line n P D (ray-from n P w t) (ray-cone np t)
 
   -- ---- below a vector of the cone
   -- x keeps the order, is g past due, and w + g lies below x: then x(t) + the ray of w and t lies below x
@@ -185,9 +181,8 @@ module _ (n : ℕ) (P : Cue) (D : ℤ) where
     unfolding line-from
     line-from-under j hj = (
       normal-present n y j hj (ray-diag n P w j hj),
-      λ i hi. rw (at-line n (normal n y) i hi, at-line n (normal n y) j hj)
-          (unfold normal in (rw (⊗-assoc, ⊗-left-comm (x i)) (⊗-right _
-          (≼-of (⊗-comm (y i) (x j)) ▸ ray-below j i hj hi ▸ ≼-back (⊗-unit-r (x i)) ▸ ⊗-right _ (ray-diag n P w j hj))))),
+      under-line n y x j hj (λ i hi. ≼-of (⊗-comm (y i) (x j)) ▸ ray-below j i hj hi ▸ ≼-back (⊗-unit-r (x i)) ▸
+          ⊗-right _ (ray-diag n P w j hj)),
     )
       where
         y : Vec

@@ -9,13 +9,14 @@ use lib.IntN.{ℤ, pos}
 use Rattle.maxplus.specs.Whole.{_≤z_, _+z_, neg}
 use Rattle.maxplus.specs.Entry.{E, absent, num, _≼_, _⊗_, _⊕_, inv, Present, val}
 use Rattle.maxplus.specs.Finite.{In}
-use Rattle.maxplus.specs.Tables.{supL, Vec, NoGain}
-use Rattle.maxplus.specs.Line.{Line, at}
+use Rattle.maxplus.specs.Tables.{sup, supL, Vec, NoGain, normal}
+use Rattle.maxplus.specs.Line.{Line, at, line}
 use Rattle.maxplus.proofs.WholeLaws.{up-add, up-neg}
 use Rattle.maxplus.proofs.EntryLaws.{≼-refl, _▸_, ≼-anti, ≼-absent, ≼-of, ≼-back, ⊕-l, ⊕-r, ⊕-or, ⊕-lub, ⊗-mono, ⊗-right, ⊗-absent}
 use Rattle.maxplus.proofs.EntryLaws.{⊗-nothing, distrib, val-of, num-⊗, ⊗-left-comm, absent-not}
 use Rattle.maxplus.proofs.SupLaws.{sup-lub}
 use Rattle.maxplus.proofs.TableLaws.{mv-mono, mv-shift, mv-⊕}
+use Rattle.maxplus.proofs.LineLaws.{at-line}
 use Rattle.cue.specs.Cue.{Cue, timing, overdue, shortfall}
 use Rattle.cue.specs.Vectors.{Keeps, landing, deviation, Tightest, Readable}
 use Rattle.cue.specs.Method.{mark, least, ask}
@@ -73,6 +74,11 @@ module _ (n : ℕ) (P : Cue) (D : ℤ) where
         landed = λ i hi. ⊗-right _ (overdue-mono n due y x (λ j hj. ≼-back (e j hj))) ▸ g .landed i hi ▸
             mv-mono n lag x y i (λ j hj. ≼-of (e j hj));
       }
+
+  -- the greatest component shifted to 0
+  pub cone-line : (y : Vec) → Cone y → Cone (at n (line n (normal n y)))
+  unfolding normal
+  cone-line y c = cone-ext (normal n y) (at n (line n (normal n y))) (λ i hi. sym (at-line n (normal n y) i hi)) (cone-⊗ (inv (sup n y)) y c)
 
   pub cone-absent : Cone (λ i. absent)
   unfolding Keeps overdue

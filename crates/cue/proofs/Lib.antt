@@ -46,6 +46,7 @@ pub mod Extreme
 pub mod LocalTest
 pub mod Closure
 pub mod Covering
+pub mod Rays
 pub mod Room
 pub mod Weights
 pub mod Reaches

@@ -8,16 +8,16 @@ use lib.IntN.{ℤ}
 use Rattle.maxplus.specs.Whole.{_+z_, neg}
 use Rattle.maxplus.specs.Entry.{E, absent, num, _≼_, _⊗_, inv, unit, Present, val}
 use Rattle.maxplus.specs.Finite.{In}
-use Rattle.maxplus.specs.Tables.{sup, supL, Vec}
-use Rattle.maxplus.specs.Line.{Line, at}
+use Rattle.maxplus.specs.Tables.{sup, supL, Vec, normal}
+use Rattle.maxplus.specs.Line.{Line, at, line}
 use Rattle.maxplus.specs.Normal.{Normal}
 use Rattle.maxplus.specs.Combination.{Combination}
 use Rattle.maxplus.proofs.WholeLaws.{z-eq, up-add, up-neg}
 use Rattle.maxplus.proofs.EntryLaws.{≼-refl, _▸_, ≼-anti, ≼-absent, ≼-of, ≼-back, ⊗-left, ⊗-right, ⊗-comm, ⊗-assoc, ⊗-nothing}
-use Rattle.maxplus.proofs.EntryLaws.{⊗-unit, ≼-num, val-of, ⊗-nums, ≼-dec, absent-not, present-dec, cancel-r}
+use Rattle.maxplus.proofs.EntryLaws.{⊗-unit, ≼-num, val-of, ⊗-nums, ⊗-left-comm, ≼-dec, absent-not, present-dec, cancel-r}
 use Rattle.maxplus.proofs.FiniteLaws.{all-dec, any-dec, dec-×, dec-→}
 use Rattle.maxplus.proofs.SupLaws.{sup-ub, sup-lub, sup-⊗r, supL-ub, supL-lub, supL-at}
-use Rattle.maxplus.proofs.LineLaws.{line-ext}
+use Rattle.maxplus.proofs.LineLaws.{line-ext, at-line}
 
 -- below d, shifted to meet, and d below x: c below x
 trans-E : (ci cj di dj xi xj : E) → Present dj → ci ⊗ dj ≼ di ⊗ cj → di ⊗ xj ≼ xi ⊗ dj → ci ⊗ xj ≼ xi ⊗ cj
@@ -89,6 +89,12 @@ module _ (n : ℕ) where
       eq = ≼-anti (top-E (at n c (nd .top)) (at n c j) (at n d j) (rw (nd .zero-there) at (k (nd .top) (nd .here)))
           (nc .low (nd .top) (nd .here)))
           (top-E (at n d (nc .top)) (at n d j) (at n c j) (rw (nc .zero-there) at (h (nc .top) (nc .here))) (nd .low (nc .top) (nc .here)))
+
+  -- a vector y that, shifted, lies below x and meets it at j: so does its line
+  pub under-line : (y x : Vec) (j : ℕ) → j < n → ((i : ℕ) → i < n → y i ⊗ x j ≼ x i ⊗ y j) → Under j (line n (normal n y)) x
+  unfolding normal
+  under-line y x j hj h i hi = rw (at-line n (normal n y) i hi, at-line n (normal n y) j hj)
+      (rw (⊗-assoc, ⊗-left-comm (x i)) (⊗-right _ (h i hi)))
 
   -- some line of C, shifted, lies below x and meets it at j
   abbrev pub Met : List (Line n) → Vec → ℕ → Type 0
