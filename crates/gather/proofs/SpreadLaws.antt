@@ -35,7 +35,7 @@ use Rattle.candidates.specs.declared.Marks.{Marks}
 use Rattle.tables.proofs.LineLaws.{blank, sized-none, sized-set}
 use Rattle.candidates.proofs.DrawableLaws.{needs-close, drawn-from}
 use Rattle.buffer.specs.Buffer.{room, row, held}
-use Rattle.bounds.specs.Bounds.{places, Under, BoundRaised, Expanded}
+use Rattle.rays.specs.Rays.{places, Under, BoundRaised, Expanded}
 use Rattle.gather.specs.Gathering.{first, Gathered, drawn, drawn-all, Met, Bound, Bounds, Below, Spread, Filled}
 use Rattle.buffer.proofs.HeldLaws.{held-row, stored-as}
 use Rattle.gather.proofs.GatherLaws.{gathered-as, all-none, all-snoc, all-append, in-drawn-all, drawn-all-in, first-all}

@@ -9,7 +9,7 @@ use Rattle.gather.proofs.SpreadLaws.{spread-end, spread-none, spread-mo
 use Rattle.gather.proofs.spread.Reads as spread
 use Rattle.gather.proofs.spread.Kinds as spread-kinds
 use Rattle.gather.proofs.+spread.Lts-spread as spread-lts
-use Rattle.bounds.proofs.expand.Reads as expand-reads
+use Rattle.rays.proofs.expand.Reads as expand-reads
 use Rattle.gather.proofs.consider_bounds.Reads as consider-bounds-reads
 use Rattle.gather.proofs.part_end.Reads as part-end-reads
 use Rattle.gather.proofs.+spread.{statement}

@@ -1,9 +1,9 @@
--- `bounds::under` meets its contract: the first `j` components are below.
+-- `rays::under` meets its contract: the first `j` components are below.
 use Prim.Native.Nat.{_-_}
 use native.Mathlib.Omega.{arith}
-use Rattle.bounds.proofs.BoundLaws.{UnderTo, under-start, under-more, under-end, not-under}
-use Rattle.bounds.proofs.under.Statement.{statement}
-use Rattle.bounds.proofs.under.Tie as tie
+use Rattle.rays.proofs.RayLaws.{UnderTo, under-start, under-more, under-end, not-under}
+use Rattle.rays.proofs.under.Statement.{statement}
+use Rattle.rays.proofs.under.Tie as tie
 
 abbrev Inv-loop : tie.InvT-loop
 Inv-loop a b j₀ j = UnderTo (a .at) (b .at) j

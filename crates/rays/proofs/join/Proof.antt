@@ -1,8 +1,8 @@
--- `bounds::join` meets its contract.
+-- `rays::join` meets its contract.
 use borrow.Author.Needs.{needs}
-use Rattle.bounds.proofs.BoundLaws.{joined-covered, joined-new}
-use Rattle.bounds.proofs.join.Statement.{statement}
-use Rattle.bounds.proofs.join.Tie as tie
+use Rattle.rays.proofs.RayLaws.{joined-covered, joined-new}
+use Rattle.rays.proofs.join.Statement.{statement}
+use Rattle.rays.proofs.join.Tie as tie
 
 covered-requires : tie.Need-covered-requires
 covered-requires c κs = search needs

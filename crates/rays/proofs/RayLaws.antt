@@ -1,4 +1,4 @@
--- Laws of sets of bounds: which are there, and below which there is one.
+-- Laws of sets of rays: which are there, and below which there is one.
 use mathlib.Core.Path.{_≡_, refl, sym, subst, _∙_}
 use mathlib.Core.Bool.{Bool, true, false}
 use mathlib.Core.Logic.{_⊎_, inl, inr}
@@ -9,12 +9,9 @@ use native.Mathlib.Decide.{ℕ-discrete}
 use lib.Dec.{T}
 use lib.ListN.{length, getD, set, length-set}
 use lib.Seq.{getD-set-same, getD-set-other}
-use Rattle.maxplus.specs.Entry.{_⊕_}
-use Rattle.words.specs.Words.{entry}
-use Rattle.tables.specs.Held.{meantV}
 use Rattle.trigger_sets.specs.Sets.{Has}
 use Rattle.buffer.specs.Buffer.{row}
-use Rattle.bounds.specs.Bounds.{places, Under, Covered, Among, Thinned, Grown, Joined, BoundRaised, RaisedBy, Branched, Expanded}
+use Rattle.rays.specs.Rays.{places, Under, Covered, Among, Thinned, Grown, Joined, Meets, Raised, RaisedBy, RaisedAll, Branched, Expanded}
 use Rattle.cue.specs.Sizes.{size-limit}
 
 -- ---- below
@@ -203,48 +200,59 @@ has-yes e t = subst T (sym t ∙ e) tt
 pub has-no : {b c : Bool} → b ≡ c → b ≡ false → ¬ (T c)
 has-no e f t = subst T (sym e ∙ f) t
 
-pub raised-by : (w wants : List ℕ) (j word : ℕ) → entry word ≡ entry (getD wants j 0) ⊕ entry (getD w j 0) → BoundRaised w wants j (set w j word)
-unfolding meantV
-raised-by w wants j word e = record { word = word; larger = unfold meantV in e; is = refl }
-
--- ---- branching: the first j triggers have been looked at
-module _ {w : List ℕ} {mask : ℕ} {wants : List ℕ} where
-  raised-more : {n : ℕ} (v : List ℕ) → RaisedBy w mask wants n v → RaisedBy w mask wants (n + 1) v
+-- ---- raising: the first j triggers have been looked at
+module _ {n : ℕ} {x : List ℕ} {mask : ℕ} {wants : List ℕ} {stars : List (List ℕ)} where
+  raised-more : {k : ℕ} (v : List ℕ) → RaisedBy n x mask wants stars k v → RaisedBy n x mask wants stars (k + 1) v
   raised-more v r = record { trigger = r .trigger; below = omega (arith, r .below); kept = r .kept; raised = r .raised }
 
   module _ {before : List (List ℕ)} {many : ℕ} where
-    pub branched-none : length before ≡ places → Branched w mask wants 0 before many before many
-    branched-none z = record { grown = grown-none z; new = λ j h b. let e : ⊥ = omega arith in absurd e }
+    pub raised-none : length before ≡ places → RaisedAll n x mask wants stars 0 before many before many
+    raised-none z = record { grown = grown-none z; new = λ j h b. let e : ⊥ = omega arith in absurd e }
 
-    module _ {j : ℕ} {s : List (List ℕ)} {held : ℕ} (t : Branched w mask wants j before many s held) where
-      pub branched-skip : ¬ (Has mask j) → Branched w mask wants (j + 1) before many s held
-      branched-skip h = record {
+    module _ {j : ℕ} {s : List (List ℕ)} {held : ℕ} (t : RaisedAll n x mask wants stars j before many s held) where
+      pub raised-skip : ¬ (Has mask j) → RaisedAll n x mask wants stars (j + 1) before many s held
+      raised-skip h = record {
         grown = grown-as raised-more (omega arith) (t .grown);
         new = λ k l b. elim (ℕ-discrete k j) [ yes e ↦ absurd (h (rw (← e) b)) | no e ↦ t .new k (omega arith) b ];
       }
 
-      pub branched-more : {v : List ℕ} {after : List (List ℕ)} {r : ℕ} → Has mask j → BoundRaised w wants j v → Joined s held v after r →
-          Branched w mask wants (j + 1) before many after r
-      branched-more {v} h q g = record {
+      pub raised-join : {v : List ℕ} {after : List (List ℕ)} {r : ℕ} → Has mask j → Raised n x mask wants stars j v → Joined s held v after r →
+          RaisedAll n x mask wants stars (j + 1) before many after r
+      raised-join {v} h q g = record {
         grown = grown-then (g .grown) (t .grown) raised-more (λ u e. record { trigger = j; below = omega arith; kept = h; raised = rw e q });
         new = λ k l b. elim (ℕ-discrete k j) [
           | yes e ↦ rw e (v, q, g .new)
-          | no e ↦ let (u, x, c) = t .new k (omega arith) b in (u, x, grown-covered (g .grown) c)
+          | no e ↦ let (u, y, c) = t .new k (omega arith) b in (u, y, grown-covered (g .grown) c)
         ];
       }
 
--- ---- expanding: the bounds up to place k have been raised
-module _ {bounds : List (List ℕ)} {from mask : ℕ} {wants : List ℕ} {n : ℕ} where
-  pub expanded-none : (s : List (List ℕ)) → length s ≡ places → Expanded bounds from from mask wants n s 0
+    -- ---- branching: x stays, or is raised
+    module _ {after : List (List ℕ)} {r : ℕ} where
+      pub branched-stays : 0 < n → Meets n x mask wants → Joined before many x after r → Branched n x mask wants stars before many after r
+      branched-stays h m g = record {
+        grown = grown-as (λ v e. inl (e, m)) h (g .grown);
+        new = record { stays = λ _. g .new; rises = λ f. absurd (f m) };
+      }
+
+      pub branched-rises : ¬ (Meets n x mask wants) → RaisedAll n x mask wants stars n before many after r →
+          Branched n x mask wants stars before many after r
+      branched-rises f g = record {
+        grown = grown-as (λ v q. inr q) (omega arith) (g .grown);
+        new = record { stays = λ m. absurd (f m); rises = λ _. g .new };
+      }
+
+-- ---- expanding: the rays up to place k have had their turn
+module _ {rays : List (List ℕ)} {from mask : ℕ} {wants : List ℕ} {stars : List (List ℕ)} {n : ℕ} where
+  pub expanded-none : (s : List (List ℕ)) → length s ≡ places → Expanded rays from from mask wants stars n s 0
   expanded-none s z = record {
     size = z;
     few = omega arith;
     made = λ k h. let e : ⊥ = omega arith in absurd e;
-    new = λ i j h l. let e : ⊥ = omega arith in absurd e;
+    new = λ i h l. let e : ⊥ = omega arith in absurd e;
   }
 
-  pub expanded-more : {k held r : ℕ} {s after : List (List ℕ)} → n ≤ size-limit → from ≤ k → Expanded bounds from k mask wants n s held →
-      Branched (row bounds k) mask wants n s held after r → Expanded bounds from (k + 1) mask wants n after r
+  pub expanded-more : {k held r : ℕ} {s after : List (List ℕ)} → n ≤ size-limit → from ≤ k → Expanded rays from k mask wants stars n s held →
+      Branched n (row rays k) mask wants stars s held after r → Expanded rays from (k + 1) mask wants stars n after r
   expanded-more {k} hn hk t b = record {
     size = b .grown .size;
     few = omega (arith, b .grown .few, t .few);
@@ -252,8 +260,39 @@ module _ {bounds : List (List ℕ)} {from mask : ℕ} {wants : List ℕ} {n : �
       | inl x ↦ (k, omega arith, x)
       | inr a ↦ let (m, hm, x) = t .made (a .place) (a .there) in (m, omega arith, rw (a .is) x)
     ];
-    new = λ i j h l hj q. elim (ℕ-discrete i k) [
-      | yes e ↦ rw e (b .new j hj q)
-      | no e ↦ let (v, x, c) = t .new i j h (omega arith) hj q in (v, x, grown-covered (b .grown) c)
+    new = λ i h l. elim (ℕ-discrete i k) [
+      | yes e ↦ rw e (b .new)
+      | no e ↦ let c = t .new i h (omega arith) in record {
+          stays = λ m. grown-covered (b .grown) (c .stays m);
+          rises = λ f j hj q. let (v, y, o) = c .rises f j hj q in (v, y, grown-covered (b .grown) o);
+        }
     ];
   }
+
+-- ---- the first j triggers have not what is wanted of them
+pub wants-more : {a b : ℕ} → b < a → ¬ (a ≤ b)
+wants-more h l = omega arith
+
+pub record MeetsNot (x : List ℕ) (mask : ℕ) (wants : List ℕ) (j : ℕ) : Type 0 where
+  pub at : (k : ℕ) → k < j → Has mask k → ¬ (getD wants k 0 ≤ getD x k 0)
+
+module _ {x : List ℕ} {mask : ℕ} {wants : List ℕ} where
+  pub meets-not-none : MeetsNot x mask wants 0
+  meets-not-none = record { at = λ k h. let e : ⊥ = omega arith in absurd e }
+
+  pub meets-not-more : {j : ℕ} → MeetsNot x mask wants j → (Has mask j → ¬ (getD wants j 0 ≤ getD x j 0)) → MeetsNot x mask wants (j + 1)
+  meets-not-more {j} t f = record { at = λ k h. elim (ℕ-discrete k j) [ yes e ↦ rw e f | no e ↦ t .at k (omega arith) ] }
+
+  pub meets-not-all : {n j : ℕ} → MeetsNot x mask wants j → n ≤ j → ¬ (Meets n x mask wants)
+  meets-not-all t h (k, hk, q, l) = t .at k (omega arith) q l
+
+-- ---- the first k rays meet the panel
+pub record MeetTo (n : ℕ) (rays : List (List ℕ)) (mask : ℕ) (wants : List ℕ) (k : ℕ) : Type 0 where
+  pub at : (i : ℕ) → i < k → Meets n (row rays i) mask wants
+
+module _ {n : ℕ} {rays : List (List ℕ)} {mask : ℕ} {wants : List ℕ} where
+  pub meet-none : MeetTo n rays mask wants 0
+  meet-none = record { at = λ i h. let e : ⊥ = omega arith in absurd e }
+
+  pub meet-more : {k : ℕ} → MeetTo n rays mask wants k → Meets n (row rays k) mask wants → MeetTo n rays mask wants (k + 1)
+  meet-more {k} t m = record { at = λ i h. elim (ℕ-discrete i k) [ yes e ↦ rw e m | no e ↦ t .at i (omega arith) ] }

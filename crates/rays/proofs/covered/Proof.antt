@@ -1,9 +1,9 @@
--- `bounds::covered` meets its contract: none of the first `k` bounds lies below `w`.
+-- `rays::covered` meets its contract: none of the first `k` bounds lies below `w`.
 use Prim.Native.Nat.{_-_}
 use native.Mathlib.Omega.{arith}
-use Rattle.bounds.proofs.BoundLaws.{NoneTo, none-start, none-more, none-end}
-use Rattle.bounds.proofs.covered.Statement.{statement}
-use Rattle.bounds.proofs.covered.Tie as tie
+use Rattle.rays.proofs.RayLaws.{NoneTo, none-start, none-more, none-end}
+use Rattle.rays.proofs.covered.Statement.{statement}
+use Rattle.rays.proofs.covered.Tie as tie
 
 abbrev Inv-loop : tie.InvT-loop
 Inv-loop set many w k₀ k = NoneTo set (w .at) k

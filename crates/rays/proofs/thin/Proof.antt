@@ -1,11 +1,11 @@
--- `bounds::thin` meets its contract: the first `k` bounds have been looked at, and `left` of them stay.
+-- `rays::thin` meets its contract: the first `k` bounds have been looked at, and `left` of them stay.
 use mathlib.Core.Logic.{⊎-elim}
 use Prim.Native.Nat.{_-_, _≤_}
 use native.Mathlib.Omega.{arith}
 use Rattle.tables.proofs.Loops.{says-yes}
-use Rattle.bounds.proofs.BoundLaws.{Thinning, thinning-start, thinning-out, thinning-keep, thinning-end}
-use Rattle.bounds.proofs.thin.Statement.{statement}
-use Rattle.bounds.proofs.thin.Tie as tie
+use Rattle.rays.proofs.RayLaws.{Thinning, thinning-start, thinning-out, thinning-keep, thinning-end}
+use Rattle.rays.proofs.thin.Statement.{statement}
+use Rattle.rays.proofs.thin.Tie as tie
 
 abbrev Inv-loop : tie.InvT-loop
 Inv-loop set₀ many w left₀ k₀ set left k = (k ≤ many) × Thinning set₀ (w .at) set left k

@@ -1,2 +1,0 @@
--- Laws of bounds.
-pub mod BoundLaws

@@ -1,2 +1,0 @@
--- What the sets of bounds hold.
-pub mod Bounds

@@ -1,0 +1,2 @@
+-- Laws of rays.
+pub mod RayLaws

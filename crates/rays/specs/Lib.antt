@@ -1,0 +1,2 @@
+-- What the sets of rays hold.
+pub mod Rays
