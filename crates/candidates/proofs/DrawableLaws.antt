@@ -4,46 +4,28 @@ use mathlib.Core.List.{List}
 use Prim.Native.Nat.{ℕ, _≤_, _<_}
 use native.Mathlib.Omega.{arith}
 use lib.ListN.{getD}
-use Rattle.maxplus.specs.Entry.{E, num, _⊗_, _⊕_, inv}
+use Rattle.maxplus.specs.Entry.{E, num, _⊗_, inv}
 use Rattle.maxplus.proofs.FiniteLaws.{in-at}
-use Rattle.maxplus.specs.Tables.{Vec, Mat, mv, normal}
-use Rattle.maxplus.specs.Line.{line}
 use Rattle.maxplus.proofs.EntryLaws.{inv-num}
-use Rattle.maxplus.proofs.SupLaws.{sup-ext}
 use Rattle.words.specs.Words.{word, entry, far, Close}
-use Rattle.words.specs.declared.LineWords.{LineWords}
 use Rattle.words.proofs.Laws.{entry-word, close-minus}
 use Rattle.sheet.specs.Sheet.{limit}
 use Rattle.sheet.specs.Sizes.{order-limit, star-size, through-size, mark-down, least-up, need-down, ask-size}
 use Rattle.cue.specs.Cue.{Cue}
 use Rattle.cue.specs.Method.{through, least, floor-panels}
 use Rattle.cue.proofs.Walk.{floor-panels-in, floor-panels-few}
-use Rattle.cue.proofs.Candidates.{line-from, ray-split}
 use Rattle.cue.specs.Results.{Within}
 use Rattle.cue.proofs.Bounds.{star-within, through-within, pull-within, least-within}
-use Rattle.tables.specs.Held.{meant, meantV, HoldsV, Closely, CloselyV}
+use Rattle.tables.specs.Held.{meant, meantV, Closely, CloselyV}
 use Rattle.tables.proofs.SquareLaws.{close-within, closely-within, closely-withinV}
 use Rattle.candidates.specs.declared.Marks.{Marks}
-use Rattle.tables.specs.Lines.{line-of, Carries}
-use Rattle.candidates.specs.Rays.{ray-of}
 use Rattle.candidates.specs.Drawable.{Drawable, MarksNear}
-use Rattle.tables.proofs.LineLaws.{line-same, written-line}
 use Rattle.cue.specs.Sizes.{size-limit}
 
 -- an entry from −c to c has a word
 word-of : {k l c : ℕ} (e : E) → k ≤ c → l ≤ c → c ≤ far → Within k l e → (v : ℕ) × (entry v ≡ e) × Close c v
 word-of {k} {l} {c} e hk hl hc w = let is = entry-word e (λ z f. let b = w .low .above z f in omega arith) in
     (word e, is, close-within c (word e) is hk hl w)
-
-normal-same : {n : ℕ} {x y : Vec} → ((i : ℕ) → i < n → x i ≡ y i) → line n (normal n x) ≡ line n (normal n y)
-unfolding normal
-normal-same {n} h = line-same (λ i k. ap₂ (λ a b. inv a ⊗ b) (sup-ext n h) (h i k))
-
--- the words of a line that is drawn, where y is M* w
-pub drawn-line : {n d : ℕ} (S : Mat) (u : Vec) (w y : List ℕ) (t : ℕ) (r : LineWords) → HoldsV n (mv n S (meantV w)) y →
-    Carries n d (normal n (ray-of S u (meantV y) t)) r → line-of n (r .at) ≡ line n (normal n (ray-of S u (mv n S (meantV w)) t))
-unfolding ray-of
-drawn-line S u w y t r h e = written-line (e .words .is) ∙ normal-same (λ i hi. ap (λ a. S i t ⊕ u t ⊗ a) (h .at i hi))
 
 module _ {n : ℕ} {P : Cue} {M : Marks} {stars lags needs : List (List ℕ)} (p : Drawable n P M stars lags needs) where
   open Cue P using (panels, lag, floor, due, order)
@@ -96,11 +78,3 @@ module _ {n : ℕ} {P : Cue} {M : Marks} {stars lags needs : List (List ℕ)} (p
         close-minus (getD (M .asks) (floored l) 0) b _
         (p .needed l j hl hj ∙ ap₂ _⊗_ (sym (p .asked .at (floored l) hi)) (ap inv (sym eb))) (asks-close .at (floored l) hi) cb;
   }
-
-  -- the line that is drawn from w and t is step 6's
-  pub drawn-from : (w : List ℕ) (t : ℕ) → t < n →
-      line n (normal n (ray-of (meant stars) (meantV (M .pulls)) (mv n (meant stars) (meantV w)) t)) ≡ line-from n P (meantV w) t
-  unfolding ray-of line-from mv
-  drawn-from w t ht = normal-same (λ i hi.
-      ap₂ _⊕_ (p .starred .at i t hi ht) (ap₂ _⊗_ (p .pulled .at t ht)
-      (sup-ext n (λ j hj. ap (λ a. a ⊗ meantV w j) (p .starred .at i j hi hj)))) ∙ sym (unfold mv in ray-split n P (meantV w) t i ht))

@@ -1,17 +1,13 @@
--- Step 6 and the sets of the test for extreme, over the tables that a step is given.
+-- The sets of the test for extreme, over the tables that it is given.
 use mathlib.Core.Path.{_≡_}
 use mathlib.Core.Logic.{_⊎_}
 use mathlib.Core.List.{List}
 use Prim.Native.Nat.{ℕ, _<_}
 use lib.Bits.{bitAnd}
 use lib.ListN.{getD}
-use Rattle.maxplus.specs.Entry.{E, _≼_, _⊗_, _⊕_, Present}
+use Rattle.maxplus.specs.Entry.{E, _≼_, _⊗_, Present}
 use Rattle.maxplus.specs.Tables.{sup, Vec, Mat}
 use Rattle.trigger_sets.specs.Sets.{Has, SetOf}
-
--- M* applied to "0 at t and absent elsewhere", joined with "w minus r(t)": S is M*, u the pulls −r, y is M* w
-unfoldable pub ray-of : Mat → Vec → Vec → ℕ → Vec
-ray-of S u y t i = S i t ⊕ u t ⊗ y i
 
 -- A(k), for an x(k) that is there: the j with S(k,j) + x(j) = x(k)
 abbrev pub Held : ℕ → Mat → Vec → ℕ → ℕ → Type 0

@@ -2,7 +2,7 @@
 -- and behind no new due mark, and gives each panel with a floor what it asks for. Column t of M*, shifted to r(t) at t, is all that but for the
 -- panels; a ray that does not give a panel what it asks is joined with the column of a kept trigger, shifted so that the panel is given just that.
 use mathlib.Core.Path.{_≡_, refl, ap, sym, _∙_, subst}
-use mathlib.Core.Logic.{_⊎_, inl, inr, _↔_}
+use mathlib.Core.Logic.{_↔_}
 use mathlib.Core.List.{List}
 use Prim.Native.Nat.{ℕ, _<_}
 use native.Mathlib.Omega.{arith}
@@ -14,12 +14,12 @@ use Rattle.maxplus.specs.Tables.{Vec, star, NoGain, mv, normal}
 use Rattle.maxplus.specs.Line.{Line, at, line}
 use Rattle.maxplus.specs.Normal.{Normal}
 use Rattle.maxplus.proofs.WholeLaws.{up-add, up-neg}
-use Rattle.maxplus.proofs.EntryLaws.{_▸_, ≼-absent, ≼-of, ≼-back, ⊕-l, ⊕-r, ⊕-or, ⊕-lub, ⊗-left, ⊗-right, ⊗-comm, ⊗-assoc, ⊗-nothing, ⊗-unit, ⊗-unit-r}
+use Rattle.maxplus.proofs.EntryLaws.{_▸_, ≼-absent, ≼-of, ≼-back, ⊕-l, ⊕-r, ⊕-lub, ⊗-left, ⊗-right, ⊗-comm, ⊗-assoc, ⊗-nothing, ⊗-unit, ⊗-unit-r}
 use Rattle.maxplus.proofs.EntryLaws.{distrib, ⊗-left-comm, present-dec, absent-of}
 use Rattle.maxplus.proofs.SupLaws.{sup-lub}
 use Rattle.maxplus.proofs.TableLaws.{mv-at}
 use Rattle.maxplus.proofs.LineLaws.{normal-line, normal-present}
-use Rattle.maxplus.proofs.CombinationLaws.{Under, under-line, Met, Span}
+use Rattle.maxplus.proofs.CombinationLaws.{under-line, Met, Span}
 use Rattle.maxplus.proofs.StarLaws.{star-diag, step-star}
 use Rattle.cue.specs.Cue.{Cue, overdue, timing}
 use Rattle.cue.specs.Vectors.{Keeps}
@@ -30,7 +30,7 @@ use Rattle.cue.proofs.Deviation.{overdue-there, due-pull, pull-overdue,
 use Rattle.cue.proofs.Cone.{Cone, cone-line}
 use Rattle.cue.proofs.Walk.{kept-above, cone-trigger}
 use Rattle.cue.proofs.Candidates.{need-E, reach-E, Served}
-use Rattle.cue.proofs.Extreme.{Extreme, extreme-only, lines-extreme}
+use Rattle.cue.proofs.Extreme.{extreme-only, lines-extreme}
 use Rattle.cue.proofs.Closure.{extreme-closure}
 
 -- x ≤ r, told by x − r
@@ -69,6 +69,14 @@ module _ (n : ℕ) (P : Cue) where
   pub record Ray (t : ℕ) (x : Vec) : Type 0 where
     pub on : OnMark t x
     pub served : Served n P (least n P) x
+
+  pub on-mark-as : (t : ℕ) (x y : Vec) → t < n → ((j : ℕ) → j < n → x j ≡ y j) → OnMark t x → OnMark t y
+  unfolding Keeps
+  on-mark-as t x y ht e o = record {
+    ordered = λ i j hi hj. rw (← e i hi, ← e j hj) (o .ordered i j hi hj);
+    marked = λ j hj. rw (← e j hj) (o .marked j hj);
+    on-mark = o .on-mark ▸ ≼-of (e t ht);
+  }
 
   -- column t of M* at r(t)
   unfoldable pub first-ray : ℕ → Vec

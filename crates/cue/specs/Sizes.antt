@@ -67,18 +67,15 @@ module _ (L B : ℕ) where
   abbrev pub line-down : ℕ
   line-down = 4 * star-size + 8 * L
 
-  -- words on the way: p(i) − Δ; M* w; a candidate drawn from it, before and after the shift; its lateness
+  -- words on the way: p(i) − Δ; a ray, made of M* and what panels want, before and after the shift; its lateness
   abbrev pub ask-size : ℕ
   ask-size = least-up + L
 
   abbrev pub starred-size : ℕ
   starred-size = star-size + need-down
 
-  abbrev pub drawn-size : ℕ
-  drawn-size = starred-size + mark-down
-
   abbrev pub shifted-size : ℕ
-  shifted-size = 2 * drawn-size
+  shifted-size = 2 * starred-size
 
   abbrev pub late-size : ℕ
   late-size = shifted-size + L

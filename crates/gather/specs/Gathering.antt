@@ -1,10 +1,10 @@
--- What is gathered, and from which bounds.
-use mathlib.Core.List.{List, [], _∷_, _++_}
+-- What is gathered, and from which rays.
+use mathlib.Core.List.{List, _++_}
 use Prim.Native.Nat.{ℕ, _≤_, _<_}
 use lib.ListN.{getD, take}
-use Rattle.maxplus.specs.Entry.{_≼_, _⊗_, unit}
-use Rattle.maxplus.specs.Finite.{In, each}
-use Rattle.maxplus.specs.Tables.{Vec, Mat, mv, normal}
+use Rattle.maxplus.specs.Entry.{_≼_}
+use Rattle.maxplus.specs.Finite.{In, mapL}
+use Rattle.maxplus.specs.Tables.{Vec, normal}
 use Rattle.maxplus.specs.Line.{Line, line, ltL}
 use Rattle.maxplus.specs.Sorted.{sift}
 use Rattle.maxplus.proofs.FiniteLaws.{dec-×}
@@ -13,12 +13,13 @@ use Rattle.maxplus.specs.Above.{gt?, above}
 use Rattle.cue.specs.Cue.{Cue}
 use Rattle.cue.specs.Method.{least, lines}
 use Rattle.cue.specs.Closures.{Common}
+use Rattle.cue.specs.Vectors.{Keeps}
+use Rattle.cue.proofs.Rays.{OnMark, first-ray}
 use Rattle.cue.proofs.Closure.{common?}
-use Rattle.sheet.specs.Sizes.{need-down}
+use Rattle.sheet.specs.Sizes.{starred-size}
 use Rattle.tables.specs.Held.{meant, meantV, CloselyV}
 use Rattle.trigger_sets.specs.Sets.{Has}
 use Rattle.tables.specs.Lines.{line-of, Sized}
-use Rattle.candidates.specs.Rays.{ray-of}
 use Rattle.candidates.specs.Drawable.{Drawable}
 use Rattle.candidates.specs.declared.Marks.{Marks}
 use Rattle.buffer.specs.Buffer.{room, row, Stored}
@@ -39,43 +40,51 @@ module _ (n : ℕ) (P : Cue) (last : Line n) where
 pub record Gathered (n : ℕ) (P : Cue) (last : List ℕ) (C : List (Line n)) (len : ℕ) (buf : List (List ℕ)) : Type 0 where
   pub stored : Stored n len buf (first n P (line-of n last) C)
 
--- the lines of a bound w for the first k triggers, and those of all triggers for each of many bounds: S is M*, u the pulls −r
-unfoldable pub drawn : (n : ℕ) → Mat → Vec → ℕ → List ℕ → List (Line n)
-drawn n S u k w = each k (λ t. line n (normal n (ray-of S u (mv n S (meantV w)) t)) ∷ [])
-
-unfoldable pub drawn-all : (n : ℕ) → Mat → Vec → List (List ℕ) → List (Line n)
-drawn-all n S u [] = []
-drawn-all n S u (w ∷ W) = drawn n S u n w ++ drawn-all n S u W
+-- the line of a ray
+unfoldable pub drawn : (n : ℕ) → List ℕ → Line n
+drawn n w = line n (normal n (meantV w))
 
 -- of level l some kept trigger is asked for no more than b has
 abbrev pub Met : Marks → List (List ℕ) → ℕ → Vec → Type 0
 Met M needs l b = (j : ℕ) × (j < M .triggers) × Has (getD (M .kept) l 0) j × (meant needs l j ≼ b j)
 
--- a bound of the first l levels, no more than r in any component
-pub record Bound (M : Marks) (needs : List (List ℕ)) (l : ℕ) (w : List ℕ) : Type 0 where
+-- a ray of t, for the first l levels
+pub record RayTo (M : Marks) (stars needs : List (List ℕ)) (t l : ℕ) (w : List ℕ) : Type 0 where
+  pub trigger : t < M .triggers
   pub sized : Sized (M .triggers) w
-  pub close : CloselyV (M .triggers) need-down w
-  pub marked : (t : ℕ) → t < M .triggers → meantV w t ⊗ meantV (M .pulls) t ≼ unit
-  pub met : (k : ℕ) → k < l → Met M needs k (meantV w)
+  pub close : CloselyV (M .triggers) starred-size w
+  pub on : (P : Cue) (lags : List (List ℕ)) → Drawable (M .triggers) P M stars lags needs → OnMark (M .triggers) P t (meantV w)
+  pub met : (P : Cue) (lags : List (List ℕ)) → Drawable (M .triggers) P M stars lags needs → (k : ℕ) → k < l → Met M needs k (meantV w)
 
-abbrev pub Bounds : Marks → List (List ℕ) → ℕ → List (List ℕ) → ℕ → Type 0
-Bounds M needs l set many = (k : ℕ) → k < many → Bound M needs l (row set k)
+abbrev pub RaysTo : Marks → List (List ℕ) → List (List ℕ) → ℕ → ℕ → List (List ℕ) → ℕ → Type 0
+RaysTo M stars needs t l set many = (k : ℕ) → k < many → RayTo M stars needs t l (row set k)
 
 -- w lies below b
 abbrev pub Below : ℕ → List ℕ → Vec → Type 0
 Below n w b = (j : ℕ) → j < n → meantV w j ≼ b j
 
--- the lines of some bounds of all levels have been considered, and below each vector that meets the levels from `level` on and has a bound
--- of the set from a place on below it, there is one of them
+-- the lines of some rays of all levels have been considered, and below each vector that keeps the order, meets the levels from `level` on and
+-- has a ray of the set from a place on below it, there is one of them
 pub record Spread (M : Marks) (stars lags needs : List (List ℕ)) (last : List ℕ) (set : List (List ℕ)) (from many level : ℕ)
     (len : ℕ) (buf : List (List ℕ)) (r : ℕ) (after : List (List ℕ)) : Type 0 where
   pub used : List (List ℕ)
-  pub bounds : (w : List ℕ) → In w used → Bound M needs (M .levels) w
+  pub rays : (t : ℕ) → RaysTo M stars needs t level set many → (w : List ℕ) → In w used → RayTo M stars needs t (M .levels) w
   pub gathered : (P : Cue) (C : List (Line (M .triggers))) → Drawable (M .triggers) P M stars lags needs →
-      Gathered (M .triggers) P last C len buf →
-      Gathered (M .triggers) P last (C ++ drawn-all (M .triggers) (meant stars) (meantV (M .pulls)) used) r after
-  pub covers : (b : Vec) → ((l : ℕ) → level ≤ l → l < M .levels → Met M needs l b) →
+      Gathered (M .triggers) P last C len buf → Gathered (M .triggers) P last (C ++ mapL (drawn (M .triggers)) used) r after
+  pub covers : (P : Cue) → Drawable (M .triggers) P M stars lags needs → (b : Vec) → Keeps (M .triggers) (P .order) b →
+      ((l : ℕ) → level ≤ l → l < M .levels → Met M needs l b) →
       (k : ℕ) → from ≤ k → k < many → Below (M .triggers) (row set k) b → (w : List ℕ) × In w used × Below (M .triggers) w b
+
+-- and so for the rays of the first t triggers, from their columns on
+pub record Turned (M : Marks) (stars lags needs : List (List ℕ)) (last : List ℕ) (t len : ℕ) (buf : List (List ℕ)) : Type 0 where
+  pub so-far : t ≤ M .triggers
+  pub used : List (List ℕ)
+  pub rays : (w : List ℕ) → In w used → (s : ℕ) × RayTo M stars needs s (M .levels) w
+  pub gathered : (P : Cue) → Drawable (M .triggers) P M stars lags needs →
+      Gathered (M .triggers) P last (mapL (drawn (M .triggers)) used) len buf
+  pub covers : (P : Cue) → Drawable (M .triggers) P M stars lags needs → (s : ℕ) → s < t → (b : Vec) → Keeps (M .triggers) (P .order) b →
+      ((l : ℕ) → l < M .levels → Met M needs l b) → ((j : ℕ) → j < M .triggers → first-ray (M .triggers) P s j ≼ b j) →
+      (w : List ℕ) × In w used × RayTo M stars needs s (M .levels) w × Below (M .triggers) w b
 
 -- the lines above last
 abbrev pub rest : (n : ℕ) → Cue → Line n → List (Line n)

@@ -229,17 +229,10 @@ module _ {n : ℕ} {x : List ℕ} {mask : ℕ} {wants : List ℕ} {stars : List 
     -- ---- branching: x stays, or is raised
     module _ {after : List (List ℕ)} {r : ℕ} where
       pub branched-stays : 0 < n → Meets n x mask wants → Joined before many x after r → Branched n x mask wants stars before many after r
-      branched-stays h m g = record {
-        grown = grown-as (λ v e. inl (e, m)) h (g .grown);
-        new = record { stays = λ _. g .new; rises = λ f. absurd (f m) };
-      }
+      branched-stays h m g = record { grown = grown-as (λ v e. inl (e, m)) h (g .grown); new = inl (g .new) }
 
-      pub branched-rises : ¬ (Meets n x mask wants) → RaisedAll n x mask wants stars n before many after r →
-          Branched n x mask wants stars before many after r
-      branched-rises f g = record {
-        grown = grown-as (λ v q. inr q) (omega arith) (g .grown);
-        new = record { stays = λ m. absurd (f m); rises = λ _. g .new };
-      }
+      pub branched-rises : RaisedAll n x mask wants stars n before many after r → Branched n x mask wants stars before many after r
+      branched-rises g = record { grown = grown-as (λ v q. inr q) (omega arith) (g .grown); new = inr (g .new) }
 
 -- ---- expanding: the rays up to place k have had their turn
 module _ {rays : List (List ℕ)} {from mask : ℕ} {wants : List ℕ} {stars : List (List ℕ)} {n : ℕ} where
@@ -262,10 +255,10 @@ module _ {rays : List (List ℕ)} {from mask : ℕ} {wants : List ℕ} {stars : 
     ];
     new = λ i h l. elim (ℕ-discrete i k) [
       | yes e ↦ rw e (b .new)
-      | no e ↦ let c = t .new i h (omega arith) in record {
-          stays = λ m. grown-covered (b .grown) (c .stays m);
-          rises = λ f j hj q. let (v, y, o) = c .rises f j hj q in (v, y, grown-covered (b .grown) o);
-        }
+      | no e ↦ elim (t .new i h (omega arith)) [
+        | inl c ↦ inl (grown-covered (b .grown) c)
+        | inr f ↦ inr (λ j hj q. let (v, y, o) = f j hj q in (v, y, grown-covered (b .grown) o))
+      ]
     ];
   }
 

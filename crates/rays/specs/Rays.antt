@@ -81,10 +81,9 @@ module _ (n : ℕ) (x : List ℕ) (mask : ℕ) (wants : List ℕ) (stars : List 
   abbrev pub Next : List ℕ → Type 0
   Next v = ((v ≡ x) × Meets n x mask wants) ⊎ RaisedBy n v
 
-  -- and below that there is a ray of the set
-  pub record NextCovered (set : List (List ℕ)) (many : ℕ) : Type 0 where
-    pub stays : Meets n x mask wants → Covered set many x
-    pub rises : ¬ (Meets n x mask wants) → (j : ℕ) → j < n → Has mask j → (v : List ℕ) × Raised j v × Covered set many v
+  -- below x there is a ray of the set, or below x raised by each trigger of the mask
+  abbrev pub NextCovered : List (List ℕ) → ℕ → Type 0
+  NextCovered set many = Covered set many x ⊎ ((j : ℕ) → j < n → Has mask j → (v : List ℕ) × Raised j v × Covered set many v)
 
   pub record Branched (before : List (List ℕ)) (many : ℕ) (after : List (List ℕ)) (r : ℕ) : Type 0 where
     pub grown : Grown Next n before many after r

@@ -34,15 +34,12 @@ cap-down = 2 * limit
 abbrev pub cap-up : ℕ
 cap-up = line-down + 2 * limit
 
--- words on the way: p(i) − Δ; M* w; a candidate drawn from it, before and after the shift; its lateness
+-- words on the way: p(i) − Δ; a ray, made of M* and what panels want, before and after the shift; its lateness
 abbrev pub ask-size : ℕ
 ask-size = sizes.ask-size limit order-limit
 
 abbrev pub starred-size : ℕ
 starred-size = sizes.starred-size limit order-limit
-
-abbrev pub drawn-size : ℕ
-drawn-size = sizes.drawn-size limit order-limit
 
 abbrev pub shifted-size : ℕ
 shifted-size = sizes.shifted-size limit order-limit

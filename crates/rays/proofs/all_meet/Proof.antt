@@ -1,8 +1,6 @@
 -- `rays::all_meet` meets its contract: the first `k` rays meet the panel.
-use Prim.Native.Nat.{_≤_, _<_, _-_}
+use Prim.Native.Nat.{_≤_, _-_}
 use native.Mathlib.Omega.{arith}
-use Rattle.buffer.specs.Buffer.{row}
-use Rattle.rays.specs.Rays.{Meets}
 use Rattle.rays.proofs.RayLaws.{MeetTo, meet-none, meet-more}
 use Rattle.tables.proofs.Loops.{says-yes, says-no}
 use Rattle.rays.proofs.all_meet.Statement.{statement}

@@ -1,6 +1,6 @@
 -- `rays::branch` meets its contract: the ray stays, or is raised.
 use native.Mathlib.Omega.{arith}
-use Rattle.tables.proofs.Loops.{says-yes, says-no}
+use Rattle.tables.proofs.Loops.{says-yes}
 use Rattle.rays.proofs.RayLaws.{branched-stays, branched-rises}
 use Rattle.rays.proofs.branch.Statement.{statement}
 use Rattle.rays.proofs.branch.Tie as tie
@@ -12,10 +12,7 @@ raise-requires : tie.Need-raise-requires
 raise-requires c κs = let s : tie.Start = search in (s .pre .1, s .pre .2, s .pre .3, s .pre .4, s .pre .5, s .pre .6)
 
 returns : tie.Need-returns
-returns c =
-    let t : tie.Then1 = search in
-    let m : tie.After-meets = search in
-    branched-rises (says-no (m .meets .result) (t .if1 .taken) (m .meets .ensures)) (c .raise .ensures)
+returns c = branched-rises (c .raise .ensures)
 
 join-requires : tie.Need-join-requires
 join-requires c κs = let s : tie.Start = search in (omega (arith, s .pre .0, s .pre .2), s .pre .3)

@@ -1,10 +1,10 @@
--- `gather::consider_bounds` meets its contract: the candidates of the first `k` bounds have been considered.
+-- `gather::consider_rays` meets its contract: the lines of the first `k` rays have been considered.
 use mathlib.Core.Path.{refl}
 use Prim.Native.Nat.{_-_}
 use native.Mathlib.Omega.{arith}
 use Rattle.gather.proofs.SpreadLaws.{Drawn-to, drawn-to-none, drawn-to-more, drawn-to-end}
-use Rattle.gather.proofs.consider_bounds.Statement.{statement}
-use Rattle.gather.proofs.consider_bounds.Tie as tie
+use Rattle.gather.proofs.consider_rays.Statement.{statement}
+use Rattle.gather.proofs.consider_rays.Tie as tie
 
 abbrev Inv-loop : tie.InvT-loop
 Inv-loop buf₀ len last set many marks star lag held₀ k₀ buf held k = Drawn-to marks star lag (last .at) set many held₀ buf₀ k held buf
@@ -21,13 +21,20 @@ mul-at c = omega arith
 element-copy-out-at : tie.Need-element-copy-out-at Inv-loop μ-loop
 element-copy-out-at c = omega arith
 
-consider-bound-requires : tie.Need-consider-bound-requires Inv-loop μ-loop
-consider-bound-requires c κs =
+normal-requires : tie.Need-normal-requires Inv-loop μ-loop
+normal-requires c κs =
     let in-loop : tie.In-loop Inv-loop μ-loop = search in
+    let s : tie.Start Inv-loop μ-loop = search in
+    (s .pre .0 .3 .few, s .pre .4 _ (in-loop .loop-test .taken))
+
+consider-requires : tie.Need-consider-requires Inv-loop μ-loop
+consider-requires c κs =
+    let e : tie.After-normal Inv-loop μ-loop = search in
     let l : tie.At-loop Inv-loop μ-loop = search in
     let s : tie.Start Inv-loop μ-loop = search in
     let (P, needs, C, p, g) = s .pre .0 in
-    ((P, needs, _, p, l .loop .inv .gathered P needs C p g), s .pre .1, refl, s .pre .4 (l .loop .k) (in-loop .loop-test .taken))
+    let d = e .normal .ensures in
+    ((P, needs, _, p, l .loop .inv .gathered P needs C p g), s .pre .1, d .count, d .words .sized, d .words .close)
 
 add-k : tie.Need-add-k Inv-loop μ-loop
 add-k c = omega arith
@@ -37,16 +44,17 @@ loop-less c = omega arith
 
 loop-again : tie.Need-loop-again Inv-loop μ-loop
 loop-again c =
+    let e : tie.After-normal Inv-loop μ-loop = search in
     let in-loop : tie.In-loop Inv-loop μ-loop = search in
     let l : tie.At-loop Inv-loop μ-loop = search in
-    let start : tie.Start Inv-loop μ-loop = search in
-    drawn-to-more (l .loop .inv) (in-loop .loop-test .taken) (omega (arith, start .pre .2, start .pre .3)) (c .consider-bound .ensures)
+    let s : tie.Start Inv-loop μ-loop = search in
+    drawn-to-more (l .loop .inv) (in-loop .loop-test .taken) (omega (arith, s .pre .2, s .pre .3)) (e .normal .ensures) (c .consider .ensures)
 
 returns : tie.Need-returns Inv-loop μ-loop
 returns c P needs C p g = drawn-to-end (c .before .loop .inv) (c .loop-test .left) .gathered P needs C p g
 
-pub consider-bounds-spec : {M : Type 1} → statement M
-consider-bounds-spec =
+pub consider-rays-spec : {M : Type 1} → statement M
+consider-rays-spec =
     tie.close
     (tie.spec
     Inv-loop
@@ -54,7 +62,8 @@ consider-bounds-spec =
     loop-holds
     mul-at
     element-copy-out-at
-    consider-bound-requires
+    normal-requires
+    consider-requires
     add-k
     loop-less
     loop-again
