@@ -8,16 +8,16 @@ use lib.IntN.{ℤ}
 use Rattle.maxplus.specs.Whole.{_+z_, neg}
 use Rattle.maxplus.specs.Entry.{E, absent, num, _≼_, _⊗_, _⊕_, inv, unit, Present, val}
 use Rattle.maxplus.specs.Finite.{In}
-use Rattle.maxplus.specs.Tables.{Vec, Mat, mv, idm, star, NoGain, normal}
+use Rattle.maxplus.specs.Tables.{Vec, mv, idm, star, NoGain, normal}
 use Rattle.maxplus.specs.Line.{Line, at, line}
 use Rattle.maxplus.specs.Normal.{Normal}
 use Rattle.maxplus.proofs.WholeLaws.{up-add, up-neg}
-use Rattle.maxplus.proofs.EntryLaws.{≼-refl, _▸_, ≼-anti, ≼-absent, ≼-of, ≼-back, ⊕-l}
+use Rattle.maxplus.proofs.EntryLaws.{≼-refl, _▸_, ≼-absent, ≼-of, ≼-back, ⊕-l}
 use Rattle.maxplus.proofs.EntryLaws.{⊕-r, ⊕-lub, ⊗-mono, ⊗-left, ⊗-right, ⊗-comm, ⊗-assoc}
 use Rattle.maxplus.proofs.EntryLaws.{⊗-nothing, ⊗-unit, distrib, ⊗-unit-r, ⊗-left-comm, present-dec, absent-of}
 use Rattle.maxplus.proofs.FiniteLaws.{in-each, each-in, in-map, map-in}
 use Rattle.maxplus.proofs.SupLaws.{sup-lub, sup-⊗, sup-⊗r, supL-ub, supL-lub, supL-⊗}
-use Rattle.maxplus.proofs.TableLaws.{mv-mm, idm-same, idm-in, mv-mono, mv-shift, mv-ext, mv-⊕, mv-at}
+use Rattle.maxplus.proofs.TableLaws.{mv-mm, idm-same, idm-in, mv-at}
 use Rattle.maxplus.proofs.LineLaws.{normal-line, normal-present}
 use Rattle.maxplus.proofs.CombinationLaws.{Under, under-line, Met, Span}
 use Rattle.maxplus.proofs.StarLaws.{star-diag}
@@ -84,24 +84,6 @@ module _ (n : ℕ) (P : Cue) where
       ≼-back (⊗-unit unit) ▸
       (⊗-mono (star-diag n order t ht) (≼-back (idm-same t) ▸ ⊕-l _ _)) ▸
       mv-at n (star n order) (λ j. idm t j ⊕ w j ⊗ num (pull n P t)) t t ht
-
-  -- M* is applied to w once: the ray of t is column t of M*, joined with M* w − r(t)
-  pub ray-split : (w : Vec) (t i : ℕ) → t < n → ray-from w t i ≡ star n order i t ⊕ num (pull n P t) ⊗ mv n (star n order) w i
-  unfolding ray-from seed-from
-  ray-split w t i ht = ≼-anti
-      (mv-⊕ n M (idm t) (λ j. w j ⊗ r) i ▸
-      ⊕-lub (column ▸ ⊕-l _ _) (≼-of (mv-ext n M _ (λ j. r ⊗ w j) i (λ j hj. ⊗-comm _ _) ∙ mv-shift n M r w i) ▸ ⊕-r _ _))
-      (⊕-lub (≼-back (⊗-unit-r (M i t)) ▸ ⊗-right _ (≼-back (idm-same t) ▸ ⊕-l _ _) ▸ mv-at n M (λ j. idm t j ⊕ w j ⊗ r) i t ht)
-      (≼-back (mv-shift n M r w i) ▸ mv-mono n M _ _ i (λ j hj. ≼-of (⊗-comm _ _) ▸ ⊕-r _ _)))
-    where
-      M : Mat
-      M = star n order
-
-      r : E
-      r = num (pull n P t)
-
-      column : mv n M (idm t) i ≼ M i t
-      column = unfold mv in sup-lub n _ (λ j hj. ≼-of (⊗-comm _ _) ▸ idm-in t j _ _ (λ e. rw e (≼-refl _)))
 
   pub line-from-normal : (w : Vec) (t : ℕ) → t < n → Normal n (line-from w t)
   unfolding line-from

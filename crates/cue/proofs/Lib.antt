@@ -21,7 +21,8 @@
 -- so it is that candidate. Below each candidate that is not extreme at j stand others that meet it there; the least of them in the order of
 -- step 7 is extreme. So the list is the extremes of K, sorted, and makes K.
 --
--- A test that needs no other line (LocalTest, Closure), and lines that need no walk (Covering): see extreme-closure and lines-covered.
+-- A test that needs no other line (LocalTest, Closure): see extreme-closure. Lines that need no walk, one panel added after the other (Rays): see
+-- covers-generate and lines-generated.
 --
 -- Weights (Room, Weights). For a timing x of K and a line l the largest weight that fits, the least x(j) − l(j), is a whole number, as x has no
 -- absent component and l not only such; with these weights, one for each line, the lines make x. Conversely whole-number weights for all
@@ -45,7 +46,6 @@ pub mod Candidates
 pub mod Extreme
 pub mod LocalTest
 pub mod Closure
-pub mod Covering
 pub mod Rays
 pub mod Room
 pub mod Weights

@@ -137,8 +137,13 @@ module _ {M : Marks} {stars needs : List (List ℕ)} {t l : ℕ} (hl : l < M .le
         (joined-on-mark (M .triggers) P (p .order) t (meantV x) (meantV (getD needs l []) s) s hs
         (unfold meant meantV in want-marked p l s hl hs q) (b .on P lags p));
     met = λ P lags p k h. elim (ℕ-discrete k l) [
-      | yes e ↦ rw e (s, hs, q, (unfold meant meantV joined-of in (≼-back (⊗-unit-r _) ▸ ⊗-right _ (unfold meant in diagonal p s hs) ▸ ⊕-r _ _ ▸
-          ≼-back (unfold meant meantV joined-of in w .is .at s hs))))
+      | yes e ↦ rw e (
+        s,
+        hs,
+        q,
+        (unfold meant meantV joined-of in (≼-back (⊗-unit-r _) ▸ ⊗-right _ (unfold meant in diagonal p s hs) ▸ ⊕-r _ _ ▸
+            ≼-back (unfold meant meantV joined-of in w .is .at s hs))),
+      )
       | no d ↦ let (i, hi, m, y) = b .met P lags p k (omega arith) in
           (i, hi, m, y ▸ (unfold joined-of in (⊕-l _ _ ▸ ≼-back (unfold joined-of in w .is .at i hi))))
     ];

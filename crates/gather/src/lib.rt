@@ -148,16 +148,7 @@ fn spread(
     }
     let to = part_end(from, many);
     let mut next = [[0u64; 6]; 64];
-    let found = expand(
-        &mut next,
-        set,
-        from,
-        to,
-        kept[level],
-        needs[level],
-        star,
-        n,
-    );
+    let found = expand(&mut next, set, from, to, kept[level], needs[level], star, n);
     let held = spread(
         buf,
         len,
