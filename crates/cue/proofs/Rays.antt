@@ -14,7 +14,8 @@ use Rattle.maxplus.specs.Tables.{Vec, star, NoGain, mv, normal}
 use Rattle.maxplus.specs.Line.{Line, at, line}
 use Rattle.maxplus.specs.Normal.{Normal}
 use Rattle.maxplus.proofs.WholeLaws.{up-add, up-neg}
-use Rattle.maxplus.proofs.EntryLaws.{_▸_, ≼-absent, ≼-of, ≼-back, ⊕-l, ⊕-r, ⊕-lub, ⊗-left, ⊗-right, ⊗-comm, ⊗-assoc, ⊗-nothing, ⊗-unit, ⊗-unit-r}
+use Rattle.maxplus.proofs.EntryLaws.{_▸_, ≼-absent, ≼-of, ≼-back, ⊕-l, ⊕-r, ⊕-lub, ⊗-left, ⊗-right, ⊗-comm, ⊗-assoc, ⊗-nothing}
+use Rattle.maxplus.proofs.EntryLaws.{⊗-unit, ⊗-unit-r}
 use Rattle.maxplus.proofs.EntryLaws.{distrib, ⊗-left-comm, present-dec, absent-of}
 use Rattle.maxplus.proofs.SupLaws.{sup-lub}
 use Rattle.maxplus.proofs.TableLaws.{mv-at}
@@ -88,7 +89,8 @@ module _ (n : ℕ) (P : Cue) where
 
   module _ (np : NoGain n order) where
     -- r keeps the order: so what is no later than r at s comes to no later than r by column s
-    column-marked : (a : E) (s : ℕ) → s < n → a ⊗ num (pull n P s) ≼ unit → (j : ℕ) → j < n → (a ⊗ star n order j s) ⊗ num (pull n P j) ≼ unit
+    column-marked : (a : E) (s : ℕ) → s < n → a ⊗ num (pull n P s) ≼ unit → (j : ℕ) → j < n →
+        (a ⊗ star n order j s) ⊗ num (pull n P j) ≼ unit
     column-marked a s hs h j hj = mark-under _ (pull n P j)
         (⊗-left _ (under-mark a (pull n P s) h) ▸ ≼-of (⊗-comm _ _) ▸ keeps-star n order (timing (mark n P)) (mark-keeps n P np) j s hj hs)
 
@@ -108,7 +110,8 @@ module _ (n : ℕ) (P : Cue) where
     unfolding joined Keeps
     joined-on-mark t x a s hs h o = record {
       ordered = λ i j hi hj. rw distrib (⊕-lub (o .ordered i j hi hj ▸ ⊕-l _ _) (column-ordered a s hs i j hi hj ▸ ⊕-r _ _));
-      marked = λ j hj. ≼-of (⊗-comm _ _) ▸ (rw distrib (⊕-lub (≼-of (⊗-comm _ _) ▸ o .marked j hj) (≼-of (⊗-comm _ _) ▸ column-marked a s hs h j hj)));
+      marked = λ j hj. ≼-of (⊗-comm _ _) ▸
+          (rw distrib (⊕-lub (≼-of (⊗-comm _ _) ▸ o .marked j hj) (≼-of (⊗-comm _ _) ▸ column-marked a s hs h j hj)));
       on-mark = o .on-mark ▸ ⊕-l _ _;
     }
 

@@ -197,7 +197,8 @@ module _ {M : Marks} {stars lags : List (List ℕ)} {last : List ℕ} {s : List 
     drawn-to-more h z e f = record {
       so-far = omega arith;
       gathered = λ P needs C p g. gathered-as (f P needs _ p (d .gathered P needs C p g))
-          (ap (λ c. (C ++ mapL (drawn (M .triggers)) (take k s)) ++ c ∷ []) (drawn-line (row s k) e) ∙ all-snoc (drawn (M .triggers)) C (take k s) (row s k) ∙
+          (ap (λ c. (C ++ mapL (drawn (M .triggers)) (take k s)) ++ c ∷ []) (drawn-line (row s k) e) ∙
+          all-snoc (drawn (M .triggers)) C (take k s) (row s k) ∙
           ap (λ W. C ++ mapL (drawn (M .triggers)) W) (sym (rw add-one (take-suc s k [] (omega arith)))));
     }
 

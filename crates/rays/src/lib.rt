@@ -165,8 +165,8 @@ pub fn expand(
     star: &[[u64; 6]; 6],
     n: usize,
 ) -> usize
-    requires { ⌜ (0 < n) × (n ≤ size-limit) × (from ≤ to) × (to ≤ from + 10) × (to ≤ places) × (length (now next) ≡ places) × Rows n to (now set)
-        × Closely n n star-size (now star) × CloselyV n need-down wants ⌝ }
+    requires { ⌜ (0 < n) × (n ≤ size-limit) × (from ≤ to) × (to ≤ from + 10) × (to ≤ places) × (length (now next) ≡ places)
+        × Rows n to (now set) × Closely n n star-size (now star) × CloselyV n need-down wants ⌝ }
     ensures { λ r. ⌜ Expanded (now (set .entry)) from to mask wants (now (star .entry)) n (now (next .exit)) r ⌝ }
 {
     let mut held: usize = 0;
