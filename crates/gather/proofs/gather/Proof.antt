@@ -1,6 +1,6 @@
 -- `gather::gather` meets its contract: the lines of the first `t` triggers' rays have been considered.
 use mathlib.Core.Path.{_≡_, refl}
-use Prim.Native.Nat.{_-_}
+use Prim.Native.Nat.{_-_, _<_}
 use native.Mathlib.Omega.{arith}
 use lib.ListN.{length, length-set}
 use Rattle.rays.specs.Rays.{places}
@@ -29,9 +29,11 @@ array-read-first-ray c = let s : tie.Start Inv-loop μ-loop = search in omega (a
 first-ray-requires : tie.Need-first-ray-requires Inv-loop μ-loop
 first-ray-requires c κs =
     let t : tie.In-loop Inv-loop μ-loop = search in
+    let l : tie.At-loop Inv-loop μ-loop = search in
     let s : tie.Start Inv-loop μ-loop = search in
     let p = s .pre .0 .1 in
-    (p .few, t .loop-test .taken, stars-close p, pulls-close p .at _ (t .loop-test .taken))
+    let h : l .loop .t < s .args .marks .triggers = omega (arith, p .some, t .loop-test .taken) in
+    (p .few, h, stars-close p, pulls-close p .at _ h)
 
 array-set-from-set : tie.Need-array-set-from-set Inv-loop μ-loop
 array-set-from-set c = omega arith
@@ -49,7 +51,7 @@ spread-requires c κs =
       omega arith,
       simp length-set z,
       omega arith,
-      first-rows (s .args .marks) (s .args .star .now) (s .args .needs .now) (t .loop-test .taken) (f .first-ray .ensures) (l .loop .set) z,
+      first-rows (s .args .marks) (s .args .star .now) (s .args .needs .now) (omega (arith, p .some, t .loop-test .taken)) (f .first-ray .ensures) (l .loop .set) z,
     )
 
 add-t : tie.Need-add-t Inv-loop μ-loop
@@ -63,8 +65,9 @@ loop-again c =
     let f : tie.After-first-ray Inv-loop μ-loop = search in
     let t : tie.In-loop Inv-loop μ-loop = search in
     let l : tie.At-loop Inv-loop μ-loop = search in
+    let s : tie.Start Inv-loop μ-loop = search in
     let (z, d) = l .loop .inv in
-    (simp length-set z, turned-more _ _ _ (t .loop-test .taken) (f .first-ray .ensures) (l .loop .set) z d (c .spread .ensures))
+    (simp length-set z, turned-more _ _ _ (omega (arith, s .pre .0 .1 .some, t .loop-test .taken)) (f .first-ray .ensures) (l .loop .set) z d (c .spread .ensures))
 
 returns : tie.Need-returns Inv-loop μ-loop
 returns c P p = turned-filled (c .before .loop .inv .1) (c .loop-test .left) P p
