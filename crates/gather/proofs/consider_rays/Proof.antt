@@ -1,5 +1,4 @@
 -- `gather::consider_rays` meets its contract: the lines of the first `k` rays have been considered.
-use mathlib.Core.Path.{refl}
 use Prim.Native.Nat.{_-_}
 use native.Mathlib.Omega.{arith}
 use Rattle.gather.proofs.SpreadLaws.{Drawn-to, drawn-to-none, drawn-to-more, drawn-to-end}

@@ -51,7 +51,8 @@ spread-requires c κs =
       omega arith,
       simp length-set z,
       omega arith,
-      first-rows (s .args .marks) (s .args .star .now) (s .args .needs .now) (omega (arith, p .some, t .loop-test .taken)) (f .first-ray .ensures) (l .loop .set) z,
+      first-rows (s .args .marks) (s .args .star .now) (s .args .needs .now) (omega (arith, p .some, t .loop-test .taken))
+          (f .first-ray .ensures) (l .loop .set) z,
     )
 
 add-t : tie.Need-add-t Inv-loop μ-loop
@@ -67,7 +68,8 @@ loop-again c =
     let l : tie.At-loop Inv-loop μ-loop = search in
     let s : tie.Start Inv-loop μ-loop = search in
     let (z, d) = l .loop .inv in
-    (simp length-set z, turned-more _ _ _ (omega (arith, s .pre .0 .1 .some, t .loop-test .taken)) (f .first-ray .ensures) (l .loop .set) z d (c .spread .ensures))
+    let h : l .loop .t < s .args .marks .triggers = omega (arith, s .pre .0 .1 .some, t .loop-test .taken) in
+    (simp length-set z, turned-more _ _ _ h (f .first-ray .ensures) (l .loop .set) z d (c .spread .ensures))
 
 returns : tie.Need-returns Inv-loop μ-loop
 returns c P p = turned-filled (c .before .loop .inv .1) (c .loop-test .left) P p
