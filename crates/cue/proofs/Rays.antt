@@ -10,16 +10,16 @@ use lib.IntN.{ℤ, pos}
 use Rattle.maxplus.specs.Whole.{_+z_, neg}
 use Rattle.maxplus.specs.Entry.{E, absent, num, _≼_, _⊗_, _⊕_, inv, unit, Present, val}
 use Rattle.maxplus.specs.Finite.{In}
-use Rattle.maxplus.specs.Tables.{Vec, star, NoGain, mv, normal}
+use Rattle.maxplus.specs.Tables.{sup, Vec, star, NoGain, mv, normal}
 use Rattle.maxplus.specs.Line.{Line, at, line}
 use Rattle.maxplus.specs.Normal.{Normal}
 use Rattle.maxplus.proofs.WholeLaws.{up-add, up-neg}
-use Rattle.maxplus.proofs.EntryLaws.{_▸_, ≼-absent, ≼-of, ≼-back, ⊕-l, ⊕-r, ⊕-lub, ⊗-left, ⊗-right, ⊗-comm, ⊗-assoc, ⊗-nothing}
+use Rattle.maxplus.proofs.EntryLaws.{_▸_, ≼-anti, ≼-absent, ≼-of, ≼-back, ⊕-l, ⊕-r, ⊕-lub, ⊗-left, ⊗-right, ⊗-comm, ⊗-assoc, ⊗-nothing}
 use Rattle.maxplus.proofs.EntryLaws.{⊗-unit, ⊗-unit-r}
-use Rattle.maxplus.proofs.EntryLaws.{distrib, ⊗-left-comm, present-dec, absent-of}
-use Rattle.maxplus.proofs.SupLaws.{sup-lub}
+use Rattle.maxplus.proofs.EntryLaws.{distrib, val-of, ⊗-left-comm, present-dec, absent-of, inv-self}
+use Rattle.maxplus.proofs.SupLaws.{sup-ub, sup-lub}
 use Rattle.maxplus.proofs.TableLaws.{mv-at}
-use Rattle.maxplus.proofs.LineLaws.{normal-line, normal-present}
+use Rattle.maxplus.proofs.LineLaws.{at-line, normal-line, normal-present}
 use Rattle.maxplus.proofs.CombinationLaws.{under-line, Met, Span}
 use Rattle.maxplus.proofs.StarLaws.{star-diag, step-star}
 use Rattle.cue.specs.Cue.{Cue, overdue, timing}
@@ -28,10 +28,10 @@ use Rattle.cue.specs.Method.{through, pull, mark, least, ask, lines}
 use Rattle.cue.specs.Closures.{Common}
 use Rattle.cue.proofs.Order.{keeps-star}
 use Rattle.cue.proofs.Deviation.{overdue-there, due-pull, pull-overdue, mv-through, mark-keeps}
-use Rattle.cue.proofs.Cone.{Cone, cone-line}
+use Rattle.cue.proofs.Cone.{Cone, cone-⊗, cone-line}
 use Rattle.cue.proofs.Walk.{kept-above, cone-trigger}
 use Rattle.cue.proofs.Candidates.{need-E, reach-E, Served}
-use Rattle.cue.proofs.Extreme.{extreme-only, lines-extreme}
+use Rattle.cue.proofs.Extreme.{Alone, extreme-only, lines-extreme}
 use Rattle.cue.proofs.Closure.{extreme-closure}
 
 -- x ≤ r, told by x − r
@@ -57,6 +57,10 @@ unfolding _⊗_
 past-E absent y p g h = ≼-absent _
 past-E (num x) absent p g h = ≼-absent _
 past-E (num x) (num y) p g h = omega (arith, up-neg g, up-neg p, up-add x (neg g), up-add (x +z neg g) y, up-add x (neg p), up-add y p)
+
+-- shifted by s and back
+shift-back : (s : ℤ) (a : E) → inv (num s) ⊗ (num s ⊗ a) ≡ a
+shift-back s a = sym (⊗-assoc _ _ _) ∙ ap (λ e. e ⊗ a) (inv-self s) ∙ ⊗-unit a
 
 module _ (n : ℕ) (P : Cue) where
   open Cue P using (panels, lag, floor, due, order)
@@ -194,6 +198,68 @@ module _ (n : ℕ) (P : Cue) where
     shape = λ c h. let (t, ht, (x, r, e)) = k .sound c h in rw e (normal-line n x t ht (r .on .on-mark));
     meets = λ v c t ht p. ray-meets np C k v c t ht (val (overdue n (timing due) v)) (overdue-there n due v t ht p);
   }
+
+  -- ---- the least rays are extreme
+  -- what keeps the order and is on t's new due mark is above column t at r(t)
+  pub above-first : (t : ℕ) → t < n → (y : Vec) → OnMark t y → (j : ℕ) → j < n → first-ray t j ≼ y j
+  unfolding first-ray
+  above-first t ht y o j hj = ⊗-right _ (o .on-mark) ▸ keeps-star n order y (o .ordered) j t hj ht
+
+  -- on t's new due mark and behind none: past due by 0
+  on-mark-overdue : (t : ℕ) → t < n → (x : Vec) → OnMark t x → overdue n (timing due) x ≡ unit
+  unfolding inv
+  on-mark-overdue t ht x o = ≼-anti (ray-overdue t x o)
+      (≼-back (inv-self (pull n P t)) ▸ ⊗-left _ (o .on-mark) ▸ pull-overdue n P x (o .ordered) t ht)
+
+  -- so a vector of the cone that is on t's new due mark and behind none is a ray of t
+  cone-ray : (t : ℕ) → t < n → (x : Vec) → Cone n P (least n P) x → OnMark t x → Ray t x
+  unfolding neg
+  cone-ray t ht x c o = record {
+    on = o;
+    served = λ i hi p. let (j, hj, k, b) = cone-serves x (pos 0) c (on-mark-overdue t ht x o) i hi p in (j, hj, k, b ▸ ≼-of (⊗-unit-r _));
+  }
+
+  -- a vector that is alone at t stays so when it is shifted to its line: what is below the line is shifted back
+  alone-line : (x : Vec) (t : ℕ) {z : ℤ} → t < n → num z ≼ x t → Alone n P (least n P) x t → Alone n P (least n P) (at n (ray-line x)) t
+  unfolding ray-line normal
+  alone-line x t ht h f v c l m i hi = go (val (sup n x)) (val-of (sup n x) (h ▸ sup-ub n x t ht))
+    where
+      go : (s : ℤ) → sup n x ≡ num s → v i ≡ at n (line n (normal n x)) i
+      go s e = sym (shift-back s (v i)) ∙ ap (λ a. inv (num s) ⊗ a) (f (λ j. num s ⊗ v j) (cone-⊗ n P (least n P) (num s) v c)
+          (λ j hj. ⊗-right _ (l j hj ▸ ≼-of (is j hj)) ▸ ≼-of (back j)) (ap (λ a. num s ⊗ a) (m ∙ is t ht) ∙ back t) i hi) ∙ sym (is i hi)
+        where
+          is : (j : ℕ) → j < n → at n (line n (normal n x)) j ≡ inv (num s) ⊗ x j
+          is j hj = at-line n (normal n x) j hj ∙ ap (λ a. inv a ⊗ x j) e
+
+          back : (j : ℕ) → num s ⊗ (inv (num s) ⊗ x j) ≡ x j
+          back j = ⊗-left-comm _ _ _ ∙ shift-back s (x j)
+
+  -- A ray of t below which there is no other ray of t is extreme: a vector of the cone that lies below it and meets it at t is behind no new
+  -- due mark and on t's, so it is a ray of t, and the ray itself.
+  pub ray-extreme : NoGain n order → (t : ℕ) → t < n → (x : Vec) → Ray t x →
+      ((y : Vec) → Ray t y → ((j : ℕ) → j < n → y j ≼ x j) → (j : ℕ) → j < n → x j ≼ y j) → Common n P (least n P) (ray-line x)
+  unfolding ray-line
+  ray-extreme np t ht x r f = extreme-closure n P (least n P) np (ray-line x) inside shape .0 (record {
+    inside = inside;
+    shape = shape;
+    where-at = t;
+    in-range = ht;
+    there = normal-present n x t ht (r .on .on-mark);
+    alone = alone-line x t ht (r .on .on-mark) (λ v c l m i hi. ≼-anti (l i hi) (f v (cone-ray t ht v c (on v c l m)) l i hi));
+  })
+    where
+      inside : Cone n P (least n P) (at n (line n (normal n x)))
+      inside = cone-line n P (least n P) x (ray-cone t x r)
+
+      shape : Normal n (line n (normal n x))
+      shape = normal-line n x t ht (r .on .on-mark)
+
+      on : (v : Vec) → Cone n P (least n P) v → ((j : ℕ) → j < n → v j ≼ x j) → v t ≡ x t → OnMark t v
+      on v c l m = record {
+        ordered = c .ordered;
+        marked = λ j hj. ⊗-left _ (l j hj) ▸ r .on .marked j hj;
+        on-mark = r .on .on-mark ▸ ≼-back m;
+      }
 
   -- The list is the extreme ones among lines that generate the cone. One way: an extreme line c, extreme at j, is met at j by one of them, which
   -- is c. The other way: each of them is in the cone and its greatest component is 0, so where its closures have a trigger in common it is
