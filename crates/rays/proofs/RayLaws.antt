@@ -5,13 +5,14 @@ use mathlib.Core.Logic.{_⊎_, inl, inr}
 use mathlib.Core.List.{List, []}
 use Prim.Native.Nat.{ℕ, _+_, _≤_, _<_}
 use native.Mathlib.Omega.{arith}
-use native.Mathlib.Decide.{ℕ-discrete}
+use native.Mathlib.Decide.{ℕ-discrete, decLt}
 use lib.Dec.{T}
 use lib.ListN.{length, getD, set, length-set}
 use lib.Seq.{getD-set-same, getD-set-other}
 use Rattle.trigger_sets.specs.Sets.{Has}
 use Rattle.buffer.specs.Buffer.{row}
-use Rattle.rays.specs.Rays.{places, Under, Covered, Among, Thinned, Grown, Joined, Meets, Raised, RaisedBy, RaisedAll, Branched, Expanded}
+use Rattle.rays.specs.Rays.{places, Under, Covered, Among, Thinned, Grown, Joined, Meets, Raised, RaisedBy, RaisedAll, Branched}
+use Rattle.rays.specs.Rays.{Apart, Expanded}
 use Rattle.cue.specs.Sizes.{size-limit}
 
 -- ---- below
@@ -63,12 +64,29 @@ row-same s k v h = getD-set-same s k v [] h
 row-other : (s : List (List ℕ)) (k i : ℕ) (v : List ℕ) → ¬ (i ≡ k) → row (set s k v) i ≡ row s i
 row-other s k i v h = getD-set-other s k i v [] h
 
+-- two rays of a set, from two places
+pub record Two (set : List (List ℕ)) (many : ℕ) (v w : List ℕ) : Type 0 where
+  pub first : ℕ
+  pub second : ℕ
+  pub before : first < second
+  pub there : second < many
+  pub is : v ≡ row set first
+  pub is-second : w ≡ row set second
+
+two-apart : {set : List (List ℕ)} {many : ℕ} {v w : List ℕ} → Two set many v w → Apart set many → ¬ (Under v w) × ¬ (Under w v)
+two-apart t a = (
+  λ u. a .at (t .first) (t .second) (omega (arith, t .before, t .there)) (t .there) (λ e. omega (arith, t .before)) (rw (t .is, t .is-second) at u),
+  λ u. a .at (t .second) (t .first) (t .there) (omega (arith, t .before, t .there)) (λ e. omega (arith, t .before)) (rw (t .is, t .is-second) at u),
+)
+
 -- ---- thinning: the first k have been looked at, and those from k on are as they were
 pub record Thinning (before : List (List ℕ)) (w : List ℕ) (s : List (List ℕ)) (left k : ℕ) : Type 0 where
   pub size : length s ≡ places
   pub few : left ≤ k
   pub from : (i : ℕ) → i < left → Among before k (row s i)
   pub left-in : (i : ℕ) → i < k → Under w (row before i) ⊎ Among s left (row before i)
+  pub beside : (i : ℕ) → i < left → ¬ (Under w (row s i))
+  pub two : (i j : ℕ) → i < j → j < left → Two before k (row s i) (row s j)
   pub later : (i : ℕ) → k ≤ i → row s i ≡ row before i
 
 module _ {before : List (List ℕ)} {w : List ℕ} where
@@ -78,6 +96,8 @@ module _ {before : List (List ℕ)} {w : List ℕ} where
     few = omega arith;
     from = λ i h. let e : ⊥ = omega arith in absurd e;
     left-in = λ i h. let e : ⊥ = omega arith in absurd e;
+    beside = λ i h. let e : ⊥ = omega arith in absurd e;
+    two = λ i j h l. let e : ⊥ = omega arith in absurd e;
     later = λ i h. refl;
   }
 
@@ -85,17 +105,29 @@ module _ {before : List (List ℕ)} {w : List ℕ} where
     among-more : {v : List ℕ} → Among before k v → Among before (k + 1) v
     among-more a = record { place = a .place; there = omega (arith, a .there); is = a .is }
 
+    two-more : {v u : List ℕ} → Two before k v u → Two before (k + 1) v u
+    two-more d = record {
+      first = d .first;
+      second = d .second;
+      before = d .before;
+      there = omega (arith, d .there);
+      is = d .is;
+      is-second = d .is-second;
+    }
+
     pub thinning-out : Under w (row s k) → Thinning before w s left (k + 1)
     thinning-out u = record {
       size = t .size;
       few = omega (arith, t .few);
       from = λ i h. among-more (t .from i h);
       left-in = λ i h. elim (ℕ-discrete i k) [ yes e ↦ inl (rw (e, ← t .later k (omega arith)) u) | no e ↦ t .left-in i (omega arith) ];
+      beside = t .beside;
+      two = λ i j h l. two-more (t .two i j h l);
       later = λ i h. t .later i (omega arith);
     }
 
-    pub thinning-keep : k < places → Thinning before w (set s left (row s k)) (left + 1) (k + 1)
-    thinning-keep hk = record {
+    pub thinning-keep : k < places → ¬ (Under w (row s k)) → Thinning before w (set s left (row s k)) (left + 1) (k + 1)
+    thinning-keep hk u = record {
       size = simp length-set (t .size);
       few = omega (arith, t .few);
       from = λ i h. elim (ℕ-discrete i left) [
@@ -113,11 +145,29 @@ module _ {before : List (List ℕ)} {w : List ℕ} where
           })
         ]
       ];
+      beside = λ i h. elim (ℕ-discrete i left) [
+        | yes e ↦ rw (e, row-same s left (row s k) room) u
+        | no e ↦ rw (row-other s left i (row s k) e) (t .beside i (omega arith))
+      ];
+      two = λ i j h l. elim (ℕ-discrete j left) [
+        | yes e ↦ rw (row-other s left i (row s k) (λ f. omega arith), e, row-same s left (row s k) room) (newest i (t .from i (omega arith)))
+        | no e ↦ rw (row-other s left i (row s k) (λ f. omega arith), row-other s left j (row s k) e) (two-more (t .two i j h (omega arith)))
+      ];
       later = λ i h. row-other s left i (row s k) (λ f. let l = t .few in omega arith) ∙ t .later i (omega arith);
     }
       where
         room : left < length s
         room = omega (arith, t .few, t .size)
+
+        newest : (i : ℕ) → Among before k (row s i) → Two before (k + 1) (row s i) (row s k)
+        newest i a = record {
+          first = a .place;
+          second = k;
+          before = a .there;
+          there = omega arith;
+          is = a .is;
+          is-second = t .later k (omega arith);
+        }
 
     pub thinning-end : {many : ℕ} → k ≡ many → Thinned before many w s left
     thinning-end e = record {
@@ -125,6 +175,13 @@ module _ {before : List (List ℕ)} {w : List ℕ} where
       few = omega (arith, t .few);
       from = λ i h. rw (← e) (t .from i h);
       left = λ i h. t .left-in i (omega arith);
+      beside = t .beside;
+      apart = λ a. record {
+        at = λ i j hi hj d. elim (decLt i j) [
+          | yes l ↦ two-apart {v = row s i} {w = row s j} (rw (← e) (t .two i j l hj)) a .0
+          | no l ↦ two-apart {v = row s j} {w = row s i} (rw (← e) (t .two j i (omega arith) hi)) a .1
+        ];
+      };
     }
 
 -- ---- growing: not at all, and told of more
@@ -134,6 +191,7 @@ grown-none {before = before} z = record {
   few = omega arith;
   from = λ k h. inr (record { place = k; there = h; is = refl });
   old = λ i h. covered-itself i h refl;
+  apart = λ a. a;
 }
 
 pub grown-as : {New New′ : List ℕ → Type 0} {more more′ : ℕ} {before : List (List ℕ)} {many : ℕ} {after : List (List ℕ)} {r : ℕ} →
@@ -143,6 +201,7 @@ grown-as f h g = record {
   few = omega (arith, g .few);
   from = λ k l. elim (g .from k l) [ inl x ↦ inl (f _ x) | inr x ↦ inr x ];
   old = g .old;
+  apart = g .apart;
 }
 
 -- ---- joining
@@ -153,8 +212,9 @@ module _ {before : List (List ℕ)} {many : ℕ} {w : List ℕ} where
     new = c;
   }
 
-  pub joined-new : {s : List (List ℕ)} {left : ℕ} → many < places → Thinned before many w s left → Joined before many w (set s left w) (left + 1)
-  joined-new {s} {left} h t = record {
+  pub joined-new : {s : List (List ℕ)} {left : ℕ} → many < places → ¬ (Covered before many w) → Thinned before many w s left →
+      Joined before many w (set s left w) (left + 1)
+  joined-new {s} {left} h u t = record {
     grown = record {
       size = simp length-set (t .size);
       few = omega (arith, t .few);
@@ -166,6 +226,7 @@ module _ {before : List (List ℕ)} {many : ℕ} {w : List ℕ} where
         | inl u ↦ covered-trans there u
         | inr a ↦ covered-itself (a .place) (omega (arith, a .there)) (a .is ∙ sym (row-other s left (a .place) w (λ f. omega (arith, a .there))))
       ];
+      apart = λ a. record { at = beside (t .apart a) };
     };
     new = there;
   }
@@ -175,6 +236,19 @@ module _ {before : List (List ℕ)} {many : ℕ} {w : List ℕ} where
 
       there : Covered (set s left w) (left + 1) w
       there = covered-itself left (omega arith) (sym (row-same s left w room))
+
+      -- none that was left lies above w, and none below, as none did before
+      below : (k : ℕ) → k < left → ¬ (Under (row s k) w)
+      below k h v = let a = t .from k h in u (record { place = a .place; there = a .there; under = rw (a .is) at v })
+
+      beside : Apart s left → (i j : ℕ) → i < left + 1 → j < left + 1 → ¬ (i ≡ j) → ¬ (Under (row (set s left w) i) (row (set s left w) j))
+      beside a i j hi hj d = elim (ℕ-discrete i left) [
+        | yes e ↦ rw (e, row-same s left w room, row-other s left j w (λ f. d (e ∙ sym f))) (t .beside j (omega arith))
+        | no e ↦ elim (ℕ-discrete j left) [
+          | yes f ↦ rw (f, row-same s left w room, row-other s left i w e) (below i (omega arith))
+          | no f ↦ rw (row-other s left i w e, row-other s left j w f) (a .at i j (omega arith) (omega arith) d)
+        ]
+      ]
 
 -- ---- growing further: what was below something stays below it
 module _ {New : List ℕ → Type 0} {more many r : ℕ} {before after : List (List ℕ)} (g : Grown New more before many after r) where
@@ -191,6 +265,7 @@ module _ {New : List ℕ → Type 0} {more many r : ℕ} {before after : List (L
       | inr i ↦ elim (f .from (i .place) (i .there)) [ inl x ↦ inl (a _ (rw (i .is) x)) | inr x ↦ inr (rw (i .is) x) ]
     ];
     old = λ i h. grown-covered (f .old i h);
+    apart = λ a. g .apart (f .apart a);
   }
 
 -- ---- a test for a trigger of a mask
@@ -240,15 +315,17 @@ module _ {rays : List (List ℕ)} {from mask : ℕ} {wants : List ℕ} {stars : 
   expanded-none s z = record {
     size = z;
     few = omega arith;
+    apart = record { at = λ i j h. let e : ⊥ = omega arith in absurd e };
     made = λ k h. let e : ⊥ = omega arith in absurd e;
     new = λ i h l. let e : ⊥ = omega arith in absurd e;
   }
 
-  pub expanded-more : {k held r : ℕ} {s after : List (List ℕ)} → n ≤ size-limit → from ≤ k → Expanded rays from k mask wants stars n s held →
+  pub expanded-more : {k held r : ℕ} {s after : List (List ℕ)} → held + n ≤ places → from ≤ k → Expanded rays from k mask wants stars n s held →
       Branched n (row rays k) mask wants stars s held after r → Expanded rays from (k + 1) mask wants stars n after r
   expanded-more {k} hn hk t b = record {
     size = b .grown .size;
-    few = omega (arith, b .grown .few, t .few);
+    few = omega (arith, b .grown .few, hn);
+    apart = b .grown .apart (t .apart);
     made = λ i h. elim (b .grown .from i h) [
       | inl x ↦ (k, omega arith, x)
       | inr a ↦ let (m, hm, x) = t .made (a .place) (a .there) in (m, omega arith, rw (a .is) x)
@@ -261,6 +338,10 @@ module _ {rays : List (List ℕ)} {from mask : ℕ} {wants : List ℕ} {stars : 
       ]
     ];
   }
+
+-- where there is no room for n more, some are held, so the place is not the first any more
+pub further : {from k held n : ℕ} → from ≤ k → (k ≡ from → held ≡ 0) → n ≤ size-limit → places < held + n → from < k
+further {from} {k} h f hn r = elim (ℕ-discrete k from) [ yes e ↦ let z = f e in omega arith | no e ↦ omega arith ]
 
 -- ---- the first j triggers have not what is wanted of them
 pub wants-more : {a b : ℕ} → b < a → ¬ (a ≤ b)

@@ -2,7 +2,7 @@
 use mathlib.Core.Path.{_≡_}
 use mathlib.Core.Logic.{_⊎_}
 use mathlib.Core.List.{List}
-use Prim.Native.Nat.{ℕ, _+_, _*_, _-_, _≤_, _<_}
+use Prim.Native.Nat.{ℕ, _+_, _≤_, _<_}
 use lib.ListN.{length, getD}
 use Rattle.maxplus.specs.Entry.{E, _⊗_, _⊕_}
 use Rattle.maxplus.specs.Tables.{Vec, Mat}
@@ -10,12 +10,11 @@ use Rattle.tables.specs.Held.{meant, meantV, CloselyV}
 use Rattle.tables.specs.Lines.{Sized, WordsOf}
 use Rattle.trigger_sets.specs.Sets.{Has}
 use Rattle.buffer.specs.Buffer.{row}
-use Rattle.cue.specs.Sizes.{size-limit}
 use Rattle.sheet.specs.Sizes.{starred-size}
 
 -- how many rays a set has room for
 abbrev pub places : ℕ
-places = 64
+places = 40
 
 -- a lies below b in every component: the order of entries is the order of their words
 pub record Under (a b : List ℕ) : Type 0 where
@@ -33,19 +32,26 @@ pub record Among (set : List (List ℕ)) (many : ℕ) (w : List ℕ) : Type 0 wh
   pub there : place < many
   pub is : w ≡ row set place
 
+-- no ray of the set lies below another one
+pub record Apart (set : List (List ℕ)) (many : ℕ) : Type 0 where
+  pub at : (i j : ℕ) → i < many → j < many → ¬ (i ≡ j) → ¬ (Under (row set i) (row set j))
+
 -- of the rays before, those that do not lie above w
 pub record Thinned (before : List (List ℕ)) (many : ℕ) (w : List ℕ) (after : List (List ℕ)) (r : ℕ) : Type 0 where
   pub size : length after ≡ places
   pub few : r ≤ many
   pub from : (k : ℕ) → k < r → Among before many (row after k)
   pub left : (i : ℕ) → i < many → Under w (row before i) ⊎ Among after r (row before i)
+  pub beside : (k : ℕ) → k < r → ¬ (Under w (row after k))
+  pub apart : Apart before many → Apart after r
 
--- the rays afterwards are old or new, below each old one there is one, and there are at most so many more
+-- the rays afterwards are old or new, below each old one there is one, none comes to lie below another, and there are at most so many more
 pub record Grown (New : List ℕ → Type 0) (more : ℕ) (before : List (List ℕ)) (many : ℕ) (after : List (List ℕ)) (r : ℕ) : Type 0 where
   pub size : length after ≡ places
   pub few : r ≤ many + more
   pub from : (k : ℕ) → k < r → New (row after k) ⊎ Among before many (row after k)
   pub old : (i : ℕ) → i < many → Covered after r (row before i)
+  pub apart : Apart before many → Apart after r
 
 -- w has joined
 pub record Joined (before : List (List ℕ)) (many : ℕ) (w : List ℕ) (after : List (List ℕ)) (r : ℕ) : Type 0 where
@@ -93,7 +99,8 @@ module _ (n : ℕ) (x : List ℕ) (mask : ℕ) (wants : List ℕ) (stars : List 
 pub record Expanded (rays : List (List ℕ)) (from to mask : ℕ) (wants : List ℕ) (stars : List (List ℕ)) (n : ℕ) (after : List (List ℕ))
     (r : ℕ) : Type 0 where
   pub size : length after ≡ places
-  pub few : r ≤ size-limit * (to - from)
+  pub few : r ≤ places
+  pub apart : Apart after r
   pub made : (k : ℕ) → k < r → (i : ℕ) × (i < to) × Next n (row rays i) mask wants stars (row after k)
   pub new : (i : ℕ) → from ≤ i → i < to → NextCovered n (row rays i) mask wants stars after r
 

@@ -12,6 +12,15 @@ ghost use Rattle.rays.specs.Rays.{places, Under, Covered, Thinned, Joine
 use trigger_sets::has;
 use words::LineWords;
 
+// How many rays a set has room for: more than come of any sheet known.
+pub const PLACES: usize = 40;
+
+// How far the rays of a set were carried on, and how many came of them.
+pub struct Part {
+    pub to: usize,
+    pub found: usize,
+}
+
 // a lies below b in every component.
 fn under(a: LineWords, b: LineWords) -> bool
     ensures { λ r. ⌜ Says (Under (a .at) (b .at)) r ⌝ }
@@ -27,7 +36,7 @@ fn under(a: LineWords, b: LineWords) -> bool
 }
 
 // Some ray of the set lies below w.
-fn covered(set: &[[u64; 6]; 64], many: usize, w: LineWords) -> bool
+fn covered(set: &[[u64; 6]; PLACES], many: usize, w: LineWords) -> bool
     requires { ⌜ many ≤ places ⌝ }
     ensures { λ r. ⌜ Says (Covered (now (set .entry)) many (w .at)) r ⌝ }
 {
@@ -44,7 +53,7 @@ fn covered(set: &[[u64; 6]; 64], many: usize, w: LineWords) -> bool
 }
 
 // Takes the rays that lie above w out of the set.
-fn thin(set: &mut [[u64; 6]; 64], many: usize, w: LineWords) -> usize
+fn thin(set: &mut [[u64; 6]; PLACES], many: usize, w: LineWords) -> usize
     requires { ⌜ (many ≤ places) × (length (now set) ≡ places) ⌝ }
     ensures { λ r. ⌜ Thinned (now (set .entry)) many (w .at) (now (set .exit)) r ⌝ }
 {
@@ -63,7 +72,7 @@ fn thin(set: &mut [[u64; 6]; 64], many: usize, w: LineWords) -> usize
 }
 
 // Puts w into the set, unless one of its rays lies below w.
-fn join(set: &mut [[u64; 6]; 64], many: usize, w: LineWords) -> usize
+fn join(set: &mut [[u64; 6]; PLACES], many: usize, w: LineWords) -> usize
     requires { ⌜ (many < places) × (length (now set) ≡ places) ⌝ }
     ensures { λ r. ⌜ Joined (now (set .entry)) many (w .at) (now (set .exit)) r ⌝ }
 {
@@ -112,7 +121,7 @@ fn raised(x: LineWords, star: &[[u64; 6]; 6], s: usize, want: u64) -> LineWords
 
 // Each kept trigger gives a ray: x, raised.
 fn raise(
-    set: &mut [[u64; 6]; 64],
+    set: &mut [[u64; 6]; PLACES],
     many: usize,
     x: LineWords,
     mask: u8,
@@ -137,7 +146,7 @@ fn raise(
 
 // What comes of x with one panel more, its kept triggers and what it wants of each.
 fn branch(
-    set: &mut [[u64; 6]; 64],
+    set: &mut [[u64; 6]; PLACES],
     many: usize,
     x: LineWords,
     mask: u8,
@@ -154,24 +163,25 @@ fn branch(
     join(set, many, x)
 }
 
-// What comes of the rays of a set from one place to another.
+// What comes of the rays of a set from a place on, of as many as there is room for.
 pub fn expand(
-    next: &mut [[u64; 6]; 64],
-    set: &[[u64; 6]; 64],
+    next: &mut [[u64; 6]; PLACES],
+    set: &[[u64; 6]; PLACES],
     from: usize,
-    to: usize,
+    many: usize,
     mask: u8,
     wants: [u64; 6],
     star: &[[u64; 6]; 6],
     n: usize,
-) -> usize
-    requires { ⌜ (0 < n) × (n ≤ size-limit) × (from ≤ to) × (to ≤ from + 10) × (to ≤ places) × (length (now next) ≡ places)
-        × Rows n to (now set) × Closely n n star-size (now star) × CloselyV n need-down wants ⌝ }
-    ensures { λ r. ⌜ Expanded (now (set .entry)) from to mask wants (now (star .entry)) n (now (next .exit)) r ⌝ }
+) -> Part
+    requires { ⌜ (0 < n) × (n ≤ size-limit) × (from < many) × (many ≤ places) × (length (now next) ≡ places)
+        × Rows n many (now set) × Closely n n star-size (now star) × CloselyV n need-down wants ⌝ }
+    ensures { λ r. ⌜ (from < r .to) × (r .to ≤ many)
+        × Expanded (now (set .entry)) from (r .to) mask wants (now (star .entry)) n (now (next .exit)) (r .found) ⌝ }
 {
     let mut held: usize = 0;
     let mut k = from;
-    while k < to {
+    while k < many && held + n <= PLACES {
         let words = set[k];
         let x = LineWords {
             count: n,
@@ -180,11 +190,11 @@ pub fn expand(
         held = branch(next, held, x, mask, wants, star);
         k += 1;
     }
-    held
+    Part { to: k, found: held }
 }
 
 // Whether every ray of a set meets a panel.
-pub fn all_meet(set: &[[u64; 6]; 64], many: usize, mask: u8, wants: [u64; 6], n: usize) -> bool
+pub fn all_meet(set: &[[u64; 6]; PLACES], many: usize, mask: u8, wants: [u64; 6], n: usize) -> bool
     requires { ⌜ (n ≤ size-limit) × (many ≤ places) ⌝ }
     ensures { λ r. ⌜ Says ((k : ℕ) → k < many → Meets n (row (now (set .entry)) k) mask wants) r ⌝ }
 {

@@ -25,7 +25,9 @@ add-result c = search needs
 returns-2 : tie.Need-returns-2
 returns-2 c =
     let start : tie.Start = search in
-    joined-new (start .pre .0) (c .before .thin .ensures)
+    let u : tie.After-covered = search in
+    let e : tie.Else1 = search in
+    joined-new (start .pre .0) (rw (e .if1 .left) at (u .covered .ensures)) (c .before .thin .ensures)
 
 pub join-spec : {M : Type 1} → statement M
 join-spec =

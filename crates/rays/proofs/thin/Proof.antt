@@ -1,8 +1,8 @@
--- `rays::thin` meets its contract: the first `k` bounds have been looked at, and `left` of them stay.
+-- `rays::thin` meets its contract: the first `k` rays have been looked at, and `left` of them stay.
 use mathlib.Core.Logic.{⊎-elim}
 use Prim.Native.Nat.{_-_, _≤_}
 use native.Mathlib.Omega.{arith}
-use Rattle.tables.proofs.Loops.{says-yes}
+use Rattle.tables.proofs.Loops.{says-yes, says-no}
 use Rattle.rays.proofs.RayLaws.{Thinning, thinning-start, thinning-out, thinning-keep, thinning-end}
 use Rattle.rays.proofs.thin.Statement.{statement}
 use Rattle.rays.proofs.thin.Tie as tie
@@ -55,7 +55,8 @@ loop-again c =
     let l : tie.At-loop Inv-loop μ-loop = search in
     let start : tie.Start Inv-loop μ-loop = search in (
       omega arith,
-      ⊎-elim (λ w. rw (w .1, w .2) (thinning-keep (l .loop .inv .1) (omega (arith, start .pre .0))))
+      ⊎-elim (λ w. rw (w .1, w .2) (thinning-keep (l .loop .inv .1) (omega (arith, start .pre .0))
+          (says-no (u .under .result) (w .0 .taken) (u .under .ensures))))
           (λ w. rw (w .1, w .2) (thinning-out (l .loop .inv .1) (says-yes (u .under .result) (w .0 .left) (u .under .ensures)))) (c .if1 .came),
     )
 
