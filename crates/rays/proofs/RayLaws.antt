@@ -12,7 +12,7 @@ use lib.Seq.{getD-set-same, getD-set-other}
 use Rattle.trigger_sets.specs.Sets.{Has}
 use Rattle.buffer.specs.Buffer.{row}
 use Rattle.rays.specs.Rays.{places, Under, Covered, Among, Thinned, Grown, Joined, Meets, Raised, RaisedBy, RaisedAll, Branched}
-use Rattle.rays.specs.Rays.{Apart, Expanded}
+use Rattle.rays.specs.Rays.{Apart, Expanded, Kept}
 use Rattle.cue.specs.Sizes.{size-limit}
 
 -- ---- below
@@ -309,13 +309,16 @@ module _ {n : ℕ} {x : List ℕ} {mask : ℕ} {wants : List ℕ} {stars : List 
       pub branched-rises : RaisedAll n x mask wants stars n before many after r → Branched n x mask wants stars before many after r
       branched-rises g = record { grown = grown-as (λ v q. inr q) (omega arith) (g .grown); new = inr (g .new) }
 
+apart-part : {set : List (List ℕ)} {part many : ℕ} → part ≤ many → Apart set many → Apart set part
+apart-part h a = record { at = λ i j hi hj. a .at i j (omega arith) (omega arith) }
+
 -- ---- expanding: the rays up to place k have had their turn
 module _ {rays : List (List ℕ)} {from mask : ℕ} {wants : List ℕ} {stars : List (List ℕ)} {n : ℕ} where
   pub expanded-none : (s : List (List ℕ)) → length s ≡ places → Expanded rays from from mask wants stars n s 0
   expanded-none s z = record {
     size = z;
     few = omega arith;
-    apart = record { at = λ i j h. let e : ⊥ = omega arith in absurd e };
+    apart = λ a. record { at = λ i j h. let e : ⊥ = omega arith in absurd e };
     made = λ k h. let e : ⊥ = omega arith in absurd e;
     new = λ i h l. let e : ⊥ = omega arith in absurd e;
   }
@@ -325,7 +328,7 @@ module _ {rays : List (List ℕ)} {from mask : ℕ} {wants : List ℕ} {stars : 
   expanded-more {k} hn hk t b = record {
     size = b .grown .size;
     few = omega (arith, b .grown .few, hn);
-    apart = b .grown .apart (t .apart);
+    apart = λ a. b .grown .apart (t .apart (apart-part (omega arith) a));
     made = λ i h. elim (b .grown .from i h) [
       | inl x ↦ (k, omega arith, x)
       | inr a ↦ let (m, hm, x) = t .made (a .place) (a .there) in (m, omega arith, rw (a .is) x)
@@ -370,3 +373,52 @@ module _ {n : ℕ} {rays : List (List ℕ)} {mask : ℕ} {wants : List ℕ} wher
 
   pub meet-more : {k : ℕ} → MeetTo n rays mask wants k → Meets n (row rays k) mask wants → MeetTo n rays mask wants (k + 1)
   meet-more {k} t m = record { at = λ i h. elim (ℕ-discrete i k) [ yes e ↦ rw e m | no e ↦ t .at i (omega arith) ] }
+
+-- ---- the first k rays of another set in their places
+module _ {next : List (List ℕ)} where
+  pub kept-none : {s : List (List ℕ)} → length s ≡ places → Kept next 0 s
+  kept-none z = record { size = z; rows = λ k h. let e : ⊥ = omega arith in absurd e }
+
+  pub kept-more : {k : ℕ} {s : List (List ℕ)} → k < places → Kept next k s → Kept next (k + 1) (set s k (row next k))
+  kept-more {k} {s} h t = record {
+    size = simp length-set (t .size);
+    rows = λ i l. elim (ℕ-discrete i k) [
+      | yes e ↦ rw e (row-same s k (row next k) (omega (arith, t .size)))
+      | no e ↦ row-other s k i (row next k) e ∙ t .rows i (omega arith)
+    ];
+  }
+
+  pub kept-end : {k many : ℕ} {s : List (List ℕ)} → k ≡ many → Kept next k s → Kept next many s
+  kept-end e t = rw (← e) t
+
+  kept-covered : {many : ℕ} {after : List (List ℕ)} {w : List ℕ} → Kept next many after → Covered next many w → Covered after many w
+  kept-covered t c = record { place = c .place; there = c .there; under = rw (t .rows (c .place) (c .there)) (c .under) }
+
+-- ---- a whole set with one panel more: as it is, or what was kept of another
+module _ {rays : List (List ℕ)} {many mask : ℕ} {wants : List ℕ} {stars : List (List ℕ)} {n : ℕ} where
+  pub added-as-it-is : length rays ≡ places → many ≤ places → ((k : ℕ) → k < many → Meets n (row rays k) mask wants) →
+      Expanded rays 0 many mask wants stars n rays many
+  added-as-it-is z h m = record {
+    size = z;
+    few = h;
+    apart = λ a. a;
+    made = λ k l. (k, l, inl (refl, m k l));
+    new = λ i h l. inl (covered-itself i l refl);
+  }
+
+  pub added-kept : {to found : ℕ} {next after : List (List ℕ)} → to ≡ many → Expanded rays 0 to mask wants stars n next found →
+      Kept next found after → Expanded rays 0 many mask wants stars n after found
+  added-kept {to} {found} {next} {after} e x t = subst (λ to. Expanded rays 0 to mask wants stars n after found) e (record {
+    size = t .size;
+    few = x .few;
+    apart = λ a. record { at = λ i j hi hj d. rw (t .rows i hi, t .rows j hj) (x .apart a .at i j hi hj d) };
+    made = λ k h. rw (t .rows k h) (x .made k h);
+    new = λ i h l. elim (x .new i h l) [
+      | inl c ↦ inl (kept-covered t c)
+      | inr f ↦ inr (λ j hj q. let (v, y, c) = f j hj q in (v, y, kept-covered t c))
+    ];
+  })
+
+-- a set of which not all rays meet a panel has one
+pub some-ray : {many : ℕ} {Meet : ℕ → Type 0} → ¬ ((k : ℕ) → k < many → Meet k) → 0 < many
+some-ray {many} f = elim (ℕ-discrete many 0) [ yes e ↦ absurd (f (λ k h. let b : ⊥ = omega arith in absurd b)) | no e ↦ omega arith ]

@@ -2,6 +2,7 @@
 use mathlib.Core.Path.{_≡_}
 use mathlib.Core.Logic.{_⊎_}
 use mathlib.Core.List.{List}
+use mathlib.Core.Bool.{Bool, true, false}
 use Prim.Native.Nat.{ℕ, _+_, _≤_, _<_}
 use lib.ListN.{length, getD}
 use Rattle.maxplus.specs.Entry.{E, _⊗_, _⊕_}
@@ -100,7 +101,7 @@ pub record Expanded (rays : List (List ℕ)) (from to mask : ℕ) (wants : List 
     (r : ℕ) : Type 0 where
   pub size : length after ≡ places
   pub few : r ≤ places
-  pub apart : Apart after r
+  pub apart : Apart rays to → Apart after r
   pub made : (k : ℕ) → k < r → (i : ℕ) × (i < to) × Next n (row rays i) mask wants stars (row after k)
   pub new : (i : ℕ) → from ≤ i → i < to → NextCovered n (row rays i) mask wants stars after r
 
@@ -108,3 +109,13 @@ pub record Expanded (rays : List (List ℕ)) (from to mask : ℕ) (wants : List 
 pub record Rows (n many : ℕ) (rays : List (List ℕ)) : Type 0 where
   pub sized : (k : ℕ) → k < many → Sized n (row rays k)
   pub close : (k : ℕ) → k < many → CloselyV n starred-size (row rays k)
+
+-- the first rays of a set are those of another
+pub record Kept (next : List (List ℕ)) (many : ℕ) (after : List (List ℕ)) : Type 0 where
+  pub size : length after ≡ places
+  pub rows : (k : ℕ) → k < many → row after k ≡ row next k
+
+-- a panel was added, or the set is as it was
+abbrev pub Added : List (List ℕ) → ℕ → ℕ → List ℕ → List (List ℕ) → ℕ → List (List ℕ) → Bool → ℕ → Type 0
+Added rays many mask wants stars n after true r = Expanded rays 0 many mask wants stars n after r
+Added rays many mask wants stars n after false r = after ≡ rays

@@ -8,7 +8,7 @@ ghost use Rattle.sheet.specs.Sizes.{star-size, need-down, starred-size};
 ghost use Rattle.tables.specs.Held.{meant, meantV, Closely, CloselyV, Says};
 ghost use Rattle.tables.specs.Lines.{Carries};
 ghost use Rattle.buffer.specs.Buffer.{row};
-ghost use Rattle.rays.specs.Rays.{places, Under, Covered, Thinned, Joined, Meets, joined-of, RaisedAll, Branched, Expanded, Rows};
+ghost use Rattle.rays.specs.Rays.{places, Under, Covered, Thinned, Joined, Meets, joined-of, RaisedAll, Branched, Expanded, Kept, Added, Rows};
 use trigger_sets::has;
 use words::LineWords;
 
@@ -19,6 +19,12 @@ pub const PLACES: usize = 40;
 pub struct Part {
     pub to: usize,
     pub found: usize,
+}
+
+// Whether a panel was added, and how many rays the set then has.
+pub struct Addition {
+    pub done: bool,
+    pub many: usize,
 }
 
 // a lies below b in every component.
@@ -211,4 +217,52 @@ pub fn all_meet(set: &[[u64; 6]; PLACES], many: usize, mask: u8, wants: [u64; 6]
         k += 1;
     }
     true
+}
+
+// The first rays of one set in the place of those of another.
+fn keep(set: &mut [[u64; 6]; PLACES], next: &[[u64; 6]; PLACES], many: usize)
+    requires { ⌜ (many ≤ places) × (length (now set) ≡ places) ⌝ }
+    ensures { λ _. ⌜ Kept (now (next .entry)) many (now (set .exit)) ⌝ }
+{
+    let mut k: usize = 0;
+    while k < many {
+        let at = next[k];
+        set[k] = at;
+        k += 1;
+    }
+}
+
+// One panel more for a whole set, if what comes of all its rays has room. Rays that all meet the panel are carried on as they are.
+pub fn add_panel(
+    set: &mut [[u64; 6]; PLACES],
+    next: &mut [[u64; 6]; PLACES],
+    many: usize,
+    mask: u8,
+    wants: [u64; 6],
+    star: &[[u64; 6]; 6],
+    n: usize,
+) -> Addition
+    requires { ⌜ (0 < n) × (n ≤ size-limit) × (many ≤ places) × (length (now set) ≡ places) × (length (now next) ≡ places)
+        × Rows n many (now set) × Closely n n star-size (now star) × CloselyV n need-down wants ⌝ }
+    ensures { λ r. ⌜ (length (now (next .exit)) ≡ places) ×
+        Added (now (set .entry)) many mask wants (now (star .entry)) n (now (set .exit)) (r .done) (r .many) ⌝ }
+{
+    if all_meet(set, many, mask, wants, n) {
+        return Addition {
+            done: true,
+            many: many,
+        };
+    }
+    let part = expand(next, set, 0, many, mask, wants, star, n);
+    if part.to < many {
+        return Addition {
+            done: false,
+            many: many,
+        };
+    }
+    keep(set, next, part.found);
+    Addition {
+        done: true,
+        many: part.found,
+    }
 }

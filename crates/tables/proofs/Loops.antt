@@ -28,6 +28,10 @@ pub says-true : {P : Type 0} (b : Bool) → b ≡ true → Says P b → P
 says-true true e h = h
 says-true false e h = let z : _≡_ {A = ℕ} 0 1 = cc in let x : ⊥ = omega arith in absurd x
 
+pub says-false : {P : Type 0} (b : Bool) → b ≡ false → Says P b → ¬ P
+says-false true e h = let z : _≡_ {A = ℕ} 0 1 = cc in let x : ⊥ = omega arith in absurd x
+says-false false e h = h
+
 -- ---- a largest, from the word 0 on
 pub largest-none : (f : ℕ → E) → entry 0 ≡ sup 0 f
 unfolding sup
