@@ -1,7 +1,9 @@
 -- What is gathered, and from which rays.
+use mathlib.Core.Path.{_≡_}
+use mathlib.Core.Bool.{Bool, true}
 use mathlib.Core.List.{List, _++_}
 use Prim.Native.Nat.{ℕ, _≤_, _<_}
-use lib.ListN.{getD, take}
+use lib.ListN.{length, getD, take}
 use Rattle.maxplus.specs.Entry.{_≼_}
 use Rattle.maxplus.specs.Finite.{In, mapL}
 use Rattle.maxplus.specs.Tables.{Vec, normal}
@@ -23,6 +25,7 @@ use Rattle.tables.specs.Lines.{line-of, Sized}
 use Rattle.candidates.specs.Drawable.{Drawable}
 use Rattle.candidates.specs.declared.Marks.{Marks}
 use Rattle.buffer.specs.Buffer.{room, row, Stored}
+use Rattle.rays.specs.Rays.{places, Apart, Rows}
 
 module _ (n : ℕ) (P : Cue) (last : Line n) where
   -- a candidate that comes after last in the list
@@ -43,6 +46,10 @@ pub record Gathered (n : ℕ) (P : Cue) (last : List ℕ) (C : List (Line n)) (l
 -- the line of a ray
 unfoldable pub drawn : (n : ℕ) → List ℕ → Line n
 drawn n w = line n (normal n (meantV w))
+
+-- where it is known, each line of a set's rays is extreme
+abbrev pub Sure : Bool → (n : ℕ) → Cue → List (List ℕ) → ℕ → Type 0
+Sure known n P set many = known ≡ true → (k : ℕ) → k < many → Common n P (least n P) (drawn n (row set k))
 
 -- of level l some kept trigger is asked for no more than b has
 abbrev pub Met : Marks → List (List ℕ) → ℕ → Vec → Type 0
@@ -74,6 +81,35 @@ pub record Spread (M : Marks) (stars lags needs : List (List ℕ)) (last : List 
   pub covers : (P : Cue) → Drawable (M .triggers) P M stars lags needs → (b : Vec) → Keeps (M .triggers) (P .order) b →
       ((l : ℕ) → level ≤ l → l < M .levels → Met M needs l b) →
       (k : ℕ) → from ≤ k → k < many → Below (M .triggers) (row set k) b → (w : List ℕ) × In w used × Below (M .triggers) w b
+
+-- the least rays of t, for the first l levels: none lies below another, and below each vector that keeps the order, meets these levels and is
+-- above column t at r(t) there is one
+pub record Whole (M : Marks) (stars needs : List (List ℕ)) (t l : ℕ) (set : List (List ℕ)) (many : ℕ) : Type 0 where
+  pub rays : RaysTo M stars needs t l set many
+  pub apart : Apart set many
+  pub covers : (P : Cue) (lags : List (List ℕ)) → Drawable (M .triggers) P M stars lags needs → (b : Vec) → Keeps (M .triggers) (P .order) b →
+      ((k : ℕ) → k < l → Met M needs k b) → ((j : ℕ) → j < M .triggers → first-ray (M .triggers) P t j ≼ b j) →
+      (k : ℕ) × (k < many) × Below (M .triggers) (row set k) b
+
+-- a set of one ray has been carried on to a level
+pub record CarriedTo (M : Marks) (stars needs set after : List (List ℕ)) (level many : ℕ) : Type 0 where
+  pub so-far : level ≤ M .levels
+  pub few : many ≤ places
+  pub size : length after ≡ places
+  pub words : Rows (M .triggers) many after
+  pub whole : (t : ℕ) → Whole M stars needs t 0 set 1 → Whole M stars needs t level after many
+
+-- the lines of some rays of t have been considered, and below each vector that keeps the order, meets all levels and is above column t at r(t)
+-- there is one of them
+pub record Considered (M : Marks) (stars lags needs : List (List ℕ)) (last : List ℕ) (t : ℕ) (len : ℕ) (buf : List (List ℕ)) (r : ℕ)
+    (after : List (List ℕ)) : Type 0 where
+  pub used : List (List ℕ)
+  pub rays : (w : List ℕ) → In w used → RayTo M stars needs t (M .levels) w
+  pub gathered : (P : Cue) (C : List (Line (M .triggers))) → Drawable (M .triggers) P M stars lags needs →
+      Gathered (M .triggers) P last C len buf → Gathered (M .triggers) P last (C ++ mapL (drawn (M .triggers)) used) r after
+  pub covers : (P : Cue) → Drawable (M .triggers) P M stars lags needs → (b : Vec) → Keeps (M .triggers) (P .order) b →
+      ((l : ℕ) → l < M .levels → Met M needs l b) → ((j : ℕ) → j < M .triggers → first-ray (M .triggers) P t j ≼ b j) →
+      (w : List ℕ) × In w used × Below (M .triggers) w b
 
 -- and so for the rays of the first t triggers, from their columns on
 pub record Turned (M : Marks) (stars lags needs : List (List ℕ)) (last : List ℕ) (t len : ℕ) (buf : List (List ℕ)) : Type 0 where

@@ -6,20 +6,20 @@ use borrow.Fn.Kinds.{In}
 use borrow.Fn.PlainCycle.{Measures, is, falls, and}
 use Rattle.candidates.proofs.DrawableLaws.{levels-few, stars-close, needs-close}
 use Rattle.tables.proofs.Loops.{says-true}
-use Rattle.gather.proofs.SpreadLaws.{next-rows, rows-part, level-wants, spread-end, spread-none, spread-stay, spread-more}
+use Rattle.rays.specs.Rays.{places}
+use Rattle.gather.proofs.SpreadLaws.{next-rows, rows-part, level-wants, not-sure, spread-end, spread-none, spread-stay, spread-more}
 use Rattle.gather.proofs.spread.Reads as spread
 use Rattle.gather.proofs.spread.Kinds as spread-kinds
 use Rattle.gather.proofs.+spread.Lts-spread as spread-lts
 use Rattle.rays.proofs.expand.Reads as expand-reads
 use Rattle.rays.proofs.all_meet.Reads as all-meet-reads
 use Rattle.gather.proofs.consider_rays.Reads as consider-rays-reads
-use Rattle.gather.proofs.part_end.Reads as part-end-reads
 use Rattle.gather.proofs.+spread.{statement}
 use Rattle.gather.proofs.+spread.Tie.{close}
 
 -- the arguments are buf, len, last, set, then (b) from, many, level, marks
 abbrev μ-spread : Measures 5 spread-kinds.ps ℕ
-μ-spread κs a = let b = a .1 .1 .1 .1 in 65 * (b .1 .1 .1 .0 .levels - b .1 .1 .0) + (b .1 .0 - b .0)
+μ-spread κs a = let b = a .1 .1 .1 .1 in (places + 1) * (b .1 .1 .1 .0 .levels - b .1 .1 .0) + (b .1 .0 - b .0)
 
 abbrev spread-at : ℕ → In 5 spread-kinds.ps
 spread-at t = and 5 spread-kinds.ps (is 5 spread-kinds.ps μ-spread t) spread.Pre
@@ -36,8 +36,6 @@ claims t = (
   all-meet-reads.Learnt,
   spread-below t,
   spread.Post,
-  part-end-reads.Asked,
-  part-end-reads.Learnt,
   expand-reads.Asked,
   expand-reads.Learnt,
 )
@@ -54,9 +52,6 @@ Met t = spread-lts.After-all-meet (claims t) (spread-at t) spread.Post
 
 abbrev Stay : ℕ → Type 0
 Stay t = spread-lts.Then4 (claims t) (spread-at t) spread.Post
-
-abbrev Parted : ℕ → Type 0
-Parted t = spread-lts.After-part-end (claims t) (spread-at t) spread.Post
 
 abbrev Expanding : ℕ → Type 0
 Expanding t = spread-lts.After-expand (claims t) (spread-at t) spread.Post
@@ -79,7 +74,7 @@ consider-rays-requires t c κs =
     let s : Start t = search in
     let (q, z, f, l, h, b) = s .pre .1 in
     let (P, C, g, i) = q in
-    ((P, s .args .needs .now, C, g, i), z, f, l, b .close)
+    ((P, s .args .needs .now, C, g, not-sure (s .args .marks .triggers) P (s .args .set .now) (s .args .many), i), z, f, l, b .close)
 
 returns : (t : ℕ) → spread-lts.Need-returns (claims t) (spread-at t) spread.Post
 returns t c =
@@ -132,11 +127,6 @@ returns-3 t c =
     let e : Inner t = search in
     spread-stay (lower e) (says-true (met .all-meet .result) (stay .if4 .taken) (met .all-meet .ensures)) (c .spread .ensures)
 
-part-end-requires : (t : ℕ) → spread-lts.Need-part-end-requires (claims t) (spread-at t) spread.Post
-part-end-requires t c κs =
-    let e : Inner t = search in
-    (omega (arith, e .if2 .left), start e .pre .1 .2)
-
 array-read-expand : (t : ℕ) → spread-lts.Need-array-read-expand (claims t) (spread-at t) spread.Post
 array-read-expand t c =
     let e : Inner t = search in
@@ -154,12 +144,10 @@ element-copy-out-expand t c =
 
 expand-requires : (t : ℕ) → spread-lts.Need-expand-requires (claims t) (spread-at t) spread.Post
 expand-requires t c κs =
-    let p : Parted t = search in
     let e : Inner t = search in
     let (q, z, f, l, h, b) = start e .pre .1 in
-    let (x, y, w) = p .part-end .ensures in
     let g = q .2 in
-    (g .some, g .few, omega (arith, x), w, omega (arith, y, f), refl, rows-part y b, stars-close g, level-wants (lower e) (needs-close g))
+    (g .some, g .few, omega (arith, e .if2 .left), f, refl, b, stars-close g, level-wants (lower e) (needs-close g))
 
 add-spread-2 : (t : ℕ) → spread-lts.Need-add-spread-2 (claims t) (spread-at t) spread.Post
 add-spread-2 t c =
@@ -169,32 +157,29 @@ add-spread-2 t c =
 spread-requires-2 : (t : ℕ) → spread-lts.Need-spread-requires-2 (claims t) (spread-at t) spread.Post
 spread-requires-2 t c κs =
     let r : Expanding t = search in
-    let p : Parted t = search in
     let e : Inner t = search in
-    let x = r .expand .ensures in
+    let (a, d, x) = r .expand .ensures in
     let (m, (q, z, f, l, h, b)) = start e .pre in
     let v = lower e in
-    let (a, d, w) = p .part-end .ensures in
-    let few : r .expand .result ≤ 60 = omega (arith, x .few, w) in
-    (omega (arith, m, v, few, a, d), (q, z, omega (arith, few), x .size, omega (arith, v), next-rows (rows-part d b) x))
+    (omega (arith, m, v, x .few, a, d), (q, z, x .few, x .size, omega (arith, v), next-rows (rows-part d b) x))
 
 spread-requires-3 : (t : ℕ) → spread-lts.Need-spread-requires-3 (claims t) (spread-at t) spread.Post
 spread-requires-3 t c κs =
     let n : Deeper t = search in
-    let p : Parted t = search in
+    let r : Expanding t = search in
     let e : Inner t = search in
     let (m, (q, z, f, l, h, b)) = start e .pre in
     let (P, C, g, i) = q in
-    let (a, d, w) = p .part-end .ensures in
+    let (a, d, x) = r .expand .ensures in
     (omega (arith, m, a, d), ((P, _, g, n .spread2 .ensures .gathered P C g i), z, f, l, h, b))
 
 returns-4 : (t : ℕ) → spread-lts.Need-returns-4 (claims t) (spread-at t) spread.Post
 returns-4 t c =
     let n : Deeper t = search in
     let r : Expanding t = search in
-    let p : Parted t = search in
     let e : Inner t = search in
-    spread-more (lower e) (p .part-end .ensures .1) (r .expand .ensures) (n .spread2 .ensures) (c .spread3 .ensures)
+    let (a, d, x) = r .expand .ensures in
+    spread-more (lower e) d x (n .spread2 .ensures) (c .spread3 .ensures)
 
 pub +spread-spec : {M : Type 1} → statement M
 +spread-spec = close μ-spread λ t. spread-lts.spec (claims t)
@@ -210,7 +195,6 @@ pub +spread-spec : {M : Type 1} → statement M
     (add-spread t)
     (spread-requires t)
     (returns-3 t)
-    (part-end-requires t)
     (array-read-expand t)
     (mul-expand t)
     (element-copy-out-expand t)

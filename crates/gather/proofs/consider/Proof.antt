@@ -24,7 +24,7 @@ below-requires : tie.Need-below-requires
 below-requires c κs = tt
 
 returns : tie.Need-returns
-returns c P needs C p s = let q = c .before .before .pre in
+returns c P needs C p x s = let q = c .before .before .pre in
     not-above (p .few) (q .1) (q .3) s (says-no (c .before .below .result) (c .if1 .taken) (c .before .below .ensures))
 
 place-requires : tie.Need-place-requires
@@ -39,23 +39,12 @@ fresh-requires c κs =
     (c .before .place .ensures .few, start .pre .0 .4 .stored .few)
 
 returns-2 : tie.Need-returns-2
-returns-2 c P needs C p s =
+returns-2 c P needs C p x s =
     let l : tie.After-place = search in
     let start : tie.Start = search in
     let q = start .pre in
     not-fresh (p .few) (q .1) (q .3) s (l .place .result) (l .place .ensures)
     (says-no (c .before .fresh .result) (c .if2 .taken) (c .before .fresh .ensures))
-
-extreme-requires : tie.Need-extreme-requires
-extreme-requires c κs =
-    let start : tie.Start = search in
-    let q = start .pre in (rw (q .2) (ready (q .0 .3)), q .2, rw (q .2) (q .4))
-
-returns-3 : tie.Need-returns-3
-returns-3 c P needs C p s =
-    let start : tie.Start = search in
-    let q = start .pre in
-    not-extreme (p .few) (q .1) (q .3) s (says-no (c .before .extreme .result) (c .if3 .taken) (c .before .extreme .ensures _ P needs p))
 
 insert-requires : tie.Need-insert-requires
 insert-requires c κs =
@@ -65,17 +54,46 @@ insert-requires c κs =
     let s = start .pre .0 .4 .stored in
     (l .place .ensures .few, new else2 .0, s .few, s .size)
 
-returns-4 : tie.Need-returns-4
-returns-4 c P needs C p s =
-    let else3 : tie.Else3 = search in
-    let x : tie.After-extreme = search in
+returns-3 : tie.Need-returns-3
+returns-3 c P needs C p x s =
+    let then3 : tie.Then3 = search in
     let else2 : tie.Else2 = search in
     let l : tie.After-place = search in
     let else1 : tie.Else1 = search in
     let start : tie.Start = search in
     let q = start .pre in
-    let e = says-yes (x .extreme .result) (else3 .if3 .left) (x .extreme .ensures _ P needs p) in
-    put-in (p .few) (q .1) (q .3) s _ _ _ (higher else1) (l .place .ensures) (new else2) e (c .insert .ensures)
+    put-in (p .few) (q .1) (q .3) s _ _ _ (higher else1) (l .place .ensures) (new else2) (x (then3 .if3 .taken)) (c .insert .ensures)
+
+extreme-requires : tie.Need-extreme-requires
+extreme-requires c κs =
+    let start : tie.Start = search in
+    let q = start .pre in (rw (q .2) (ready (q .0 .3)), q .2, rw (q .2) (q .4))
+
+returns-4 : tie.Need-returns-4
+returns-4 c P needs C p x s =
+    let start : tie.Start = search in
+    let q = start .pre in
+    not-extreme (p .few) (q .1) (q .3) s (says-no (c .before .extreme .result) (c .if4 .taken) (c .before .extreme .ensures _ P needs p))
+
+insert-requires-2 : tie.Need-insert-requires-2
+insert-requires-2 c κs =
+    let else2 : tie.Else2 = search in
+    let l : tie.After-place = search in
+    let start : tie.Start = search in
+    let s = start .pre .0 .4 .stored in
+    (l .place .ensures .few, new else2 .0, s .few, s .size)
+
+returns-5 : tie.Need-returns-5
+returns-5 c P needs C p x s =
+    let else4 : tie.Else4 = search in
+    let t : tie.After-extreme = search in
+    let else2 : tie.Else2 = search in
+    let l : tie.After-place = search in
+    let else1 : tie.Else1 = search in
+    let start : tie.Start = search in
+    let q = start .pre in
+    let e = says-yes (t .extreme .result) (else4 .if4 .left) (t .extreme .ensures _ P needs p) in
+    put-in (p .few) (q .1) (q .3) s _ _ _ (higher else1) (l .place .ensures) (new else2) e (c .insert2 .ensures)
 
 pub consider-spec : {M : Type 1} → statement M
 consider-spec =
@@ -86,7 +104,9 @@ consider-spec =
     place-requires
     fresh-requires
     returns-2
-    extreme-requires
-    returns-3
     insert-requires
-    returns-4)
+    returns-3
+    extreme-requires
+    returns-4
+    insert-requires-2
+    returns-5)

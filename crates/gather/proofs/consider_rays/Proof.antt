@@ -6,10 +6,11 @@ use Rattle.gather.proofs.consider_rays.Statement.{statement}
 use Rattle.gather.proofs.consider_rays.Tie as tie
 
 abbrev Inv-loop : tie.InvT-loop
-Inv-loop buf₀ len last set many marks star lag held₀ k₀ buf held k = Drawn-to marks star lag (last .at) set many held₀ buf₀ k held buf
+Inv-loop buf₀ len last set many known marks star lag held₀ k₀ buf held k =
+    Drawn-to marks star lag (last .at) set many known held₀ buf₀ k held buf
 
 abbrev μ-loop : tie.MeasureT-loop
-μ-loop buf₀ len last set many marks star lag held₀ k₀ buf held k = many - k
+μ-loop buf₀ len last set many known marks star lag held₀ k₀ buf held k = many - k
 
 loop-holds : tie.Need-loop-holds Inv-loop μ-loop
 loop-holds c = drawn-to-none
@@ -31,9 +32,9 @@ consider-requires c κs =
     let e : tie.After-normal Inv-loop μ-loop = search in
     let l : tie.At-loop Inv-loop μ-loop = search in
     let s : tie.Start Inv-loop μ-loop = search in
-    let (P, needs, C, p, g) = s .pre .0 in
+    let (P, needs, C, p, q, g) = s .pre .0 in
     let d = e .normal .ensures in
-    ((P, needs, _, p, l .loop .inv .gathered P needs C p g), s .pre .1, d .count, d .words .sized, d .words .close)
+    ((P, needs, _, p, l .loop .inv .gathered P needs C p q g), s .pre .1, d .count, d .words .sized, d .words .close)
 
 add-k : tie.Need-add-k Inv-loop μ-loop
 add-k c = omega arith
@@ -50,7 +51,7 @@ loop-again c =
     drawn-to-more (l .loop .inv) (in-loop .loop-test .taken) (omega (arith, s .pre .2, s .pre .3)) (e .normal .ensures) (c .consider .ensures)
 
 returns : tie.Need-returns Inv-loop μ-loop
-returns c P needs C p g = drawn-to-end (c .before .loop .inv) (c .loop-test .left) .gathered P needs C p g
+returns c P needs C p q g = drawn-to-end (c .before .loop .inv) (c .loop-test .left) .gathered P needs C p q g
 
 pub consider-rays-spec : {M : Type 1} → statement M
 consider-rays-spec =
