@@ -1,7 +1,7 @@
 -- A buffer of lines in order, each by its six words. Its first len places hold lines.
 use mathlib.Core.Path.{_≡_}
 use mathlib.Core.List.{List, [], _∷_, _++_}
-use Prim.Native.Nat.{ℕ, _≤_, _<_}
+use Prim.Native.Nat.{ℕ, _-_, _≤_, _<_}
 use lib.ListN.{length, getD, take, drop}
 use Rattle.maxplus.specs.Finite.{In, mapL}
 use Rattle.maxplus.specs.Line.{Line, ltL}
@@ -9,7 +9,11 @@ use Rattle.tables.specs.Lines.{line-of, Sized}
 
 -- how many lines there is room for
 abbrev pub room : ℕ
-room = 128
+room = 80
+
+-- the last place
+abbrev pub end : ℕ
+end = room - 1
 
 abbrev pub row : List (List ℕ) → ℕ → List ℕ
 row buf k = getD buf k []

@@ -8,10 +8,10 @@ use candidates::order::below;
 use words::LineWords;
 
 // How many lines the buffer has room for: more than there are on nearly every sheet.
-pub const ROOM: usize = 128;
+pub const ROOM: usize = 80;
 
 // The place of a line: the first whose line does not stand before it.
-pub fn place(buf: &[[u64; 6]; 128], len: usize, line: LineWords) -> usize
+pub fn place(buf: &[[u64; 6]; ROOM], len: usize, line: LineWords) -> usize
     requires { ⌜ (len ≤ room) × Ordered len (now buf) ⌝ }
     ensures { λ r. ⌜ Placed (now (buf .entry)) len (line .at) r ⌝ }
 {
@@ -34,7 +34,7 @@ pub fn place(buf: &[[u64; 6]; 128], len: usize, line: LineWords) -> usize
 }
 
 // At its place the line is not there yet, nor past the end of a full buffer.
-pub fn fresh(buf: &[[u64; 6]; 128], len: usize, at: usize, line: LineWords) -> bool
+pub fn fresh(buf: &[[u64; 6]; ROOM], len: usize, at: usize, line: LineWords) -> bool
     requires { ⌜ (at ≤ len) × (len ≤ room) ⌝ }
     ensures { λ r. ⌜ Says (Fresh (now (buf .entry)) len at (line .at)) r ⌝ }
 {
@@ -61,7 +61,7 @@ fn grown(len: usize) -> usize
 }
 
 // The line at a place, those from there on one place further.
-pub fn insert(buf: &mut [[u64; 6]; 128], len: usize, at: usize, line: LineWords) -> usize
+pub fn insert(buf: &mut [[u64; 6]; ROOM], len: usize, at: usize, line: LineWords) -> usize
     requires { ⌜ (at ≤ len) × (at < room) × (len ≤ room) × (length (now buf) ≡ room) ⌝ }
     ensures { λ r. ⌜ Inserted (now (buf .entry)) len at (line .at) (now (buf .exit)) r ⌝ }
 {

@@ -34,7 +34,7 @@ use Rattle.tables.specs.Lines.{line-of, Sized}
 use Rattle.candidates.specs.Drawable.{Drawable}
 use Rattle.candidates.specs.declared.Marks.{Marks}
 use Rattle.tables.proofs.LineLaws.{blank, sized-none, line-at}
-use Rattle.buffer.specs.Buffer.{room, row, held}
+use Rattle.buffer.specs.Buffer.{room, end, row, held}
 use Rattle.gather.specs.Gathering.{rest, Filled}
 use Rattle.buffer.proofs.ListLaws.{in-take}
 use Rattle.buffer.proofs.HeldLaws.{stored-length, row-line}
@@ -101,18 +101,18 @@ module _ {n len : ℕ} {P : Cue} {last : List ℕ} {buf : List (List ℕ)} (few 
   pub filled-all : len < room → held n len buf ≡ left
   filled-all h = s .stored .lines ∙ take-all room left (omega (arith, stored-length few (s .stored), length-take room left))
 
-  pub filled-full : room ≤ len → left ≡ held n len buf ++ rest n P (line-of n (row buf 127))
+  pub filled-full : room ≤ len → left ≡ held n len buf ++ rest n P (line-of n (row buf end))
   filled-full h = sym (take-append-drop room left) ∙ ap₂ _++_ (sym (s .stored .lines)) after
     where
       b : Line n
-      b = getD left 127 (line-of n last)
+      b = getD left end (line-of n last)
 
-      e : b ≡ line-of n (row buf 127)
-      e = sym (getD-take room left 127 (line-of n last) (omega arith)) ∙ row-line few (s .stored) 127 (line-of n last) (omega arith)
+      e : b ≡ line-of n (row buf end)
+      e = sym (getD-take room left end (line-of n last) (omega arith)) ∙ row-line few (s .stored) end (line-of n last) (omega arith)
 
-      after : drop room left ≡ rest n P (line-of n (row buf 127))
-      after = sym (above-after (ltL n) (strict n) (line-of n last) b (lines n P) (take 127 left) (drop room left)
-          (split-at left 127 (line-of n last) (omega (arith, filled-few)))) ∙ ap (rest n P) e
+      after : drop room left ≡ rest n P (line-of n (row buf end))
+      after = sym (above-after (ltL n) (strict n) (line-of n last) b (lines n P) (take end left) (drop room left)
+          (split-at left end (line-of n last) (omega (arith, filled-few)))) ∙ ap (rest n P) e
 
 pub lines-few : {P : Cue} {M : Marks} {stars lags needs : List (List ℕ)} → Drawable (M .triggers) P M stars lags needs →
     length (lines (M .triggers) P) ≤ most-lines

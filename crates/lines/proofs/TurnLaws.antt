@@ -13,7 +13,7 @@ use Rattle.cue.proofs.WrittenLaws.{list-words-length}
 use Rattle.tables.specs.Lines.{line-of, Sized}
 use Rattle.candidates.specs.declared.Marks.{Marks}
 use Rattle.tables.proofs.LineLaws.{blank, sized-none}
-use Rattle.buffer.specs.Buffer.{room, row, held}
+use Rattle.buffer.specs.Buffer.{room, end, row, held}
 use Rattle.buffer.specs.Space.{laid}
 use Rattle.candidates.specs.Drawable.{Drawable}
 use Rattle.gather.specs.Gathering.{rest, Filled}
@@ -81,7 +81,7 @@ module _ {M : Marks} {stars lags needs : List (List ℕ)} where
       all-held = filled-all (g .few) (s P g)
 
       full-held : room ≤ len → rest (M .triggers) P (line-of (M .triggers) last) ≡
-          held (M .triggers) len buf ++ rest (M .triggers) P (line-of (M .triggers) (row buf 127))
+          held (M .triggers) len buf ++ rest (M .triggers) P (line-of (M .triggers) (row buf end))
       full-held = filled-full (g .few) (s P g)
 
       many-held : length (held (M .triggers) len buf) ≡ len
@@ -90,8 +90,8 @@ module _ {M : Marks} {stars lags needs : List (List ℕ)} where
       few-held : len ≤ length (rest (M .triggers) P (line-of (M .triggers) last))
       few-held = filled-few (g .few) (s P g)
 
-      next-sized : room ≤ len → Sized (M .triggers) (row buf 127)
-      next-sized h = row-sized (g .few) (s P g .stored) 127 (omega arith)
+      next-sized : room ≤ len → Sized (M .triggers) (row buf end)
+      next-sized h = row-sized (g .few) (s P g .stored) end (omega arith)
 
     module _ {count : ℕ} (k : Counted M stars lags needs last count) where
       pub counted-few : {P : Cue} → Drawable (M .triggers) P M stars lags needs → count + len ≤ most-lines
@@ -101,14 +101,14 @@ module _ {M : Marks} {stars lags needs : List (List ℕ)} where
       counted-end h P g = omega (arith, k .counted P g, ap length (all-held g h), many-held g)
 
       pub counted-more : {P : Cue} → Drawable (M .triggers) P M stars lags needs → room ≤ len →
-          Counted M stars lags needs (row buf 127) (count + len)
+          Counted M stars lags needs (row buf end) (count + len)
       counted-more f h = record {
         sized = next-sized f h;
         counted = λ P g. omega (
           arith,
           k .counted P g,
           ap length (full-held g h),
-          length-append (held (M .triggers) len buf) (rest (M .triggers) P (line-of (M .triggers) (row buf 127))),
+          length-append (held (M .triggers) len buf) (rest (M .triggers) P (line-of (M .triggers) (row buf end))),
           many-held g,
         );
       }
@@ -149,7 +149,7 @@ module _ {M : Marks} {stars lags needs : List (List ℕ)} where
           writing-end k = more-words ∙ ap (λ L. laid before 0 (list-words (M .triggers) L))
               (ap (λ L. written ++ L) (all-held g k) ∙ w .written P g h .parts)
 
-          laid-full : room ≤ len → Laid (M .triggers) P (row buf 127) before after (at + line-size * len)
+          laid-full : room ≤ len → Laid (M .triggers) P (row buf end) before after (at + line-size * len)
           laid-full k = record {
             done = written ++ held (M .triggers) len buf;
             parts = append-assoc written (held (M .triggers) len buf) _ ∙ ap (λ L. written ++ L) (sym (full-held g k)) ∙ w .written P g h .parts;
@@ -159,7 +159,7 @@ module _ {M : Marks} {stars lags needs : List (List ℕ)} where
 
       pub writing-more : {P : Cue} → Drawable (M .triggers) P M stars lags needs → room ≤ len → {after : List ℤ} →
           length after ≡ length out → after ≡ laid out at (list-words (M .triggers) (held (M .triggers) len buf)) →
-          Writing M stars lags needs (row buf 127) before after (at + line-size * len)
+          Writing M stars lags needs (row buf end) before after (at + line-size * len)
       writing-more f k z e = record {
         sized = next-sized f k;
         size = z ∙ w .size;

@@ -19,7 +19,7 @@ pub fn count_lines(
     ensures { λ r. ⌜ ((P : Cue) → Drawable (marks .triggers) P marks (now (star .entry)) (now (lag .entry)) (now (needs .entry)) →
         r ≡ length (lines (marks .triggers) P)) ⌝ }
 {
-    let mut buf = [[0u64; 6]; 128];
+    let mut buf = [[0u64; 6]; ROOM];
     let mut last = LineWords {
         count: marks.triggers,
         at: [0u64; 6],

@@ -37,7 +37,7 @@ pub fn list(
     ensures { λ r. ⌜ ((P : Cue) → Drawable (marks .triggers) P marks (now (star .entry)) (now (lag .entry)) (now (needs .entry)) →
         Answers (marks .triggers) (lines (marks .triggers) P) room (now (out .entry)) (now (out .exit)) r) ⌝ }
 {
-    let mut buf = [[0u64; 6]; 128];
+    let mut buf = [[0u64; 6]; ROOM];
     let n = marks.triggers;
     let none = LineWords {
         count: n,

@@ -36,7 +36,7 @@ fn write_line(out: &mut [i32], at: usize, line: LineWords)
 }
 
 // Those of the lines that the buffer holds.
-pub fn write_held(out: &mut [i32], at: usize, buf: &[[u64; 6]; 128], len: usize, n: usize)
+pub fn write_held(out: &mut [i32], at: usize, buf: &[[u64; 6]; ROOM], len: usize, n: usize)
     requires { ⌜ (n ≤ size-limit) × (len ≤ room) × (length (now buf) ≡ room) × (at + line-size * len ≤ length (now out))
         × ((w : List ℕ) → In w (take len (now buf)) → Sized n w × CloselyV n line-down w) ⌝ }
     ensures { λ r. ⌜ now (out .exit) ≡ laid (now (out .entry)) at (list-words n (held n len (now (buf .entry)))) ⌝ }
@@ -67,7 +67,7 @@ pub fn write_lines(
         line-size * length (lines (marks .triggers) P) ≤ length (now (out .entry)) →
         now (out .exit) ≡ laid (now (out .entry)) 0 (list-words (marks .triggers) (lines (marks .triggers) P))) ⌝ }
 {
-    let mut buf = [[0u64; 6]; 128];
+    let mut buf = [[0u64; 6]; ROOM];
     let mut last = LineWords {
         count: marks.triggers,
         at: [0u64; 6],
