@@ -14,3 +14,4 @@ pub mod LayoutLaws
 pub mod CombinationLaws
 pub mod Pigeon
 pub mod StarLaws
+pub mod WaysLaws
