@@ -108,11 +108,27 @@ below-supL l f h = record {
 above-⊕ : {k : ℕ} (a b : E) → Above k a → Above k b → Above k (a ⊕ b)
 above-⊕ a b h i = elim (⊕-or a b) [ inl e ↦ rw e h | inr e ↦ rw e i ]
 
+below-⊕ : {k : ℕ} (a b : E) → Below k a → Below k b → Below k (a ⊕ b)
+below-⊕ a b h i = elim (⊕-or a b) [ inl e ↦ rw e h | inr e ↦ rw e i ]
+
 idm-above : (i j : ℕ) → Above 0 (idm i j)
 idm-above i j = elim (idm-or i j) [ inl e ↦ rw e (above-num (pos 0) (omega arith)) | inr e ↦ rw e (above-absent 0) ]
 
 idm-below : (i j : ℕ) → Below 0 (idm i j)
 idm-below i j = elim (idm-or i j) [ inl e ↦ rw e (below-num (pos 0) (omega arith)) | inr e ↦ rw e (below-absent 0) ]
+
+-- joined with power 0 an entry lies no further from 0, joined with the sum of two that lie as far at most twice as far
+pub within-unit : {k : ℕ} (i j : ℕ) (a : E) → Within k k a → Within k k (idm i j ⊕ a)
+within-unit i j a w = record {
+  low = above-⊕ (idm i j) a (above-more (omega arith) (idm-above i j)) (w .low);
+  high = below-⊕ (idm i j) a (below-more (omega arith) (idm-below i j)) (w .high);
+}
+
+pub within-passed : {k : ℕ} (a b c : E) → Within k k a → Within k k b → Within k k c → Within (k + k) (k + k) (a ⊕ b ⊗ c)
+within-passed a b c u v w = record {
+  low = above-⊕ a (b ⊗ c) (above-more (omega arith) (u .low)) (above-⊗ b c (v .low) (w .low));
+  high = below-⊕ a (b ⊗ c) (below-more (omega arith) (u .high)) (below-⊗ b c (v .high) (w .high));
+}
 
 pub times-le : (k m L : ℕ) → k ≤ m → k * L ≤ m * L
 times-le k m L h = mul-le-mul-right L h

@@ -57,6 +57,9 @@ unfolding _⊕_
 pub ⊕-lub : {a b c : E} → a ≼ c → b ≼ c → a ⊕ b ≼ c
 ⊕-lub {a} {b} {c} h k = elim (⊕-or a b) [ inl e ↦ rw e h | inr e ↦ rw e k ]
 
+pub ⊕-comm : (a b : E) → a ⊕ b ≡ b ⊕ a
+⊕-comm a b = ≼-anti (⊕-lub (⊕-r b a) (⊕-l b a)) (⊕-lub (⊕-r a b) (⊕-l a b))
+
 pub ⊗-mono : {a b c d : E} → a ≼ b → c ≼ d → a ⊗ c ≼ b ⊗ d
 unfolding _⊗_
 ⊗-mono {a = absent} {b} {c} {d} h k = record { un = tt }

@@ -13,7 +13,7 @@ use Rattle.maxplus.specs.Entry.{E, _⊕_}
 use Rattle.maxplus.specs.Tables.{sup}
 use Rattle.words.specs.Words.{entry}
 use Rattle.words.proofs.Laws.{entry-zero}
-use Rattle.tables.specs.Held.{cell, Says}
+use Rattle.tables.specs.Held.{cell, Says, Square}
 
 -- ---- the answer of a test that is tested
 pub says-yes : {P : Type 0} (b : Bool) → not b ≡ false → Says P b → P
@@ -63,10 +63,6 @@ module _ {A : Type 0} (Q : ℕ → A → Type 0) (d : A) where
   }
 
 -- ---- a table of six by six, of which n columns are written
-pub record Square (r : List (List ℕ)) : Type 0 where
-  pub rows : length r ≡ 6
-  pub row : (a : ℕ) → a < 6 → length (getD r a []) ≡ 6
-
 abbrev pub put : List (List ℕ) → ℕ → ℕ → ℕ → List (List ℕ)
 put r i j v = set r i (set (getD r i []) j v)
 

@@ -18,6 +18,11 @@ meant t i j = entry (cell t i j)
 unfoldable pub meantV : List ℕ → Vec
 meantV w j = entry (getD w j 0)
 
+-- six by six words
+pub record Square (t : List (List ℕ)) : Type 0 where
+  pub rows : length t ≡ 6
+  pub row : (i : ℕ) → i < 6 → length (getD t i []) ≡ 6
+
 -- the first m rows and n columns are A's, the first n places x's
 pub record Holds (m n : ℕ) (A : Mat) (t : List (List ℕ)) : Type 0 where
   pub at : (i j : ℕ) → i < m → j < n → meant t i j ≡ A i j

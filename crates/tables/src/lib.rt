@@ -6,7 +6,7 @@ ghost use lib.ListN.{length, getD};
 ghost use Rattle.maxplus.specs.Entry.{_⊗_, _⊕_};
 ghost use Rattle.maxplus.specs.Tables.{sup, mm, idm};
 ghost use Rattle.words.specs.Words.{entry, far, Near};
-ghost use Rattle.tables.specs.Held.{cell, meant, meantV, Holds, HoldsV, Closely, CloselyV, Raised};
+ghost use Rattle.tables.specs.Held.{Square, cell, meant, meantV, Holds, HoldsV, Closely, CloselyV, Raised};
 ghost use Rattle.cue.specs.Sizes.{size-limit};
 use rows::Row;
 
@@ -56,7 +56,7 @@ fn unit_at(i: usize, j: usize) -> u64
 // The larger of two tables, entry by entry.
 pub fn joined(a: &[[u64; 6]; 6], b: &[[u64; 6]; 6], n: usize) -> [[u64; 6]; 6]
     requires { ⌜ n ≤ size-limit ⌝ }
-    ensures { λ r. ⌜ Holds n n (λ i j. meant (now (a .entry)) i j ⊕ meant (now (b .entry)) i j) r ⌝ }
+    ensures { λ r. ⌜ Square r × Holds n n (λ i j. meant (now (a .entry)) i j ⊕ meant (now (b .entry)) i j) r ⌝ }
 {
     let blank = [0u64; 6];
     let mut r = [blank; 6];

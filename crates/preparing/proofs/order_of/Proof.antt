@@ -35,7 +35,7 @@ returns-2 c =
     let a : tie.After-table = search in
     let l : tie.After-table2 = search in
     let p : tie.After-product = search in
-    λ s W hl. orders-joined W (afters-of W (a .table .ensures)) (lands-of W (l .table2 .ensures)) hl (p .product .ensures) (c .joined .ensures)
+    λ s W hl. orders-joined W (afters-of W (a .table .ensures)) (lands-of W (l .table2 .ensures)) hl (p .product .ensures) (c .joined .ensures .1)
 
 pub order-of-spec : {M : Type 1} → statement M
 order-of-spec = tie.close (tie.spec table-requires returns table-requires-2 product-requires joined-requires returns-2)

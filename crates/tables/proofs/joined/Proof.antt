@@ -91,7 +91,7 @@ loop-again c = (omega arith, rows-more _ _ _ _ _ (omega arith) (c .before .loop2
 
 returns : tie.Need-returns Inv-loop2 μ-loop2 Inv-loop μ-loop
 unfolding meant
-returns c = record { at = λ i j p q. c .before .loop .inv .1 .done i j (omega arith) q }
+returns c = let r = c .before .loop .inv .1 in (r .square, record { at = λ i j p q. r .done i j (omega arith) q })
 
 pub joined-spec : {M : Type 1} → statement M
 joined-spec =
