@@ -28,12 +28,11 @@ use Rattle.reading.specs.declared.Reading.{Reading}
 use Rattle.reading.proofs.Refusals.{refusal-numbered}
 use Rattle.rows.specs.declared.Row.{Row}
 use Rattle.tables.specs.Held.{meant, Holds, HoldsV, Closely}
-use Rattle.tables.proofs.SquareLaws.{closely-within, closely-more}
+use Rattle.tables.proofs.SquareLaws.{closely-within, closely-more, mm-held}
 use Rattle.spares.specs.Using.{tied, PlacesOf, PickedTables}
 use Rattle.spares.specs.declared.Places.{Places}
 use Rattle.moments.specs.declared.Moments.{Moments}
 use Rattle.moments.specs.Moments.{MomentsOf}
-use Rattle.order.proofs.OrderLaws.{mm-held}
 use Rattle.order.specs.Closed.{Closed}
 use Rattle.preparing.specs.declared.CueWords.{CueWords}
 use Rattle.preparing.specs.declared.Marked.{Marked}

@@ -34,8 +34,7 @@ use Rattle.maxplus.specs.Finite.{byte-of}
 use Rattle.trigger_sets.specs.Sets.{bit}
 use Rattle.trigger_sets.proofs.ByteLaws.{byte-ext, byte-small, byte-bit}
 use Rattle.thresholds.specs.Thresholds.{reaches, kept-of, KeptBytes, floored}
-use Rattle.tables.proofs.SquareLaws.{close-within, closely-within, closely-withinV}
-use Rattle.order.proofs.OrderLaws.{mm-held}
+use Rattle.tables.proofs.SquareLaws.{close-within, closely-within, closely-withinV, mm-held}
 use Rattle.preparing.specs.declared.CueWords.{CueWords}
 use Rattle.preparing.specs.Prepared.{HoldsCue}
 use Rattle.cue.specs.Sizes.{size-limit}

@@ -142,8 +142,7 @@ pub fn closed_tables(
     if !order::closed(order, star, n) {
         return false;
     }
-    let throughs = tables::product(lag, star, cue.panels, n, n);
-    *through = throughs;
+    *through = tables::product(lag, star, cue.panels, n, n);
     true
 }
 

@@ -1,5 +1,5 @@
--- Laws of the unit table's words, and of bounds on words as bounds on entries.
-use mathlib.Core.Path.{_≡_, refl, _∙_}
+-- Laws of the unit table's words, of bounds on words as bounds on entries, and of products.
+use mathlib.Core.Path.{_≡_, refl, ap₂, _∙_}
 use mathlib.Core.Bool.{false}
 use mathlib.Core.Logic.{inl, inr}
 use mathlib.Core.List.{List}
@@ -10,8 +10,9 @@ use native.Mathlib.Decide.{ℕ-discrete}
 use lib.ListN.{length, getD, set, length-set, replicate}
 use lib.Seq.{getD-set-same, getD-set-other}
 use Rattle.maxplus.specs.Entry.{E, absent, num, _⊗_, _⊕_, unit, present?}
-use Rattle.maxplus.specs.Tables.{sup, Vec, Mat, idm}
+use Rattle.maxplus.specs.Tables.{sup, Vec, Mat, mm, idm}
 use Rattle.maxplus.proofs.EntryLaws.{≼-refl, ≼-anti, ≼-absent, ≼-back, ⊕-r, ⊕-lub, ⊗-nothing, num-inj}
+use Rattle.maxplus.proofs.SupLaws.{sup-ext}
 use Rattle.maxplus.proofs.TableLaws.{idm-same, idm-eq, idm-or}
 use Rattle.words.specs.Words.{word, entry, Close}
 use Rattle.words.proofs.Laws.{entry-word, entry-zero, close-of, of-close, close-more}
@@ -105,3 +106,9 @@ closely-moreV h k = record { at = λ j hj. close-more h (k .at j hj) }
 -- the rows down to row i
 pub closely-part : {m n c d : ℕ} {t : List (List ℕ)} (i : ℕ) → i < m → c ≤ d → Closely m n c t → Closely (i + 1) n d t
 closely-part i h l k = record { at = λ a b p q. close-more l (k .at a b (omega arith) q) }
+
+-- a product of tables that are held
+pub mm-held : {m k n : ℕ} {A B : Mat} {a b r : List (List ℕ)} → Holds m k A a → Holds k n B b →
+    Holds m n (mm k (meant a) (meant b)) r → Holds m n (mm k A B) r
+unfolding mm
+mm-held {k} h g e = record { at = λ i j hi hj. e .at i j hi hj ∙ sup-ext k (λ l hl. ap₂ _⊗_ (h .at i l hi hl) (g .at l j hl hj)) }
