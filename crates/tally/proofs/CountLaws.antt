@@ -6,18 +6,17 @@ use native.Mathlib.Omega.{arith}
 use native.Mathlib.Decide.{ℕ-discrete}
 use lib.Bits.{bitAnd}
 use lib.Count.{trailingZeros}
-use lib.ListN.{length, getD, set, replicate, getD-replicate, length-set, length-append}
+use lib.ListN.{length, getD, set, replicate, length-set, length-append}
 use lib.Seq.{getD-set-same, getD-set-other}
 use Rattle.tables.proofs.Loops.{blank-word}
 use Rattle.trigger_sets.specs.Sets.{members}
-use Rattle.walk.specs.Trace.{Event, fixing, whole, forEach, cut, serves, walkFrom, walkOf, fixings, selections, Masks}
+use Rattle.walk.specs.Trace.{Event, fixing, whole, forEach, cut, serves, walkFrom, walkOf, fixings, selections}
 use Rattle.walk.specs.State.{countsOf}
 use Rattle.walk.specs.declared.Counts.{Counts}
 use Rattle.trigger_sets.proofs.MemberLaws.{members-split, members-none, members-few}
-use Rattle.walk.proofs.NarrowLaws.{cut-small}
 use Rattle.walk.proofs.TraceLaws.{fixings-append, selections-append, selections-few}
 use Rattle.walk.proofs.Whole.{forEach-few, levels-few, most, most-few}
-use Rattle.tally.specs.Counting.{row, SameFrom, CutBelow, ahead, tried, Remembered, CountReady, Counted}
+use Rattle.tally.specs.Counting.{digit, left, Speaks, behind, ahead, tried, Remembered, CountReady, Counted}
 use Rattle.cue.specs.Sizes.{size-limit}
 
 -- ---- as many fixings and as many selections
@@ -64,85 +63,33 @@ fixings-few (fixing ∷ es) = let r = fixings-few es in omega arith
 fixings-few (whole q ∷ es) = let r = fixings-few es in omega arith
 
 module _ (gains : List (List ℕ)) (f : ℕ) where
-  module _ (few : f ≤ size-limit) {l : ℕ} (hl : l < f) (masks : List ℕ) where
+  module _ (few : f ≤ size-limit) {l : ℕ} (hl : l < f) (w : ℕ) where
     -- ---- a level's triggers, one after the other
-    pub ahead-tried : ahead gains f l masks ≡ tried gains f l masks (getD masks l 0)
+    pub ahead-tried : ahead gains f l w ≡ tried gains f l w (digit w 0)
     unfolding ahead tried walkFrom
-    ahead-tried = let e : f - l ≡ suc (f - (l + 1)) = omega arith in let s : l + 1 ≡ suc l = omega arith in rw (e, s)
+    ahead-tried =
+        let e : f - l ≡ suc (f - (l + 1)) = omega arith in let s : l + 1 ≡ suc l = omega arith in let z : l - l ≡ 0 = omega arith in rw (e, s, z)
 
-    pub tried-none : tried gains f l masks 0 ≡ []
+    pub tried-none : tried gains f l w 0 ≡ []
     unfolding tried forEach
     tried-none = rw members-none
 
     -- what happens below trigger j of the level
     abbrev under : ℕ → List Event
-    under j = walkFrom gains (f - (l + 1)) (l + 1) (λ k. cut j (serves gains l j k) (getD masks k 0)) (j ∷ [])
+    under j = walkFrom gains (f - (l + 1)) (l + 1) (behind gains l w j) (j ∷ [])
 
     tried-more : (m : ℕ) → 0 < m → m < 64 →
-        tried gains f l masks m ≡ fixing ∷ under (trailingZeros 8 m) ++ tried gains f l masks (bitAnd m (m - 1))
+        tried gains f l w m ≡ fixing ∷ under (trailingZeros 8 m) ++ tried gains f l w (bitAnd m (m - 1))
     unfolding tried forEach
     tried-more m h k = rw (members-split m h k)
 
-    tried-few : (m : ℕ) → length (tried gains f l masks m) ≤ 615858
+    tried-few : (m : ℕ) → length (tried gains f l w m) ≤ 615858
     unfolding tried
     tried-few m =
         let k = most-few (f - (l + 1)) (omega arith) in
         let r = forEach-few 6 (suc (most (f - (l + 1)))) (members m) (λ j. fixing ∷ under j) (members-few m)
-        (λ j. let r = levels-few gains (f - (l + 1)) (l + 1) (λ k. cut j (serves gains l j k) (getD masks k 0)) (j ∷ []) in omega arith) in
+        (λ j. let r = levels-few gains (f - (l + 1)) (l + 1) (behind gains l w j) (j ∷ []) in omega arith) in
         omega arith
-
--- ---- the loops: the levels from l up to k have been compared, and cut
-pub record SameTo (a b : List ℕ) (l k : ℕ) : Type 0 where
-  pub from : l ≤ k
-  pub at : (i : ℕ) → l ≤ i → i < k → getD a i 0 ≡ getD b i 0
-
-pub same-start : (a b : List ℕ) (l : ℕ) → SameTo a b l l
-same-start a b l = record { from = omega arith; at = λ i h k. let e : ⊥ = omega arith in absurd e }
-
-pub same-more : {a b : List ℕ} {l k : ℕ} → SameTo a b l k → getD a k 0 ≡ getD b k 0 → SameTo a b l (k + 1)
-same-more {k = k} s e = record {
-  from = omega (arith, s .from);
-  at = λ i h j. elim (ℕ-discrete i k) [ yes d ↦ rw d e | no d ↦ s .at i h (omega arith) ];
-}
-
-pub same-end : {a b : List ℕ} {l k : ℕ} → SameTo a b l k → 6 ≤ k → SameFrom a b l
-same-end s h = record { at = λ i j k. s .at i j (omega arith) }
-
-pub not-same : {a b : List ℕ} {l k : ℕ} → SameTo a b l k → k < 6 → ¬ (getD a k 0 ≡ getD b k 0) → ¬ (SameFrom a b l)
-not-same {k = k} s h d f = d (f .at k (s .from) h)
-
--- a list whose entries are all below a bound stays so
-set-below : (b : ℕ) (l : List ℕ) (i v : ℕ) → ((k : ℕ) → getD l k 0 < b) → v < b → (k : ℕ) → getD (set l i v) k 0 < b
-set-below b [] i v h hv k = h k
-set-below b (a ∷ l) zero v h hv zero = hv
-set-below b (a ∷ l) zero v h hv (suc k) = h (suc k)
-set-below b (a ∷ l) (suc i) v h hv zero = h 0
-set-below b (a ∷ l) (suc i) v h hv (suc k) = set-below b l i v (λ k. h (suc k)) hv k
-
-pub record CutTo (gains : List (List ℕ)) (masks : List ℕ) (l j : ℕ) (r : List ℕ) (k : ℕ) : Type 0 where
-  pub from : l < k
-  pub size : length r ≡ 6
-  pub small : Masks r
-  pub at : (i : ℕ) → l < i → i < k → getD r i 0 ≡ cut j (serves gains l j i) (getD masks i 0)
-
-module _ {gains : List (List ℕ)} {masks : List ℕ} {l j : ℕ} where
-  pub cut-start : length masks ≡ 6 → Masks masks → CutTo gains masks l j masks (l + 1)
-  cut-start z s = record { from = omega arith; size = z; small = s; at = λ i h k. let e : ⊥ = omega arith in absurd e }
-
-  pub cut-more : {r : List ℕ} {k v : ℕ} → k < 6 → j < 6 → Masks masks → CutTo gains masks l j r k →
-      v ≡ cut j (serves gains l j k) (getD masks k 0) → CutTo gains masks l j (set r k v) (k + 1)
-  cut-more {r} {k} {v} h hj s c e = record {
-    from = omega (arith, c .from);
-    size = simp length-set (c .size);
-    small = set-below 64 r k v (c .small) (rw e (cut-small j (serves gains l j k) (getD masks k 0) hj (s k)));
-    at = λ i a b. elim (ℕ-discrete i k) [
-      | yes d ↦ rw d (getD-set-same r k v 0 (rw (c .size) h) ∙ e)
-      | no d ↦ getD-set-other r k i v 0 d ∙ c .at i a (omega arith)
-    ];
-  }
-
-  pub cut-end : {r : List ℕ} {k : ℕ} → CutTo gains masks l j r k → 6 ≤ k → CutBelow gains masks l j r
-  cut-end c h = record { size = c .size; small = c .small; at = λ i a b. c .at i a (omega arith) }
 
 -- ---- no trigger is left anywhere: nothing happens
 zero-at : (l : ℕ) → _≡_ {A = ℕ} (getD (replicate 6 0) l 0) 0
@@ -152,45 +99,44 @@ counts-eq : {r s : Counts} → r .steps ≡ s .steps → r .selections ≡ s .se
 counts-eq {r} {s} e h = ap₂ (λ (a b : ℕ). record { steps = a; selections = b }) e h
 
 module _ {gains : List (List ℕ)} {f : ℕ} where
-  pub remembered-start : f ≤ size-limit → Remembered gains f (replicate 6 (replicate 6 0)) (replicate 6 0) (replicate 6 0)
+  pub remembered-start : f ≤ size-limit → Remembered gains f (replicate 6 0) (replicate 6 0) (replicate 6 0)
   remembered-start few = record {
     size = (refl, refl, refl);
-    at = λ l h. let z : row (replicate 6 (replicate 6 0)) l ≡ replicate 6 0 = getD-replicate 6 l (replicate 6 0) [] (omega arith) in
-        let e : ahead gains f l (row (replicate 6 (replicate 6 0)) l) ≡ [] = ap (ahead gains f l) z ∙ ahead-tried gains f few h (replicate 6 0) ∙
-        ap (tried gains f l (replicate 6 0)) (zero-at l) ∙ tried-none gains f few h (replicate 6 0) in (
-          zero-at l ∙ sym (ap fixings e ∙ (unfold fixings in refl)),
-          zero-at l ∙
-              sym (ap (λ es. length (selections es)) e ∙ (unfold selections in refl)),
-        );
+    at = λ l h. let e : ahead gains f l (getD (replicate 6 0) l 0) ≡ [] = ap (ahead gains f l) (zero-at l) ∙ nothing l h in (
+      zero-at l ∙ sym (ap fixings e ∙ (unfold fixings in refl)),
+      zero-at l ∙ sym (ap (λ es. length (selections es)) e ∙ (unfold selections in refl)),
+    );
   }
+    where
+      none : digit 0 0 ≡ 0
+      none = unfold digit in refl
+
+      nothing : (l : ℕ) → l < f → ahead gains f l 0 ≡ []
+      nothing l h = ahead-tried gains f few h 0 ∙ ap (tried gains f l 0) none ∙ tried-none gains f few h 0
 
   -- ---- from a level on
-  module _ {seen : List (List ℕ)} {steps sels masks : List ℕ} (y : CountReady gains f seen steps sels masks) where
-    pub counted-whole : {l : ℕ} → l ≡ f → Counted gains f (ahead gains f l masks) (record { steps = 0; selections = 1 }) seen steps sels
+  module _ {seen steps sels : List ℕ} (y : CountReady gains f seen steps sels) where
+    pub counted-whole : {l : ℕ} (w : ℕ) → l ≡ f → Counted gains f (ahead gains f l w) (record { steps = 0; selections = 1 }) seen steps sels
     unfolding ahead walkFrom
-    counted-whole {l} e = let z : f - l ≡ 0 = omega arith in record {
+    counted-whole {l} w e = let z : f - l ≡ 0 = omega arith in record {
       steps-are = rw z (unfold fixings in refl);
       selections-are = rw z (unfold selections in refl);
       remembered = y .remembered;
     }
 
-    pub counted-again : {l : ℕ} → l < f → SameFrom (row seen l) masks l →
-        Counted gains f (ahead gains f l masks) (record { steps = getD steps l 0; selections = getD sels l 0 }) seen steps sels
-    unfolding ahead
+    pub counted-again : {l w : ℕ} → l < f → getD seen l 0 ≡ w →
+        Counted gains f (ahead gains f l w) (record { steps = getD steps l 0; selections = getD sels l 0 }) seen steps sels
     counted-again {l} h e = record {
-      steps-are = y .remembered .at l h .0 ∙ (unfold ahead in same .steps);
-      selections-are = y .remembered .at l h .1 ∙ (unfold ahead in same .sels);
+      steps-are = y .remembered .at l h .0 ∙ ap (λ w. fixings (ahead gains f l w)) e;
+      selections-are = y .remembered .at l h .1 ∙ ap (λ w. length (selections (ahead gains f l w))) e;
       remembered = y .remembered;
     }
-      where
-        same : Alike (walkFrom gains (f - l) l (λ k. getD (row seen l) k 0) []) (walkFrom gains (f - l) l (λ k. getD masks k 0) [])
-        same = walk-alike gains (f - l) l _ _ [] [] (λ k a b. e .at k a (omega (arith, y .few)))
 
   -- a level has been worked out, and is remembered
-  pub counted-level : {l : ℕ} (masks : List ℕ) {c : Counts} {seen : List (List ℕ)} {steps sels : List ℕ} → f ≤ size-limit → l < f →
-      Counted gains f (tried gains f l masks (getD masks l 0)) c seen steps sels →
-      Counted gains f (ahead gains f l masks) c (set seen l masks) (set steps l (c .steps)) (set sels l (c .selections))
-  counted-level {l} masks {c} {seen} {steps} {sels} few h t = record {
+  pub counted-level : {l : ℕ} (w : ℕ) {c : Counts} {seen steps sels : List ℕ} → f ≤ size-limit → l < f →
+      Counted gains f (tried gains f l w (digit w 0)) c seen steps sels →
+      Counted gains f (ahead gains f l w) c (set seen l w) (set steps l (c .steps)) (set sels l (c .selections))
+  counted-level {l} w {c} {seen} {steps} {sels} few h t = record {
     steps-are = t .steps-are ∙ ap fixings (sym e);
     selections-are = t .selections-are ∙ ap (λ es. length (selections es)) (sym e);
     remembered = record {
@@ -198,56 +144,56 @@ module _ {gains : List (List ℕ)} {f : ℕ} where
       at = λ k hk. elim (ℕ-discrete k l) [
         | yes d ↦ rw (
           d,
-          getD-set-same seen l masks [] (omega (arith, z .0)),
+          getD-set-same seen l w 0 (omega (arith, z .0)),
           getD-set-same steps l (c .steps) 0 (omega (arith, z .1)),
           getD-set-same sels l (c .selections) 0 (omega (arith, z .2)),
           e,
         ) (t .steps-are, t .selections-are)
-        | no d ↦ rw (getD-set-other seen l k masks [] d, getD-set-other steps l k (c .steps) 0 d, getD-set-other sels l k (c .selections) 0 d)
+        | no d ↦ rw (getD-set-other seen l k w 0 d, getD-set-other steps l k (c .steps) 0 d, getD-set-other sels l k (c .selections) 0 d)
             (t .remembered .at k hk)
       ];
     };
   }
     where
-      e : ahead gains f l masks ≡ tried gains f l masks (getD masks l 0)
-      e = ahead-tried gains f few h masks
+      e : ahead gains f l w ≡ tried gains f l w (digit w 0)
+      e = ahead-tried gains f few h w
 
       z : (length seen ≡ 6) × (length steps ≡ 6) × (length sels ≡ 6)
       z = t .remembered .size
 
   -- ---- a level's triggers: none, and one before the others
-  pub counted-none : {l : ℕ} (masks : List ℕ) {seen : List (List ℕ)} {steps sels : List ℕ} → f ≤ size-limit → l < f →
-      Remembered gains f seen steps sels → Counted gains f (tried gains f l masks 0) (record { steps = 0; selections = 0 }) seen steps sels
-  counted-none {l} masks few h r = record {
-    steps-are = sym (ap fixings (tried-none gains f few h masks) ∙ (unfold fixings in refl));
-    selections-are = sym (ap (λ es. length (selections es)) (tried-none gains f few h masks) ∙ (unfold selections in refl));
+  pub counted-none : {l : ℕ} (w : ℕ) {seen steps sels : List ℕ} → f ≤ size-limit → l < f →
+      Remembered gains f seen steps sels → Counted gains f (tried gains f l w 0) (record { steps = 0; selections = 0 }) seen steps sels
+  counted-none {l} w few h r = record {
+    steps-are = sym (ap fixings (tried-none gains f few h w) ∙ (unfold fixings in refl));
+    selections-are = sym (ap (λ es. length (selections es)) (tried-none gains f few h w) ∙ (unfold selections in refl));
     remembered = r;
   }
 
-  module _ {l : ℕ} {masks cuts : List ℕ} {m : ℕ} (few : f ≤ size-limit) (h : l < f) (some : 0 < m) (small : m < 64)
-      (b : CutBelow gains masks l (trailingZeros 8 m) cuts)
-      {a c : Counts} {seen seen′ : List (List ℕ)} {steps sels steps′ sels′ : List ℕ}
+  module _ (w : ℕ) {l cuts m : ℕ} (few : f ≤ size-limit) (h : l < f) (some : 0 < m) (small : m < 64)
+      (b : Speaks (behind gains l w (trailingZeros 8 m)) (l + 1) cuts)
+      {a c : Counts} {seen seen′ steps sels steps′ sels′ : List ℕ}
       (t : Counted gains f (ahead gains f (l + 1) cuts) a seen steps sels)
-      (o : Counted gains f (tried gains f l masks (bitAnd m (m - 1))) c seen′ steps′ sels′) where
+      (o : Counted gains f (tried gains f l w (bitAnd m (m - 1))) c seen′ steps′ sels′) where
     first : List Event
-    first = under gains f few h masks (trailingZeros 8 m)
+    first = under gains f few h w (trailingZeros 8 m)
 
     others : List Event
-    others = tried gains f l masks (bitAnd m (m - 1))
+    others = tried gains f l w (bitAnd m (m - 1))
 
-    split : tried gains f l masks m ≡ fixing ∷ first ++ others
+    split : tried gains f l w m ≡ fixing ∷ first ++ others
     unfolding first others
-    split = tried-more gains f few h masks m some small
+    split = tried-more gains f few h w m some small
 
     same : Alike (ahead gains f (l + 1) cuts) first
     unfolding ahead first
     same = walk-alike gains (f - (l + 1)) (l + 1) _ _ [] _ (λ k x y. b .at k (omega arith) (omega arith))
 
-    pub more-steps : 1 + a .steps + c .steps ≡ fixings (tried gains f l masks m)
+    pub more-steps : 1 + a .steps + c .steps ≡ fixings (tried gains f l w m)
     unfolding fixings others
     more-steps = sym (ap fixings split ∙ omega (arith, fixings-append first (unfold others in others), same .steps, t .steps-are, o .steps-are))
 
-    pub more-selections : a .selections + c .selections ≡ length (selections (tried gains f l masks m))
+    pub more-selections : a .selections + c .selections ≡ length (selections (tried gains f l w m))
     unfolding selections others
     more-selections = sym (ap (λ es. length (selections es)) split ∙ omega (
       arith,
@@ -258,18 +204,25 @@ module _ {gains : List (List ℕ)} {f : ℕ} where
       o .selections-are,
     ))
 
-    pub counted-more : Counted gains f (tried gains f l masks m)
+    pub counted-more : Counted gains f (tried gains f l w m)
         (record { steps = 1 + a .steps + c .steps; selections = a .selections + c .selections }) seen′ steps′ sels′
     counted-more = record { steps-are = more-steps; selections-are = more-selections; remembered = o .remembered }
 
     -- and the sums fit
     pub steps-few : 1 + a .steps + c .steps ≤ 615858
-    steps-few = omega (arith, more-steps, fixings-few (tried gains f l masks m), tried-few gains f few h masks m)
+    steps-few = omega (arith, more-steps, fixings-few (tried gains f l w m), tried-few gains f few h w m)
 
     pub selections-fit : a .selections + c .selections ≤ 615858
-    selections-fit = omega (arith, more-selections, selections-few (tried gains f l masks m), tried-few gains f few h masks m)
+    selections-fit = omega (arith, more-selections, selections-few (tried gains f l w m), tried-few gains f few h w m)
 
-  pub counted-all : (kept : List ℕ) {r : Counts} {seen : List (List ℕ)} {steps sels : List ℕ} →
-      Counted gains f (ahead gains f 0 kept) r seen steps sels → r ≡ countsOf kept gains f
+  -- the word of all levels' triggers
+  pub counted-all : (kept : List ℕ) {seen steps sels : List ℕ} {w : ℕ} {r : Counts} → f ≤ size-limit → Speaks (λ k. getD kept k 0) 0 w →
+      Counted gains f (ahead gains f 0 w) r seen steps sels → r ≡ countsOf kept gains f
   unfolding ahead walkOf
-  counted-all kept t = let e : f - 0 ≡ f = omega arith in counts-eq (rw e at (t .steps-are)) (rw e at (t .selections-are))
+  counted-all kept {w = w} few b t = counts-eq (rw e at (t .steps-are) ∙ same .steps) (rw e at (t .selections-are) ∙ same .sels)
+    where
+      e : f - 0 ≡ f
+      e = omega arith
+
+      same : Alike (walkFrom gains f 0 (left 0 w) []) (walkFrom gains f 0 (λ k. getD kept k 0) [])
+      same = walk-alike gains f 0 _ _ [] [] (λ k x y. b .at k x (omega arith))

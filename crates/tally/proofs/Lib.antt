@@ -1,2 +1,3 @@
--- Why remembering is right.
+-- Why remembering is right, and a word for the triggers.
+pub mod WordLaws
 pub mod CountLaws

@@ -7,7 +7,8 @@ use lib.Count.{trailingZeros}
 use borrow.Fn.Kinds.{In}
 use borrow.Fn.PlainCycle.{Measures, is, falls, and}
 use Rattle.trigger_sets.proofs.MemberLaws.{low-in}
-use Rattle.tally.specs.Counting.{CutBelow, Counted, tried}
+use Rattle.tally.specs.Counting.{Speaks, behind, Counted, tried}
+use Rattle.tally.proofs.WordLaws.{digit-small}
 use Rattle.tally.proofs.CountLaws.{counted-whole, counted-again, counted-level, counted-none, counted-more, steps-few, selections-fit}
 use Rattle.tally.proofs.below.Reads as below
 use Rattle.tally.proofs.below.Kinds as below-kinds
@@ -16,14 +17,14 @@ use Rattle.tally.proofs.each.Reads as each
 use Rattle.tally.proofs.each.Kinds as each-kinds
 use Rattle.tally.proofs.+below+each.Lts-each as each-lts
 use Rattle.tally.proofs.cut_below.Reads as cut-below-reads
-use Rattle.tally.proofs.same_from.Reads as same-from-reads
+use Rattle.tally.proofs.left_at.Reads as left-at-reads
 use Rattle.trigger_sets.proofs.wide.Reads as wide-reads
 use Rattle.trigger_sets.proofs.low.Reads as low-reads
 use Rattle.trigger_sets.proofs.others.Reads as others-reads
 use Rattle.tally.proofs.+below+each.{statement}
 use Rattle.tally.proofs.+below+each.Tie.{close}
 
--- the arguments are seen, steps, selections, then (b) level, masks, then panels, or m and panels
+-- the arguments are seen, steps, selections, then (b) level, left, then panels, or m and panels
 abbrev μ-below : Measures 4 below-kinds.ps ℕ
 μ-below κs a = let b = a .1 .1 .1 in 65 * (b .1 .1 .0 - b .0)
 
@@ -44,7 +45,7 @@ each-below t = and 4 each-kinds.ps (falls 4 each-kinds.ps _<_ μ-each t) each.Pr
 
 -- what each may take its calls to meet
 abbrev below-claims : ℕ → below-lts.Claims
-below-claims t = (same-from-reads.Asked, same-from-reads.Learnt, each-below t, each.Post)
+below-claims t = (left-at-reads.Asked, left-at-reads.Learnt, each-below t, each.Post)
 
 abbrev each-claims : ℕ → each-lts.Claims
 each-claims t = (
@@ -106,46 +107,44 @@ inside : {t : ℕ} (c : Inner t) → c .before .args .level < 6
 inside c = omega (arith, lower c, c .before .pre .1 .0 .few)
 
 below-returns : (t : ℕ) → below-lts.Need-returns (below-claims t) (below-at t) below.Post
-below-returns t c = counted-whole (c .before .pre .1 .0) (c .if1 .taken)
+below-returns t c = counted-whole (c .before .pre .1 .0) _ (c .if1 .taken)
 
-below-mul-same-from : (t : ℕ) → below-lts.Need-mul-same-from (below-claims t) (below-at t) below.Post
-below-mul-same-from t c = omega (arith, inside c)
+below-mul-if2 : (t : ℕ) → below-lts.Need-mul-if2 (below-claims t) (below-at t) below.Post
+below-mul-if2 t c = omega (arith, inside c)
 
-below-element-copy-out-same-from : (t : ℕ) → below-lts.Need-element-copy-out-same-from (below-claims t) (below-at t) below.Post
-below-element-copy-out-same-from t c = inside c
+below-element-copy-out-if2 : (t : ℕ) → below-lts.Need-element-copy-out-if2 (below-claims t) (below-at t) below.Post
+below-element-copy-out-if2 t c = inside c
 
-below-same-from-requires : (t : ℕ) → below-lts.Need-same-from-requires (below-claims t) (below-at t) below.Post
-below-same-from-requires t c κs = tt
+below-mul-t15 : (t : ℕ) → below-lts.Need-mul-t15 (below-claims t) (below-at t) below.Post
+below-mul-t15 t c = omega (arith, inside (c .before .before))
 
-below-mul-t17 : (t : ℕ) → below-lts.Need-mul-t17 (below-claims t) (below-at t) below.Post
-below-mul-t17 t c = omega (arith, inside (c .before .before .before))
+below-element-copy-out-t18 : (t : ℕ) → below-lts.Need-element-copy-out-t18 (below-claims t) (below-at t) below.Post
+below-element-copy-out-t18 t c = inside (c .before .before)
 
-below-element-copy-out-t20 : (t : ℕ) → below-lts.Need-element-copy-out-t20 (below-claims t) (below-at t) below.Post
-below-element-copy-out-t20 t c = inside (c .before .before .before)
+below-mul-t19 : (t : ℕ) → below-lts.Need-mul-t19 (below-claims t) (below-at t) below.Post
+below-mul-t19 t c = omega (arith, inside (c .before .before .before))
 
-below-mul-t21 : (t : ℕ) → below-lts.Need-mul-t21 (below-claims t) (below-at t) below.Post
-below-mul-t21 t c = let e = c .before in omega (arith, inside (e .before .before .before))
-
-below-element-copy-out-t24 : (t : ℕ) → below-lts.Need-element-copy-out-t24 (below-claims t) (below-at t) below.Post
-below-element-copy-out-t24 t c = let e = c .before in inside (e .before .before .before)
+below-element-copy-out-t22 : (t : ℕ) → below-lts.Need-element-copy-out-t22 (below-claims t) (below-at t) below.Post
+below-element-copy-out-t22 t c = inside (c .before .before .before)
 
 below-returns-2 : (t : ℕ) → below-lts.Need-returns-2 (below-claims t) (below-at t) below.Post
-below-returns-2 t c = let f = c .before .before .before in let e = f .before .before in
-    counted-again (e .before .pre .1 .0) (lower e) (rw (c .before .before .if2 .taken) at (f .same-from .ensures))
+below-returns-2 t c = let f = c .before .before in let e = f .before .before in
+    counted-again (e .before .pre .1 .0) (lower e) (f .if2 .taken)
 
-below-array-read-each : (t : ℕ) → below-lts.Need-array-read-each (below-claims t) (below-at t) below.Post
-below-array-read-each t c = let e = c .before .before .before in inside (e .before .before .before)
+below-left-at-requires : (t : ℕ) → below-lts.Need-left-at-requires (below-claims t) (below-at t) below.Post
+below-left-at-requires t c κs = omega arith
 
 below-each-requires : (t : ℕ) → below-lts.Need-each-requires (below-claims t) (below-at t) below.Post
 below-each-requires t c κs =
     let f = c .before .before .before in let e = f .before .before .before in let (m, (y, h)) = e .before .pre in
-    let l = lower e in let s = y .small (e .before .args .level) in (omega (arith, m, l, s), (y, l, s))
+    let l = lower e in let s : f .left-at .result < 64 = rw (f .left-at .ensures) (digit-small (e .before .args .left) 0) in
+    (omega (arith, m, l, s), (y, l, s))
 
-below-mul-t12 : (t : ℕ) → below-lts.Need-mul-t12 (below-claims t) (below-at t) below.Post
-below-mul-t12 t c = omega (arith, inside (inner c))
+below-mul-seen : (t : ℕ) → below-lts.Need-mul-seen (below-claims t) (below-at t) below.Post
+below-mul-seen t c = omega (arith, inside (inner c))
 
-below-element-set-from-seen : (t : ℕ) → below-lts.Need-element-set-from-seen (below-claims t) (below-at t) below.Post
-below-element-set-from-seen t c = inside (inner c)
+below-element-write-seen : (t : ℕ) → below-lts.Need-element-write-seen (below-claims t) (below-at t) below.Post
+below-element-write-seen t c = inside (inner c)
 
 below-mul-steps : (t : ℕ) → below-lts.Need-mul-steps (below-claims t) (below-at t) below.Post
 below-mul-steps t c = omega (arith, inside (inner c))
@@ -160,18 +159,19 @@ below-element-write-selections : (t : ℕ) → below-lts.Need-element-write-sele
 below-element-write-selections t c = inside (inner c)
 
 below-returns-3 : (t : ℕ) → below-lts.Need-returns-3 (below-claims t) (below-at t) below.Post
-below-returns-3 t c = counted-level _ (inner c .before .pre .1 .0 .few) (lower (inner c)) (c .each .ensures)
+below-returns-3 t c = counted-level _ (inner c .before .pre .1 .0 .few) (lower (inner c))
+    (let e = c .before .before .before in rw (e .before .left-at .ensures) at (c .each .ensures))
 
--- what the masks are when the first trigger has been fixed
+-- what is left behind the level when the first trigger has been fixed
 cut : {t : ℕ} (c : Cut t) → let a = some c .before .args in
-    CutBelow (a .gains .now) (a .masks) (a .level) (trailingZeros 8 (a .m)) (c .cut-below .result)
+    Speaks (behind (a .gains .now) (a .level) (a .left) (trailingZeros 8 (a .m))) (a .level + 1) (c .cut-below .result)
 cut c = let a = some c .before .args in
-    subst (λ j. CutBelow (a .gains .now) (a .masks) (a .level) j (c .cut-below .result)) (c .before .wide .ensures ∙ c .before .before .low .ensures)
-    (c .cut-below .ensures)
+    subst (λ j. Speaks (behind (a .gains .now) (a .level) (a .left) j) (a .level + 1) (c .cut-below .result))
+    (c .before .wide .ensures ∙ c .before .before .low .ensures) (c .cut-below .ensures)
 
 -- what happens when the others are tried
 rest : {t : ℕ} (c : Others t) → let k = cut-one (first c) in let a = some k .before .args in
-    Counted (a .gains .now) (a .panels) (tried (a .gains .now) (a .panels) (a .level) (a .masks) (bitAnd (a .m) (a .m - 1))) (c .each .result)
+    Counted (a .gains .now) (a .panels) (tried (a .gains .now) (a .panels) (a .level) (a .left) (bitAnd (a .m) (a .m - 1))) (c .each .result)
     (c .each .last .0) (c .each .last .1 .0) (c .each .last .1 .1 .0)
 rest c = rw (split (cut-one (first c)) .others .ensures .0) at (c .each .ensures)
 
@@ -180,9 +180,9 @@ sums : {t : ℕ} (c : Others t) →
     let a = first c .below .result in let b = c .each .result in
     (1 + a .steps + b .steps ≤ 615858) × (a .selections + b .selections ≤ 615858)
 sums c =
-    let b = first c in let k = cut-one b in let e = some k in
+    let b = first c in let k = cut-one b in let e = some k in let w = e .before .args .left in
     let (y, h, s) = e .before .pre .1 in let z : 0 < e .before .args .m = omega (arith, e .if1 .left) in
-    (steps-few (y .few) h z s (cut k) (b .below .ensures) (rest c), selections-fit (y .few) h z s (cut k) (b .below .ensures) (rest c))
+    (steps-few w (y .few) h z s (cut k) (b .below .ensures) (rest c), selections-fit w (y .few) h z s (cut k) (b .below .ensures) (rest c))
 
 each-returns : (t : ℕ) → each-lts.Need-returns (each-claims t) (each-at t) each.Post
 each-returns t c = let (y, h, s) = c .before .pre .1 in rw (c .if1 .taken) (counted-none _ (y .few) h (y .remembered))
@@ -199,22 +199,21 @@ each-wide-requires t c κs = tt
 each-cut-below-requires : (t : ℕ) → each-lts.Need-cut-below-requires (each-claims t) (each-at t) each.Post
 each-cut-below-requires t c κs =
     let e = c .before .before .before in let (y, h, s) = e .before .pre .1 in let z : 0 < e .before .args .m = omega (arith, e .if1 .left) in
-    (omega (arith, h, y .few), omega (arith, c .wide .ensures, c .before .low .ensures, low-in (e .before .args .m) z s), y .small, y .size)
+    (omega (arith, h, y .few), omega (arith, c .wide .ensures, c .before .low .ensures, low-in (e .before .args .m) z s))
 
 each-add-below : (t : ℕ) → each-lts.Need-add-below (each-claims t) (each-at t) each.Post
 each-add-below t c = let k = c .before .before .before in let (y, h, s) = some k .before .pre .1 in omega (arith, h, y .few)
 
 each-below-requires : (t : ℕ) → each-lts.Need-below-requires (each-claims t) (each-at t) each.Post
 each-below-requires t c κs =
-    let k = c .before .before .before in let (m, (y, h, s)) = some k .before .pre in let b = cut k in
-    (omega (arith, m), (record { few = y .few; small = b .small; size = b .size; remembered = y .remembered }, omega (arith, h)))
+    let k = c .before .before .before in let (m, (y, h, s)) = some k .before .pre in (omega (arith, m), (y, omega (arith, h)))
 
 each-each-requires : (t : ℕ) → each-lts.Need-each-requires (each-claims t) (each-at t) each.Post
 each-each-requires t c κs =
     let b = c .before .before .before in let o = split (cut-one b) in
     let (m, (y, h, s)) = o .before .before .pre in let l = o .others .ensures .1 in (
       omega (arith, m, l),
-      (record { few = y .few; small = y .small; size = y .size; remembered = b .below .ensures .remembered }, h, omega (arith, s, l)),
+      (record { few = y .few; remembered = b .below .ensures .remembered }, h, omega (arith, s, l)),
     )
 
 each-add-t22 : (t : ℕ) → each-lts.Need-add-t22 (each-claims t) (each-at t) each.Post
@@ -230,25 +229,24 @@ each-returns-2 : (t : ℕ) → each-lts.Need-returns-2 (each-claims t) (each-at 
 each-returns-2 t c =
     let r = c .before .before in let o = r .before .before in let b = first o in let k = cut-one b in
     let e = some k in let (y, h, s) = e .before .pre .1 in
-    counted-more (y .few) h (omega (arith, e .if1 .left)) s (cut k) (b .below .ensures) (rest o)
+    counted-more (e .before .args .left) (y .few) h (omega (arith, e .if1 .left)) s (cut k) (b .below .ensures) (rest o)
 
 pub +below+each-spec : {M : Type 1} → statement M
 +below+each-spec = close μ-below μ-each (λ t. below-lts.spec (below-claims t)
     (below-at t)
     below.Post
     (below-returns t)
-    (below-mul-same-from t)
-    (below-element-copy-out-same-from t)
-    (below-same-from-requires t)
-    (below-mul-t17 t)
-    (below-element-copy-out-t20 t)
-    (below-mul-t21 t)
-    (below-element-copy-out-t24 t)
+    (below-mul-if2 t)
+    (below-element-copy-out-if2 t)
+    (below-mul-t15 t)
+    (below-element-copy-out-t18 t)
+    (below-mul-t19 t)
+    (below-element-copy-out-t22 t)
     (below-returns-2 t)
-    (below-array-read-each t)
+    (below-left-at-requires t)
     (below-each-requires t)
-    (below-mul-t12 t)
-    (below-element-set-from-seen t)
+    (below-mul-seen t)
+    (below-element-write-seen t)
     (below-mul-steps t)
     (below-element-write-steps t)
     (below-mul-selections t)

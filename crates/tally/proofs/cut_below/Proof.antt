@@ -1,21 +1,39 @@
--- `tally::cut_below` meets its contract: the levels up to `k` have been cut.
-use Prim.Native.Nat.{_-_}
+-- `tally::cut_below` meets its contract: the levels behind `k` have been cut.
+use mathlib.Core.Path.{_≡_, ap, _∙_}
+use Prim.Native.Nat.{_+_, _-_, _<_, _≤_}
 use native.Mathlib.Omega.{arith}
-use Rattle.tally.proofs.CountLaws.{CutTo, cut-start, cut-more, cut-end}
+use Rattle.walk.specs.Trace.{cut, serves}
+use Rattle.walk.proofs.NarrowLaws.{cut-small}
+use Rattle.tally.specs.Counting.{left, Speaks, behind}
+use Rattle.tally.proofs.WordLaws.{digit-small, speaks-start, speaks-more, speaks-fits}
 use Rattle.tally.proofs.cut_below.Statement.{statement}
 use Rattle.tally.proofs.cut_below.Tie as tie
 
 abbrev Inv-loop : tie.InvT-loop
-Inv-loop gains level j masks r₀ k₀ r k = CutTo gains masks level j r k
+Inv-loop w gains level j r₀ k₀ r k = Speaks (behind gains level w j) (k + 1) r × (level ≤ k)
 
 abbrev μ-loop : tie.MeasureT-loop
-μ-loop gains level j masks r₀ k₀ r k = 6 - k
+μ-loop w gains level j r₀ k₀ r k = k
 
-add-k : tie.Need-add-k Inv-loop μ-loop
-add-k c = omega arith
+-- the loop's place, and its level's triggers when they have been cut
+abbrev at-loop : tie.After-cut-by Inv-loop μ-loop → tie.At-loop Inv-loop μ-loop
+at-loop c = let s = c .before .before .before in s .before .before
+
+top : (l : tie.At-loop Inv-loop μ-loop) → l .loop .k < 6
+top l = omega (arith, l .loop .inv .0 .from)
+
+cut-one : (c : tie.After-cut-by Inv-loop μ-loop) → let l = at-loop c in let a = l .before .args in
+    c .cut-by .result ≡ behind (a .gains .now) (a .level) (a .left) (a .j) (l .loop .k)
+cut-one c = let l = at-loop c in let a = l .before .args in
+    c .cut-by .ensures ∙ ap (cut (a .j) (serves (a .gains .now) (a .level) (a .j) (l .loop .k))) (c .before .left-at .ensures)
+
+small : (c : tie.After-cut-by Inv-loop μ-loop) → c .cut-by .result < 64
+small c = let l = at-loop c in let a = l .before .args in
+    rw (cut-one c) (cut-small (a .j) (serves (a .gains .now) (a .level) (a .j) (l .loop .k)) (left (a .level) (a .left) (l .loop .k))
+    (l .before .pre .1) (digit-small (a .left) (l .loop .k - a .level)))
 
 loop-holds : tie.Need-loop-holds Inv-loop μ-loop
-loop-holds c = cut-start (c .pre .3) (c .pre .2)
+loop-holds c = (speaks-start, omega arith)
 
 mul-serves : tie.Need-mul-serves Inv-loop μ-loop
 mul-serves c = omega arith
@@ -30,39 +48,53 @@ index-2-serves : tie.Need-index-2-serves Inv-loop μ-loop
 index-2-serves c = omega arith
 
 mul-serves-3 : tie.Need-mul-serves-3 Inv-loop μ-loop
-mul-serves-3 c = omega arith
+mul-serves-3 c = omega (arith, top (c .before .before))
 
 mul-serves-4 : tie.Need-mul-serves-4 Inv-loop μ-loop
 mul-serves-4 c = omega arith
 
 index-1-serves-2 : tie.Need-index-1-serves-2 Inv-loop μ-loop
-index-1-serves-2 c = omega arith
+index-1-serves-2 c = omega (arith, top (c .before .before))
 
 index-2-serves-2 : tie.Need-index-2-serves-2 Inv-loop μ-loop
 index-2-serves-2 c = omega arith
 
-array-read-cut-by : tie.Need-array-read-cut-by Inv-loop μ-loop
-array-read-cut-by c = omega arith
+mul-r : tie.Need-mul-r Inv-loop μ-loop
+mul-r c = let l : tie.At-loop Inv-loop μ-loop = search in omega (arith, speaks-fits (omega arith) (l .loop .inv .0))
+
+sub-left-at : tie.Need-sub-left-at Inv-loop μ-loop
+sub-left-at c = omega arith
+
+left-at-requires : tie.Need-left-at-requires Inv-loop μ-loop
+left-at-requires c κs = let l : tie.At-loop Inv-loop μ-loop = search in omega (arith, top l)
 
 cut-by-requires : tie.Need-cut-by-requires Inv-loop μ-loop
 cut-by-requires c κs = omega arith
 
-array-write-r : tie.Need-array-write-r Inv-loop μ-loop
-array-write-r c = omega arith
+cast-r : tie.Need-cast-r Inv-loop μ-loop
+cast-r c = omega arith
 
-add-k-2 : tie.Need-add-k-2 Inv-loop μ-loop
-add-k-2 c = omega arith
+add-r : tie.Need-add-r Inv-loop μ-loop
+add-r c = let l : tie.At-loop Inv-loop μ-loop = search in omega (arith, speaks-fits (omega arith) (l .loop .inv .0), small c)
+
+sub-k : tie.Need-sub-k Inv-loop μ-loop
+sub-k c = omega arith
 
 loop-less : tie.Need-loop-less Inv-loop μ-loop
 loop-less c = omega arith
 
 loop-again : tie.Need-loop-again Inv-loop μ-loop
 loop-again c =
-    let i = c .before .before .before in let l = i .before in let p = l .before .pre in
-    cut-more (i .loop-test .taken) (p .1) (p .2) (l .loop .inv) (c .cut-by .ensures)
+    let l : tie.At-loop Inv-loop μ-loop = search in
+    let k = l .loop .k in
+    let e : k - 1 + 1 ≡ k = omega arith in
+    (rw e (speaks-more (l .loop .inv .0) (cut-one c) (small c)), omega arith)
 
 returns : tie.Need-returns Inv-loop μ-loop
-returns c = cut-end (c .before .loop .inv) (c .loop-test .left)
+returns c =
+    let l = c .before in
+    let e : l .loop .k ≡ l .before .args .level = omega arith in
+    rw e at (l .loop .inv .0)
 
 pub cut-below-spec : {M : Type 1} → statement M
 cut-below-spec =
@@ -70,7 +102,6 @@ cut-below-spec =
     (tie.spec
     Inv-loop
     μ-loop
-    add-k
     loop-holds
     mul-serves
     mul-serves-2
@@ -80,10 +111,13 @@ cut-below-spec =
     mul-serves-4
     index-1-serves-2
     index-2-serves-2
-    array-read-cut-by
+    mul-r
+    sub-left-at
+    left-at-requires
     cut-by-requires
-    array-write-r
-    add-k-2
+    cast-r
+    add-r
+    sub-k
     loop-less
     loop-again
     returns)

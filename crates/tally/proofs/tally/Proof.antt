@@ -4,13 +4,17 @@ use Rattle.tally.proofs.CountLaws.{remembered-start, counted-all}
 use Rattle.tally.proofs.tally.Statement.{statement}
 use Rattle.tally.proofs.tally.Tie as tie
 
+packed-requires : tie.Need-packed-requires
+packed-requires c κs = c .pre .1
+
 below-requires : tie.Need-below-requires
-below-requires c κs =
-    let a = c .before .before in let p = a .before .before .pre in
-    (record { few = p .0; small = p .1; size = p .2; remembered = remembered-start (p .0) }, omega arith)
+below-requires c κs = let s : tie.Start = search in (record { few = s .pre .0; remembered = remembered-start (s .pre .0) }, omega arith)
 
 returns : tie.Need-returns
-returns c = counted-all _ (c .below .ensures)
+returns c =
+    let p : tie.After-packed = search in
+    let s = p .before in
+    counted-all (s .args .kept .now) (s .pre .0) (p .packed .ensures) (c .below .ensures)
 
 pub tally-spec : {M : Type 1} → statement M
-tally-spec = tie.close (tie.spec below-requires returns)
+tally-spec = tie.close (tie.spec packed-requires below-requires returns)
