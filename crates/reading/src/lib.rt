@@ -131,8 +131,8 @@ fn read_headed(s: &[u8], from: usize, ruled: bool) -> Reading
     if sizes.refusal != 0 {
         return refused(sizes.refusal);
     }
-    let panels = size(parts[PANELS]);
-    let triggers = size(parts[TRIGGERS]);
+    let panels = size(&parts[PANELS]);
+    let triggers = size(&parts[TRIGGERS]);
     let tables = read_sections(
         s,
         sizes.next,
@@ -281,8 +281,8 @@ fn read_last(s: &[u8], from: usize, panels: usize, rows: &mut [[u64; 6]; 6]) -> 
 }
 
 // The number of a size line.
-fn size(line: [[u64; 6]; 6]) -> usize
-    ensures { λ r. ⌜ r ≡ up (val (entry (getD (getD line 0 []) 0 0))) ⌝ }
+fn size(line: &[[u64; 6]; 6]) -> usize
+    ensures { λ r. ⌜ r ≡ up (val (entry (getD (getD (now (line .entry)) 0 []) 0 0))) ⌝ }
 {
     let at = line[0];
     words::above(at[0]) as usize
@@ -303,10 +303,8 @@ fn finished(
     requires { ⌜ (panels ≤ size-limit) × (triggers ≤ size-limit) ⌝ }
     ensures { λ r. ⌜ FinishedIs (now (parts .entry)) landed (now (land .entry)) timed (now (last .entry)) ruled panels triggers left r ⌝ }
 {
-    let lag = parts[LAG];
-    let floor = parts[FLOOR];
-    let no_lag = empty_row(lag, panels);
-    let no_floor = empty_row(floor, mark_lines(ruled));
+    let no_lag = empty_row(&parts[LAG], panels);
+    let no_floor = empty_row(&parts[FLOOR], mark_lines(ruled));
     let no_mark = unmeasured(parts, land, ruled, panels, triggers);
     if left != 0 {
         return refused(2);
@@ -416,15 +414,11 @@ fn good(
 ) -> Reading
     ensures { λ r. ⌜ GoodIs (now (parts .entry)) landed (now (land .entry)) timed (now (last .entry)) ruled panels triggers r ⌝ }
 {
-    let lag = parts[LAG];
-    let floor = parts[FLOOR];
-    let due = parts[DUE];
-    let after = parts[AFTER];
-    let lags = table(lag);
-    let afters = table(after);
-    let lands = table(*land);
-    let floors = floor[0];
-    let dues = due[0];
+    let lags = table(&parts[LAG]);
+    let afters = table(&parts[AFTER]);
+    let lands = table(land);
+    let floors = parts[FLOOR][0];
+    let dues = parts[DUE][0];
     let lasts = last_of(timed, last);
     let sheet = SheetWords {
         panels: panels,
@@ -458,8 +452,8 @@ fn last_of(given: bool, rows: &[[u64; 6]; 6]) -> Last
 }
 
 // The rows of a table, each in its struct.
-fn table(rows: [[u64; 6]; 6]) -> [Row; 6]
-    ensures { λ r. ⌜ r ≡ each-row rows ⌝ }
+fn table(rows: &[[u64; 6]; 6]) -> [Row; 6]
+    ensures { λ r. ⌜ r ≡ each-row (now (rows .entry)) ⌝ }
 {
     let a = rows[0];
     let b = rows[1];
@@ -508,9 +502,9 @@ fn refused(refusal: u8) -> Reading
 }
 
 // One of the first `lines` rows has no entry.
-fn empty_row(rows: [[u64; 6]; 6], lines: usize) -> bool
+fn empty_row(rows: &[[u64; 6]; 6], lines: usize) -> bool
     requires { ⌜ lines ≤ size-limit ⌝ }
-    ensures { λ r. ⌜ EmptyRow rows lines r ⌝ }
+    ensures { λ r. ⌜ EmptyRow (now (rows .entry)) lines r ⌝ }
 {
     let mut i: usize = 0;
     while i < lines {

@@ -13,10 +13,10 @@ use Rattle.reading.proofs.empty_row.Statement.{statement}
 use Rattle.reading.proofs.empty_row.Tie as tie
 
 abbrev Inv-loop : tie.InvT-loop
-Inv-loop lines rows i₀ i = (i ≤ lines) × ((k : ℕ) → k < i → EmptyWords (getD rows k []) false)
+Inv-loop rows lines i₀ i = (i ≤ lines) × ((k : ℕ) → k < i → EmptyWords (getD rows k []) false)
 
 abbrev μ-loop : tie.MeasureT-loop
-μ-loop lines rows i₀ i = lines - i
+μ-loop rows lines i₀ i = lines - i
 
 -- places that statements name, each from the next one
 abbrev in-loop : tie.After-empty Inv-loop μ-loop → tie.In-loop Inv-loop μ-loop
@@ -24,8 +24,8 @@ in-loop c = c .before .before
 
 -- what was found of the row
 words-of-row : (c : tie.After-empty Inv-loop μ-loop) (b : Bool) → c .empty .result ≡ b →
-    EmptyWords (getD (in-loop c .before .before .args .t1) (in-loop c .before .loop .i) []) b
-words-of-row c b e = subst (λ (b : Bool). EmptyWords (getD (in-loop c .before .before .args .t1) (in-loop c .before .loop .i) []) b) e (c .empty .ensures)
+    EmptyWords (getD (in-loop c .before .before .args .rows .now) (in-loop c .before .loop .i) []) b
+words-of-row c b e = subst (λ (b : Bool). EmptyWords (getD (in-loop c .before .before .args .rows .now) (in-loop c .before .loop .i) []) b) e (c .empty .ensures)
 
 loop-holds : tie.Need-loop-holds Inv-loop μ-loop
 loop-holds c = (omega arith, λ k h. let e : ⊥ = omega arith in absurd e)
@@ -33,8 +33,8 @@ loop-holds c = (omega arith, λ k h. let e : ⊥ = omega arith in absurd e)
 mul-at : tie.Need-mul-at Inv-loop μ-loop
 mul-at c = omega arith
 
-array-copy-out-at : tie.Need-array-copy-out-at Inv-loop μ-loop
-array-copy-out-at c = omega arith
+element-copy-out-at : tie.Need-element-copy-out-at Inv-loop μ-loop
+element-copy-out-at c = omega arith
 
 empty-requires : tie.Need-empty-requires Inv-loop μ-loop
 empty-requires c κs = search needs
@@ -59,4 +59,4 @@ returns-2 c = λ n t few R w. sym (empty-none _ _ n t (c .before .before .pre) f
 pub empty-row-spec : {M : Type 1} → statement M
 empty-row-spec =
     tie.close
-    (tie.spec Inv-loop μ-loop loop-holds mul-at array-copy-out-at empty-requires returns add-i loop-less loop-again returns-2)
+    (tie.spec Inv-loop μ-loop loop-holds mul-at element-copy-out-at empty-requires returns add-i loop-less loop-again returns-2)

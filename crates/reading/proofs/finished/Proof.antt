@@ -18,10 +18,10 @@ use Rattle.reading.proofs.finished.Tie as tie
 
 -- places that statements name, each from the next one
 abbrev start : tie.After-empty-row → tie.Start
-start c = c .before .before .before
+start c = c .before .before
 
 abbrev at-lags : tie.After-empty-row2 → tie.After-empty-row
-at-lags c = c .before .before
+at-lags c = c .before .before .before
 
 abbrev tested : tie.After-unmeasured → tie.After-empty-row2
 tested c = c .before
@@ -55,20 +55,20 @@ none-missing c ts K =
     let p = start (at-lags (tested c)) .pre in
     c .unmeasured .ensures ∙ missing-words (p .0) (p .1) K
 
-element-copy-out-lag : tie.Need-element-copy-out-lag
-element-copy-out-lag c = search needs
-
-element-copy-out-floor : tie.Need-element-copy-out-floor
-element-copy-out-floor c = search needs
+index-1-empty-row : tie.Need-index-1-empty-row
+index-1-empty-row c = search needs
 
 empty-row-requires : tie.Need-empty-row-requires
 empty-row-requires c κs = search needs
+
+index-1-empty-row-2 : tie.Need-index-1-empty-row-2
+index-1-empty-row-2 c = search needs
 
 mark-lines-requires : tie.Need-mark-lines-requires
 mark-lines-requires c κs = search needs
 
 empty-row-requires-2 : tie.Need-empty-row-requires-2
-empty-row-requires-2 c κs = mark-few (start (c .before) .args .ruled) (c .mark-lines .ensures)
+empty-row-requires-2 c κs = mark-few (start (c .before .before) .args .ruled) (c .mark-lines .ensures)
 
 unmeasured-requires : tie.Need-unmeasured-requires
 unmeasured-requires c κs = search needs
@@ -141,9 +141,9 @@ pub finished-spec : {M : Type 1} → statement M
 finished-spec =
     tie.close
     (tie.spec
-    element-copy-out-lag
-    element-copy-out-floor
+    index-1-empty-row
     empty-row-requires
+    index-1-empty-row-2
     mark-lines-requires
     empty-row-requires-2
     unmeasured-requires

@@ -4,20 +4,14 @@ use Rattle.reading.proofs.WordsLaws.{sheet-words}
 use Rattle.reading.proofs.good.Statement.{statement}
 use Rattle.reading.proofs.good.Tie as tie
 
-element-copy-out-lag : tie.Need-element-copy-out-lag
-element-copy-out-lag c = search needs
-
-element-copy-out-floor : tie.Need-element-copy-out-floor
-element-copy-out-floor c = search needs
-
-element-copy-out-due : tie.Need-element-copy-out-due
-element-copy-out-due c = search needs
-
-element-copy-out-after : tie.Need-element-copy-out-after
-element-copy-out-after c = search needs
+index-1-table : tie.Need-index-1-table
+index-1-table c = search needs
 
 table-requires : tie.Need-table-requires
 table-requires c κs = search needs
+
+index-1-table-2 : tie.Need-index-1-table-2
+index-1-table-2 c = search needs
 
 table-requires-2 : tie.Need-table-requires-2
 table-requires-2 c κs = search needs
@@ -25,11 +19,17 @@ table-requires-2 c κs = search needs
 table-requires-3 : tie.Need-table-requires-3
 table-requires-3 c κs = search needs
 
-array-copy-out-floors : tie.Need-array-copy-out-floors
-array-copy-out-floors c = search needs
+index-1-floors : tie.Need-index-1-floors
+index-1-floors c = search needs
 
-array-copy-out-dues : tie.Need-array-copy-out-dues
-array-copy-out-dues c = search needs
+index-2-floors : tie.Need-index-2-floors
+index-2-floors c = search needs
+
+index-1-dues : tie.Need-index-1-dues
+index-1-dues c = search needs
+
+index-2-dues : tie.Need-index-2-dues
+index-2-dues c = search needs
 
 last-of-requires : tie.Need-last-of-requires
 last-of-requires c κs = search needs
@@ -46,14 +46,14 @@ pub good-spec : {M : Type 1} → statement M
 good-spec =
     tie.close
     (tie.spec
-    element-copy-out-lag
-    element-copy-out-floor
-    element-copy-out-due
-    element-copy-out-after
+    index-1-table
     table-requires
+    index-1-table-2
     table-requires-2
     table-requires-3
-    array-copy-out-floors
-    array-copy-out-dues
+    index-1-floors
+    index-2-floors
+    index-1-dues
+    index-2-dues
     last-of-requires
     returns)

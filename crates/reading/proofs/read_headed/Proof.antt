@@ -113,14 +113,14 @@ returns c =
     let r : tie.After-read-sections = search in
     c .refused .ensures ∙ ap answer (sym (headed-refused (start r .args .ruled) _ _ (r .read-sections .ensures .fault (t .if1 .taken))))
 
-array-copy-out-size : tie.Need-array-copy-out-size
-array-copy-out-size c = search needs
+index-1-size : tie.Need-index-1-size
+index-1-size c = search needs
 
 size-requires : tie.Need-size-requires
 size-requires c κs = search needs
 
-array-copy-out-size-2 : tie.Need-array-copy-out-size-2
-array-copy-out-size-2 c = search needs
+index-1-size-2 : tie.Need-index-1-size-2
+index-1-size-2 c = search needs
 
 size-requires-2 : tie.Need-size-requires-2
 size-requires-2 c κs = search needs
@@ -161,9 +161,9 @@ read-headed-spec =
     read-sections-requires
     refused-requires
     returns
-    array-copy-out-size
+    index-1-size
     size-requires
-    array-copy-out-size-2
+    index-1-size-2
     size-requires-2
     read-sections-requires-2
     refused-requires-2
