@@ -395,12 +395,6 @@ module _ (M : Marks) (stars needs : List (List ℕ)) {t : ℕ} (ht : t < M .trig
     met = λ P lags p k h. let e : ⊥ = omega arith in absurd e;
   }
 
-  pub first-rows : (s : List (List ℕ)) → length s ≡ places → Rows (M .triggers) 1 (set s 0 (f .at))
-  first-rows s z = record {
-    sized = λ k h. let e : k ≡ 0 = omega arith in rw (e, first-row s (f .at) z) (c .words .sized);
-    close = λ k h. let e : k ≡ 0 = omega arith in rw (e, first-row s (f .at) z) (c .words .close);
-  }
-
   pub whole-first : (s : List (List ℕ)) → length s ≡ places → Whole M stars needs t 0 (set s 0 (f .at)) 1
   whole-first s z = record {
     rays = λ k h. let e : k ≡ 0 = omega arith in rw (e, first-row s (f .at) z) first-to;
