@@ -52,7 +52,8 @@ returns : tie.Need-returns Inv-loop μ-loop
 returns c =
     let a : tie.After-add-panel Inv-loop μ-loop = search in
     let l : tie.At-loop Inv-loop μ-loop = search in
-    (a .add-panel .ensures .0, carried-same (a .add-panel .result .done) (a .add-panel .result .many) (c .if2 .taken) (a .add-panel .ensures .1) (l .loop .inv .1))
+    let r = a .add-panel .result in
+    (a .add-panel .ensures .0, carried-same (r .done) (r .many) (c .if2 .taken) (a .add-panel .ensures .1) (l .loop .inv .1))
 
 add-level : tie.Need-add-level Inv-loop μ-loop
 add-level c = let t : tie.Then1 Inv-loop μ-loop = search in omega (arith, inside t)

@@ -25,7 +25,8 @@ in-loop c = c .before .before
 -- what was found of the row
 words-of-row : (c : tie.After-empty Inv-loop μ-loop) (b : Bool) → c .empty .result ≡ b →
     EmptyWords (getD (in-loop c .before .before .args .rows .now) (in-loop c .before .loop .i) []) b
-words-of-row c b e = subst (λ (b : Bool). EmptyWords (getD (in-loop c .before .before .args .rows .now) (in-loop c .before .loop .i) []) b) e (c .empty .ensures)
+words-of-row c b e =
+    subst (λ (b : Bool). EmptyWords (getD (in-loop c .before .before .args .rows .now) (in-loop c .before .loop .i) []) b) e (c .empty .ensures)
 
 loop-holds : tie.Need-loop-holds Inv-loop μ-loop
 loop-holds c = (omega arith, λ k h. let e : ⊥ = omega arith in absurd e)
