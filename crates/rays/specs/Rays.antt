@@ -15,7 +15,7 @@ use Rattle.sheet.specs.Sizes.{starred-size}
 
 -- how many rays a set has room for
 abbrev pub places : ℕ
-places = 40
+places = 48
 
 -- a lies below b in every component: the order of entries is the order of their words
 pub record Under (a b : List ℕ) : Type 0 where

@@ -13,7 +13,7 @@ use trigger_sets::has;
 use words::LineWords;
 
 // How many rays a set has room for: more than come of any sheet known.
-pub const PLACES: usize = 40;
+pub const PLACES: usize = 48;
 
 // How far the rays of a set were carried on, and how many came of them.
 pub struct Part {
