@@ -14,8 +14,8 @@ use Rattle.maxplus.specs.Tables.{sup, Vec, star, NoGain, mv, normal}
 use Rattle.maxplus.specs.Line.{Line, at, line}
 use Rattle.maxplus.specs.Normal.{Normal}
 use Rattle.maxplus.proofs.WholeLaws.{up-add, up-neg}
-use Rattle.maxplus.proofs.EntryLaws.{_▸_, ≼-anti, ≼-absent, ≼-of, ≼-back, ⊕-l, ⊕-r, ⊕-lub, ⊗-left, ⊗-right, ⊗-comm, ⊗-assoc, ⊗-nothing}
-use Rattle.maxplus.proofs.EntryLaws.{⊗-unit, ⊗-unit-r}
+use Rattle.maxplus.proofs.EntryLaws.{_▸_, ≼-anti, ≼-absent, ≼-of, ≼-back, ⊕-l, ⊕-r, ⊕-lub, ⊗-left, ⊗-right, ⊗-comm}
+use Rattle.maxplus.proofs.EntryLaws.{⊗-assoc, ⊗-nothing, ⊗-unit, ⊗-unit-r}
 use Rattle.maxplus.proofs.EntryLaws.{distrib, val-of, ⊗-left-comm, present-dec, absent-of, inv-self}
 use Rattle.maxplus.proofs.SupLaws.{sup-ub, sup-lub}
 use Rattle.maxplus.proofs.TableLaws.{mv-at}

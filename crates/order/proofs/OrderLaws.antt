@@ -113,7 +113,8 @@ module _ {n : ℕ} {order : List (List ℕ)} where
     ways = ways-as n (meant order) (λ i j hi hj. h .at i j hi hj) (ways-none n (meant order));
   }
 
-  pub held-more : {k : ℕ} {s r : List (List ℕ)} → k < n → meant s k k ≼ unit → WaysHeld n order k s → Passed n k s r → WaysHeld n order (k + 1) r
+  pub held-more : {k : ℕ} {s r : List (List ℕ)} → k < n → meant s k k ≼ unit → WaysHeld n order k s → Passed n k s r →
+      WaysHeld n order (k + 1) r
   unfolding reach pass
   held-more {k} {s} {r} hk l w p = record {
     so-far = omega arith;

@@ -24,10 +24,13 @@ loop-holds c =
     (y, carried-none z r)
 
 -- in the loop the level is a place of the tables
-abbrev start : tie.Then1 Inv-loop μ-loop → tie.Start Inv-loop μ-loop
-start c = c .before .before .before .before
+abbrev at-loop : tie.Then1 Inv-loop μ-loop → tie.At-loop Inv-loop μ-loop
+at-loop c = c .before .before
 
-inside : (c : tie.Then1 Inv-loop μ-loop) → c .before .before .loop .level < 6
+abbrev start : tie.Then1 Inv-loop μ-loop → tie.Start Inv-loop μ-loop
+start c = at-loop c .before .before
+
+inside : (c : tie.Then1 Inv-loop μ-loop) → at-loop c .loop .level < 6
 inside c = omega (arith, c .if1 .taken, levels-few (start c .pre .0 .2))
 
 array-read-add-panel : tie.Need-array-read-add-panel Inv-loop μ-loop
