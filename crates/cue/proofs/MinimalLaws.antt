@@ -37,6 +37,7 @@ module _ (n : ℕ) where
 
   pub in_others : (C : List (Line n)) (c d : Line n) → In d C → ¬ (d ≡ c) → In d (others n C c)
   unfolding others
+  in_others [] c d h f = elim h [ ]
   in_others (b ∷ C) c d h f = go (λ h. in_others C c d h f) (same? n b c) h
     where
       go : (In d C → In d (others n C c)) → (k : Dec (b ≡ c)) → (d ≡ b) ⊎ In d C →

@@ -169,6 +169,7 @@ module _ (n : ℕ) (P : Cue) where
 
   -- every panel of the walk is fixed
   pub walk_fixes : (is : List ℕ) (o : Entries) (s : Selection) → In s (walk n P is o) → (i : ℕ) → In i is → (j : ℕ) × In (i, j) s
+  walk_fixes [] o s h i q = elim q [ ]
   walk_fixes (k ∷ is) o s h i q = go (walk_fixes is) (walk_cons k is o s h) q
     where
       go : ((o : Entries) (s : Selection) → In s (walk n P is o) → (i : ℕ) → In i is → (j : ℕ) × In (i, j) s) →

@@ -142,6 +142,7 @@ same_list? d (a ∷ l) (b ∷ m) = map_dec (λ p. ap2 p) (λ e. (cc, cc)) (dec_�
 -- ---- who is in a list
 module _ {A : Type 0} where
   pub in_left : (l m : List A) (a : A) → In a l → In a (l ++ m)
+  in_left [] m a x' = elim x' [ ]
   in_left (b ∷ l) m a (inl e) = inl e
   in_left (b ∷ l) m a (inr h) = inr (in_left l m a h)
 
@@ -175,6 +176,7 @@ module _ {A : Type 0} where
 module _ {A C : Type 0} where
   pub in_map : (f : A → C) (l : List A) (a : A) → In a l → In (f a) (map_l f l)
   unfolding map_l
+  in_map f [] a x' = elim x' [ ]
   in_map f (b ∷ l) a (inl e) = inl (ap f e)
   in_map f (b ∷ l) a (inr h) = inr (in_map f l a h)
 

@@ -61,6 +61,7 @@ sup_⊗r n a f = ⊗_comm _ a ∙ sup_⊗ n a f ∙ sup_ext n (λ j h. ⊗_comm 
 module _ {A : Type 0} where
   pub sup_l_ub : (l : List A) (f : A → E) (a : A) → In a l → f a ≼ sup_l l f
   unfolding sup_l
+  sup_l_ub [] f a x' = elim x' [ ]
   sup_l_ub (b ∷ l) f a (inl e) = rw e (⊕_l _ _)
   sup_l_ub (b ∷ l) f a (inr h) = sup_l_ub l f a h ▸ ⊕_r _ _
 
