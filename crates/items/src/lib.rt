@@ -1,4 +1,6 @@
 // One item of a line: a numeral, or a lone minus for absent.
+#![tactic(auto)]
+
 ghost use Rattle.std.specs.Prelude.{◌≡◌, suc, ◌≤◌, ◌<◌, min, length};
 ghost use Rattle.sheet.specs.Sheet.{digit, leading, item, signed};
 ghost use Rattle.words.specs.Words.{far};

@@ -1,5 +1,7 @@
 // Sets of triggers, "six bits in a byte, bit 0 for trigger 1": whether a trigger is in one, its lowest trigger and the others,
 // and how many it has.
+#![tactic(auto)]
+
 ghost use Rattle.std.specs.Prelude.{◌≡◌, ◌-◌, ◌<◌};
 ghost use Rattle.std.specs.Int.Bits.{bit_and};
 ghost use Rattle.std.specs.Int.Count as count;

@@ -1,5 +1,7 @@
 // An entry of a table in one word: 0 is absent, BIAS + z is the number z. The order of words is the order of entries, and nothing else of this
 // is known outside. A line, w or a timing is six such words with its count of triggers.
+#![tactic(auto)]
+
 ghost use Rattle.std.specs.Prelude.{◌≡◌, ◌≤◌, ◌<◌, pos};
 ghost use Rattle.maxplus.specs.Whole.{up, dn, neg};
 ghost use Rattle.maxplus.specs.Entry.{num, ◌⊗◌, ◌⊕◌, inv, present?, val};

@@ -1,0 +1,15 @@
+-- `words::plus` meets its contract. Assumes nothing.
+use native.Mathlib.Omega.{arith}
+use Rattle.words.proofs.Laws.{plus_none, plus_none_r, plus_is}
+use Rattle.words.proofs.plus.Goals as goal
+
+pub returns-then-a-eq0 : goal.returns-then-a-eq0
+returns-then-a-eq0 c = plus_none _ _ c.if-a-eq0.true
+
+pub returns-then-b-eq0 : goal.returns-then-b-eq0
+returns-then-b-eq0 c = plus_none_r _ _ c.if-b-eq0.true
+
+pub returns : goal.returns
+returns c =
+    plus_is _ _ (omega arith) (omega arith)
+    (let p = c.requires.0.low (omega arith) in let q = c.requires.1.low (omega arith) in omega arith)
