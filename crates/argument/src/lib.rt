@@ -12,7 +12,7 @@ pub mod whole;
 const FAR_LIMIT: u64 = 1_000_000_000;
 
 // How many numbers the argument has, and the first six; or that it is no list of numerals.
-#[derive(Drop)]
+#[derive(Clone, Copy)]
 pub struct Components {
     pub numerals: bool,
     pub count: usize,

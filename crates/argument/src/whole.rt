@@ -11,7 +11,7 @@ pub const WORD_LIMIT: u64 = 0x1_0000_0000;
 
 // One whole number: whether the argument is a numeral, whether it is below 0, how far it is from 0, at most 2^32, and the remainder of that
 // by 2^32.
-#[derive(Drop)]
+#[derive(Clone, Copy)]
 pub struct Whole {
     pub numeral: bool,
     pub negative: bool,

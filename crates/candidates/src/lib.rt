@@ -5,7 +5,7 @@ pub mod order;
 
 // What a sheet's lines are drawn from, besides its tables. By trigger: pulls, the marks r(j) with the sign turned, and due. By panel: asks,
 // p(i) − Δ, absent without a floor. By level, that is by panel with a floor: kept, the bits of the kept triggers.
-#[derive(Drop)]
+#[derive(Clone, Copy)]
 pub struct Marks {
     pub triggers: usize,
     pub panels: usize,

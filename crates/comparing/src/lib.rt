@@ -11,7 +11,7 @@ use planning::{CuePlan, plan};
 use words::LINE_SIZE;
 
 // How much of a space a list takes: its number of lines, and how many words a line takes.
-#[derive(Drop)]
+#[derive(Clone, Copy)]
 pub struct Extent {
     pub count: usize,
     pub width: usize,
@@ -19,7 +19,7 @@ pub struct Extent {
 
 // Whether the same timings are tightest on two sheets, or that their numbers of triggers or their spares differ; with either goes how much was
 // written in each space. Or planning's refusal of the first sheet or of the second, with how much is needed where it is 9, else nothing.
-#[derive(Drop)]
+#[derive(Clone, Copy)]
 pub enum Compared {
     Same(Extent, Extent),
     Different(Extent, Extent),
@@ -29,7 +29,7 @@ pub enum Compared {
 }
 
 // The number of a refusal, 0 for none, and how much the list takes.
-#[derive(Drop)]
+#[derive(Clone, Copy)]
 struct Refusal {
     number: u8,
     needed: Extent,

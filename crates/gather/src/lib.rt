@@ -22,7 +22,7 @@ use rays::{PLACES, add_panel, all_meet, expand};
 use words::LineWords;
 
 // How many levels the rays of a set have, and how many rays there are.
-#[derive(Drop)]
+#[derive(Clone, Copy)]
 struct Carried {
     level: usize,
     many: usize,

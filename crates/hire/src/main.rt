@@ -16,7 +16,7 @@ use text::Ends;
 use writing::put_bytes;
 
 // The numbers of a call; or that it is a wrong one.
-#[derive(Drop)]
+#[derive(Clone, Copy)]
 struct Call {
     good: bool,
     panels: usize,

@@ -28,7 +28,7 @@ pub const MOST: usize = 6;
 const LONGEST: usize = 1024;
 
 // 12 or 13 and nothing else; or 0, how many bytes were written, and the next state.
-#[derive(Drop)]
+#[derive(Clone, Copy)]
 pub struct Hired {
     pub refusal: u8,
     pub length: usize,
@@ -37,7 +37,7 @@ pub struct Hired {
 
 // Which items of a kind of line are never or always absent: the first of each line is there, in lag lines and the floor line; all are, in the
 // due line; none on or above the diagonal, in after lines.
-#[derive(Drop)]
+#[derive(Clone, Copy)]
 enum Lines {
     FirstThere,
     AllThere,
@@ -45,14 +45,14 @@ enum Lines {
 }
 
 // A row of drawn entries, and the state behind it.
-#[derive(Drop)]
+#[derive(Clone, Copy)]
 struct DrawnRow {
     state: u32,
     at: [u64; 6],
 }
 
 // The place behind what was put, and the state behind it.
-#[derive(Drop)]
+#[derive(Clone, Copy)]
 struct Put {
     state: u32,
     end: usize,

@@ -7,13 +7,13 @@ ghost use Rattle.words.specs.Words.{far};
 ghost use Rattle.items.specs.Inner.{NumeralAt, ItemIs};
 
 // An entry's word and the place behind it; or no item.
-#[derive(Drop)]
+#[derive(Clone, Copy)]
 pub enum Item {
     Entry(u64, usize),
     Faulty,
 }
 
-#[derive(Drop)]
+#[derive(Clone, Copy)]
 struct Numeral {
     value: u64,
     next: usize,

@@ -12,7 +12,7 @@ use spares::{Places, laid_set};
 
 // Document 01's refusal, 1 to 8, and nothing else; or 0, Δ, for each panel the byte of its kept triggers and their number (0 and 0 without a
 // floor and past the last panel), the walk's fixings and its selections.
-#[derive(Drop)]
+#[derive(Clone, Copy)]
 pub struct KeptTable {
     pub refusal: u8,
     pub deviation: i64,

@@ -17,7 +17,7 @@ mod count;
 mod write;
 
 // The count of lines written, or of those that do not fit.
-#[derive(Drop)]
+#[derive(Clone, Copy)]
 pub enum Listed {
     Lines(usize),
     NoRoom(usize),

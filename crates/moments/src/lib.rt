@@ -18,7 +18,7 @@ use tables::largest::overdue;
 use words::LineWords;
 
 // Whether a sheet has a last line, and for each of its triggers the overrun, absent throughout where it has none.
-#[derive(Drop)]
+#[derive(Clone, Copy)]
 pub struct Moments {
     pub given: bool,
     pub overruns: [u64; 6],

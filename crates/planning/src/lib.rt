@@ -15,7 +15,7 @@ use preparing::Prepared;
 // Document 01's refusal, 1 to 8, and nothing else; 9 and the count needed; or 0, the sheet's number of triggers, those of them that are spare
 // (bit 0 for trigger 1), Δ, the walk's fixings, its selections, how many words a line takes and the number of lines. These two go with 9 as
 // well.
-#[derive(Drop)]
+#[derive(Clone, Copy)]
 pub struct CuePlan {
     pub refusal: u8,
     pub triggers: usize,

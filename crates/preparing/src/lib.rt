@@ -22,7 +22,7 @@ mod levels;
 mod marks;
 
 // A cue's sizes, floors and due marks as words, and which of the sheet's triggers it has. Its tables, lag and order, are lent beside it.
-#[derive(Drop)]
+#[derive(Clone, Copy)]
 pub struct CueWords {
     pub triggers: usize,
     pub panels: usize,
@@ -32,7 +32,7 @@ pub struct CueWords {
 }
 
 // The first `panels` places of `at` are the panels with a floor, those of `kept` their bytes.
-#[derive(Drop)]
+#[derive(Clone, Copy)]
 pub struct Packed {
     pub panels: usize,
     pub kept: [u8; 6],
@@ -40,7 +40,7 @@ pub struct Packed {
 }
 
 // What steps 3 and 4 give: the word of Δ and each panel's byte; and what the lines are drawn from.
-#[derive(Drop)]
+#[derive(Clone, Copy)]
 pub struct Marked {
     pub least: u64,
     pub kept: [u8; 6],
@@ -48,7 +48,7 @@ pub struct Marked {
 }
 
 // A refusal, 1 to 8 or 14; or 0, the cue, what steps 3 and 4 give, and the last moments.
-#[derive(Drop)]
+#[derive(Clone, Copy)]
 pub struct Prepared {
     pub refusal: u8,
     pub cue: CueWords,

@@ -15,14 +15,14 @@ use words::LineWords;
 pub const PLACES: usize = 48;
 
 // How far the rays of a set were carried on, and how many came of them.
-#[derive(Drop)]
+#[derive(Clone, Copy)]
 pub struct Part {
     pub to: usize,
     pub found: usize,
 }
 
 // Whether a panel was added, and how many rays the set then has.
-#[derive(Drop)]
+#[derive(Clone, Copy)]
 pub struct Addition {
     pub done: bool,
     pub many: usize,

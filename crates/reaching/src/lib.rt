@@ -29,7 +29,7 @@ mod weighed;
 
 // A refusal, 1 to 8, 10 or 11, and nothing else; 9, how many words a line takes and the count needed; or 0, these words, the number of lines
 // and the timing.
-#[derive(Drop)]
+#[derive(Clone, Copy)]
 pub struct Reached {
     pub refusal: u8,
     pub width: usize,

@@ -37,14 +37,14 @@ const DUE: usize = 2;
 const AFTER: usize = 3;
 
 // The land lines: whether the sheet has them, and their rows, which are absent throughout where it has none.
-#[derive(Drop)]
+#[derive(Clone, Copy)]
 pub struct Land {
     pub given: bool,
     pub rows: [Row; 6],
 }
 
 // The last line: whether the sheet has one, and its numbers, absent throughout where it has none.
-#[derive(Drop)]
+#[derive(Clone, Copy)]
 pub struct Last {
     pub given: bool,
     pub at: [u64; 6],
@@ -52,7 +52,7 @@ pub struct Last {
 
 // A good sheet: its floors and due marks are absent throughout where it follows rule 2. A struct can't hold an array of arrays, so a table in it
 // is an array of rows.
-#[derive(Drop)]
+#[derive(Clone, Copy)]
 pub struct SheetWords {
     pub panels: usize,
     pub triggers: usize,
@@ -66,14 +66,14 @@ pub struct SheetWords {
 }
 
 // A refusal, 1 to 7 or 14, and no sheet; or 0 and the sheet.
-#[derive(Drop)]
+#[derive(Clone, Copy)]
 pub struct Reading {
     pub refusal: u8,
     pub sheet: SheetWords,
 }
 
 // The kinds of line of a sheet: first those that give the sizes, then those that give the tables.
-#[derive(Drop)]
+#[derive(Clone, Copy)]
 enum Group {
     Sizes,
     Tables,

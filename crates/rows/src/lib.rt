@@ -1,4 +1,6 @@
 // Lines of items: the key, the items split by commas, LF, and what each item may be.
+#![tactic(auto)]
+
 ghost use Rattle.std.specs.Prelude.{◌≡◌, ◌≤◌, length, drop};
 ghost use Rattle.words.specs.Words.{entry};
 ghost use Rattle.sheet.specs.Sheet.{limit, ended, no_size, out_of_range};
@@ -22,13 +24,13 @@ const OUT_OF_RANGE: u8 = 4;
 const ABSENT_MARK: u8 = 5;
 
 // Six words of entries, absent past the last: a row of a table, the floors or the due marks.
-#[derive(Drop)]
+#[derive(Clone, Copy)]
 pub struct Row {
     pub at: [u64; 6],
 }
 
 // What the items of a line may be: a size, an entry, a due mark.
-#[derive(Drop)]
+#[derive(Clone, Copy)]
 pub enum Items {
     Size,
     Entry,
@@ -36,21 +38,21 @@ pub enum Items {
 }
 
 // The kinds of fault that the items of a line can have, in the order in which they are looked for: the first `count` of `order`.
-#[derive(Drop)]
+#[derive(Clone, Copy)]
 struct Faults {
     count: usize,
     order: [u8; 2],
 }
 
 // The place behind what was read; or a refusal, 2 to 5.
-#[derive(Drop)]
+#[derive(Clone, Copy)]
 pub struct Place {
     pub refusal: u8,
     pub next: usize,
 }
 
 // Whether lines that may be missing are there, and the place behind them; or a refusal, 2 to 5.
-#[derive(Drop)]
+#[derive(Clone, Copy)]
 pub struct Optional {
     pub refusal: u8,
     pub given: bool,

@@ -12,7 +12,7 @@ use tables::largest::largest;
 use trigger_sets::{has, wide};
 
 // The triggers in use, in sheet order: the first `count` places of `at`. As sets: these, and the others, which are spare.
-#[derive(Drop)]
+#[derive(Clone, Copy)]
 pub struct Places {
     pub triggers: usize,
     pub count: usize,

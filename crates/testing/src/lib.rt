@@ -9,7 +9,7 @@ use timing::Timing;
 use timing::times::words_of;
 
 // Yes or no, or document 01's refusal, and nothing else.
-#[derive(Drop)]
+#[derive(Clone, Copy)]
 pub enum Tested {
     Yes,
     No,

@@ -16,7 +16,7 @@ use writing::{natural_field, number_field, put_byte, put_bytes};
 mod lines;
 
 // The places behind a program's two texts: on standard output, and on standard error, where a refusal gets a sentence.
-#[derive(Drop)]
+#[derive(Clone, Copy)]
 pub struct Ends {
     pub text: usize,
     pub complaint: usize,

@@ -6,7 +6,7 @@ pub mod test;
 pub mod times;
 
 // A timing with its own count of triggers. Components are wider than 32 bits, so that those beyond the limit are values too.
-#[derive(Drop)]
+#[derive(Clone, Copy)]
 pub struct Timing {
     pub count: usize,
     pub at: [i64; 6],

@@ -18,7 +18,7 @@ pub mod narrowing;
 pub mod remembering;
 
 // What a step gives.
-#[derive(Drop)]
+#[derive(Clone, Copy)]
 pub enum Outcome {
     Selection,
     End,
@@ -27,7 +27,7 @@ pub enum Outcome {
 // Where a walk stands: how many panels are fixed, the fixings so far, the untried triggers of the open levels and the picks of the fixed
 // ones: six bits and three bits for each, the deepest level's lowest. Open are the fixed levels and, unless every panel is fixed, the one
 // below them. In words a step changes no memory: of arrays by value each step would make copies, and wait for them.
-#[derive(Drop)]
+#[derive(Clone, Copy)]
 pub struct Place {
     pub depth: usize,
     pub fixings: u32,
@@ -37,20 +37,20 @@ pub struct Place {
 
 // The walk's state: where it stands, step 6's w of the panels fixed there, and for each of these the word that its trigger had in w before, the
 // deepest panel's first.
-#[derive(Drop)]
+#[derive(Clone, Copy)]
 pub struct Walk {
     pub place: Place,
     pub bounds: LineWords,
     pub replaced: [u64; 6],
 }
 
-#[derive(Drop)]
+#[derive(Clone, Copy)]
 pub struct Stepped {
     pub next: Walk,
     pub outcome: Outcome,
 }
 
-#[derive(Drop)]
+#[derive(Clone, Copy)]
 pub struct Counts {
     pub steps: u32,
     pub selections: u32,

@@ -21,7 +21,7 @@ pub const CAPPED_SIZE: usize = 8;
 const ABSENT: i32 = -2147483648;
 
 // A line, w or a timing: its count of triggers and its six components as words of entries, the unused ones absent.
-#[derive(Drop)]
+#[derive(Clone, Copy)]
 pub struct LineWords {
     pub count: usize,
     pub at: [u64; 6],

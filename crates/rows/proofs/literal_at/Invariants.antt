@@ -1,0 +1,12 @@
+-- `rows::literal_at` meets its contract. The loop's invariant: the first `i` bytes of the key stand at `at`. Assumes nothing.
+use Prim.Native.Nat.{◌-◌}
+use native.Mathlib.Omega.{arith}
+use lib.ListN.{length}
+use Rattle.rows.proofs.LiteralLaws.{Matched, matched_none, matched_more, matched_short, matched_differs, matched_all}
+use Rattle.rows.proofs.literal_at.Given as goal
+
+abbrev pub invariant-loop-i : goal.invariant-loop-i
+invariant-loop-i l = Matched l.s l.at l.key l.i
+
+abbrev pub decreases-loop-i : goal.decreases-loop-i
+decreases-loop-i l = length l.key - l.i
