@@ -1,15 +1,9 @@
 -- `rows::first_fault` meets its contract. Loop invariants: the kinds passed are no fault of the line, and the items passed do not have the fault
 -- of this kind. Assumes nothing.
-use Prim.Native.Nat.{ℕ, ◌≤◌, ◌<◌, ◌-◌}
-use mathlib.Core.Path.{◌≡◌, refl, sym, ◌∙◌}
-use mathlib.Core.Bool.{false}
+use mathlib.Core.Path.{refl, sym, ◌∙◌}
 use native.Mathlib.Omega.{arith}
-use borrow.Author.Count.{below_more}
-use borrow.Author.Rules.{rules}
-use lib.ListN.{get_or}
-use Rattle.words.specs.Words.{entry}
-use Rattle.rows.specs.Inner.{content_of, has_fault}
-use Rattle.rows.proofs.FaultLaws.{faults_few, Asked, asked_none, asked_hit, asked_more, asked_all}
+use Rattle.rows.specs.Inner.{content_of}
+use Rattle.rows.proofs.FaultLaws.{asked_none, asked_hit, asked_more}
 use Rattle.rows.proofs.first_fault.Goals as goal
 
 pub kinds-init : goal.kinds-init
@@ -17,8 +11,7 @@ kinds-init c = (asked_none, omega arith, refl)
 
 pub kinds-preserved : goal.kinds-preserved
 kinds-preserved c =
-    let l = c.loop-k in
-    (
+    let l = c.loop-k in (
       asked_more c.kinds.invariant.0 (content_of c.args.content) c.faults_of-faults.ensures c.kinds-test.true c.requires
           (λ j h. l.invariant.1 j (omega arith)),
       omega arith,

@@ -1,15 +1,12 @@
 -- `rows::first_fault` meets its contract. Loop invariants: the kinds passed are no fault of the line, and the items passed do not have the fault
 -- of this kind. Assumes nothing.
 use Prim.Native.Nat.{ℕ, ◌≤◌, ◌<◌, ◌-◌}
-use mathlib.Core.Path.{◌≡◌, refl, sym, ◌∙◌}
+use mathlib.Core.Path.{◌≡◌}
 use mathlib.Core.Bool.{false}
-use native.Mathlib.Omega.{arith}
-use borrow.Author.Count.{below_more}
-use borrow.Author.Rules.{rules}
 use lib.ListN.{get_or}
 use Rattle.words.specs.Words.{entry}
-use Rattle.rows.specs.Inner.{content_of, has_fault}
-use Rattle.rows.proofs.FaultLaws.{faults_few, Asked, asked_none, asked_hit, asked_more, asked_all}
+use Rattle.rows.specs.Inner.{has_fault}
+use Rattle.rows.proofs.FaultLaws.{Asked}
 use Rattle.rows.proofs.first_fault.Given as goal
 
 abbrev pub invariant-loop-k : goal.invariant-loop-k

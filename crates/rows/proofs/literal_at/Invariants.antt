@@ -1,8 +1,7 @@
 -- `rows::literal_at` meets its contract. The loop's invariant: the first `i` bytes of the key stand at `at`. Assumes nothing.
 use Prim.Native.Nat.{◌-◌}
-use native.Mathlib.Omega.{arith}
 use lib.ListN.{length}
-use Rattle.rows.proofs.LiteralLaws.{Matched, matched_none, matched_more, matched_short, matched_differs, matched_all}
+use Rattle.rows.proofs.LiteralLaws.{Matched}
 use Rattle.rows.proofs.literal_at.Given as goal
 
 abbrev pub invariant-loop-i : goal.invariant-loop-i

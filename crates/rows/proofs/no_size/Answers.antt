@@ -1,11 +1,6 @@
 -- `rows::no_size` meets its contract. Assumes nothing.
-use mathlib.Core.Path.{◌≡◌, sym, ◌∙◌}
-use mathlib.Core.Bool.{true}
-use borrow.Author.Rules.{rules}
-use borrow.Author.Tests.{not-true, not-false}
-use Rattle.maxplus.specs.Entry.{present?}
-use Rattle.words.specs.Words.{entry}
-use Rattle.rows.proofs.FaultLaws.{size_absent, size_none, size_some}
+use mathlib.Core.Path.{sym, ◌∙◌}
+use Rattle.rows.proofs.FaultLaws.{size_none, size_some}
 use Rattle.rows.proofs.no_size.Goals as goal
 
 pub returns-then-size-eq0 : goal.returns-then-size-eq0

@@ -1,5 +1,4 @@
 -- `rows::out_of_range` meets its contract. Assumes nothing.
-use borrow.Author.Rules.{rules}
 use Rattle.rows.proofs.FaultLaws.{range_above, range_below}
 use Rattle.rows.proofs.out_of_range.Goals as goal
 
