@@ -1,4 +1,6 @@
 // Tables of six by six words: out of a sheet's rows, the unit table, the larger of two, the product, a column.
+#![tactic(auto)]
+
 ghost use Rattle.std.specs.Prelude.{◌≡◌, [], ℕ, ◌≤◌, ◌<◌, length, get_or};
 ghost use Rattle.maxplus.specs.Entry.{◌⊗◌, ◌⊕◌};
 ghost use Rattle.maxplus.specs.Tables.{sup, mm, idm};
