@@ -130,6 +130,6 @@ module _ {ts : List (List (List E))} {ws : List (List (List ℕ))} (S : Stacked 
         measure_ruled two ts,
         K.lands_are.is,
         ap each_row K.lands_are.words ∙ each_row_grid (given_table land),
-        K.Lasts-are.is ∙ moments_given last,
-        ap (λ l. get_or l 0 []) K.Lasts-are.words ∙ strips_at (given_table last) 0 (omega arith) ∙ last_words m last _ _ K.of_last,
+        K.lasts_are.is ∙ moments_given last,
+        ap (λ l. get_or l 0 []) K.lasts_are.words ∙ strips_at (given_table last) 0 (omega arith) ∙ last_words m last _ _ K.of_last,
       )

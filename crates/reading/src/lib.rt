@@ -1,4 +1,6 @@
 // Reading a sheet: from any bytes to the sheet's tables, or to the refusal of the first fault met.
+#![tactic(auto)]
+
 ghost use Rattle.std.specs.Prelude.{◌≡◌, [], ◌≤◌, ◌<◌, length, drop, get_or};
 ghost use Rattle.maxplus.specs.Whole.{up};
 ghost use Rattle.maxplus.specs.Entry.{val};

@@ -165,13 +165,6 @@ module _ {s key : List ℕ} {from : ℕ} {r : Content} {lines n : ℕ} where
 
 -- ---- the answers of the callees and of the whole
 module _ (s : List ℕ) (at : ℕ) (key : List ℕ) where
-  pub literal_yes : (b : Bool) → not b ≡ false → LiteralAt s at key b → LiteralAt s at key true
-  literal_yes true h l = l
-  literal_yes false h l = absurd (let z : ◌≡◌ {A = ℕ} 0 1 = cc in omega arith)
-
-  pub literal_no : (b : Bool) → not b ≡ true → LiteralAt s at key b → LiteralAt s at key false
-  literal_no false h l = l
-  literal_no true h l = absurd (let z : ◌≡◌ {A = ℕ} 0 1 = cc in omega arith)
 
 module _ {A W : Type 0} {Holds : A → W → Type 0} {part : Got A} {s : List ℕ} {refusal next : ℕ} {held : W} where
   pub reads_fault : ¬ (refusal ≡ 0) → part ≡ refused refusal → Reads Holds part s refusal next held
