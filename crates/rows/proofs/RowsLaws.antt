@@ -163,9 +163,7 @@ module _ {s key : List ℕ} {from : ℕ} {r : Content} {lines n : ℕ} where
     pub rows_done : lines ≤ i → rows key r lines n (drop from s) ≡ got R.t (drop at s)
     rows_done h = R.left ∙ (let q : lines - i ≡ 0 = omega arith in rw q (unfold rows in ap (λ l. got l (drop at s)) (append-nil R.t)))
 
--- ---- the answers of the callees and of the whole
-module _ (s : List ℕ) (at : ℕ) (key : List ℕ) where
-
+-- ---- the answers of the whole
 module _ {A W : Type 0} {Holds : A → W → Type 0} {part : Got A} {s : List ℕ} {refusal next : ℕ} {held : W} where
   pub reads_fault : ¬ (refusal ≡ 0) → part ≡ refused refusal → Reads Holds part s refusal next held
   reads_fault n e = record { fault = λ h. e; found = λ h. absurd (n h) }

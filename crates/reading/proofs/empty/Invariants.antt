@@ -1,10 +1,7 @@
 -- `reading::empty` meets its contract. The loop's invariant: the words passed stand for no number. Assumes nothing.
 use Prim.Native.Nat.{ℕ, ◌≤◌, ◌<◌, ◌-◌}
-use mathlib.Core.Path.{◌≡◌, sym, ◌∙◌}
+use mathlib.Core.Path.{◌≡◌}
 use mathlib.Core.Bool.{false}
-use native.Mathlib.Omega.{arith}
-use borrow.Author.Count.{below_more}
-use borrow.Author.Rules.{rules}
 use lib.ListN.{get_or}
 use Rattle.maxplus.specs.Entry.{present?}
 use Rattle.words.specs.Words.{entry}

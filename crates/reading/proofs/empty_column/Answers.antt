@@ -1,13 +1,7 @@
 -- `reading::empty_column` meets its contract. The loop's invariant: the rows passed have no entry there. Assumes nothing.
-use Prim.Native.Nat.{ℕ, ◌≤◌, ◌<◌, ◌-◌}
-use mathlib.Core.Path.{◌≡◌, sym, ◌∙◌}
-use mathlib.Core.Bool.{false}
+use mathlib.Core.Path.{sym, ◌∙◌}
 use native.Mathlib.Omega.{arith}
-use borrow.Author.Count.{below_more}
-use borrow.Author.Rules.{rules}
-use Rattle.maxplus.specs.Entry.{present?}
 use Rattle.sheet.proofs.Spares.{none_yes, none_no}
-use Rattle.reading.specs.Inner.{meant}
 use Rattle.reading.proofs.empty_column.Goals as goal
 
 pub returns-then-present : goal.returns-then-present

@@ -1,12 +1,8 @@
 -- `reading::empty_column` meets its contract. The loop's invariant: the rows passed have no entry there. Assumes nothing.
 use Prim.Native.Nat.{ℕ, ◌≤◌, ◌<◌, ◌-◌}
-use mathlib.Core.Path.{◌≡◌, sym, ◌∙◌}
+use mathlib.Core.Path.{◌≡◌}
 use mathlib.Core.Bool.{false}
-use native.Mathlib.Omega.{arith}
-use borrow.Author.Count.{below_more}
-use borrow.Author.Rules.{rules}
 use Rattle.maxplus.specs.Entry.{present?}
-use Rattle.sheet.proofs.Spares.{none_yes, none_no}
 use Rattle.reading.specs.Inner.{meant}
 use Rattle.reading.proofs.empty_column.Given as goal
 

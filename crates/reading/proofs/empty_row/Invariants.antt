@@ -1,14 +1,9 @@
 -- `reading::empty_row` meets its contract. The loop's invariant: the rows passed have an entry. Assumes nothing.
 use Prim.Native.Nat.{ℕ, ◌≤◌, ◌<◌, ◌-◌}
-use mathlib.Core.Path.{◌≡◌, sym, subst}
-use mathlib.Core.Bool.{Bool, false}
+use mathlib.Core.Bool.{false}
 use mathlib.Core.List.{[]}
-use native.Mathlib.Omega.{arith}
-use borrow.Author.Count.{below_more}
-use borrow.Author.Rules.{rules}
 use lib.ListN.{get_or}
 use Rattle.reading.specs.Inner.{EmptyWords}
-use Rattle.reading.proofs.EmptyLaws.{empty_found, empty_none}
 use Rattle.reading.proofs.empty_row.Given as goal
 
 abbrev pub invariant-loop-i : goal.invariant-loop-i

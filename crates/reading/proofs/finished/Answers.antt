@@ -1,18 +1,10 @@
 -- `reading::finished` meets its contract. Assumes nothing.
-use mathlib.Core.Path.{◌≡◌, refl, ap, sym, ◌∙◌}
-use mathlib.Core.Bool.{◌&&◌}
-use mathlib.Core.List.{List}
-use mathlib.Core.Option.{Option}
+use mathlib.Core.Path.{refl, ap, sym, ◌∙◌}
 use native.Mathlib.Omega.{arith}
-use borrow.Author.Rules.{rules}
-use Rattle.maxplus.specs.Entry.{E}
-use Rattle.maxplus.specs.Tables.{Mat}
-use Rattle.sheet.specs.Sheet.{any, all, absent?, part, lag_lines, floor_line, some_lag_missing, sheet_of}
-use Rattle.sheet.proofs.SectionLaws.{sections_of, sections_many, finished_left, finished_no_lag, finished_no_floor, finished_missing, finished_good}
+use Rattle.sheet.specs.Sheet.{part, lag_lines, floor_line}
+use Rattle.sheet.proofs.SectionLaws.{sections_of, sections_many, finished_no_lag, finished_no_floor, finished_missing, finished_good}
 use Rattle.reading.proofs.MissingLaws.{missing_words}
-use Rattle.reading.proofs.WordsLaws.{mark_few}
 use Rattle.reading.specs.Reading.{answer}
-use Rattle.reading.specs.Inner.{Kinds}
 use Rattle.reading.proofs.finished.Goals as goal
 
 pub returns-then-no_lag : goal.returns-then-no_lag

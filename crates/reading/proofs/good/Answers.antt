@@ -1,5 +1,4 @@
 -- `reading::good` meets its contract: the words are those of the rows that were read. Assumes nothing.
-use borrow.Author.Rules.{rules}
 use Rattle.reading.proofs.WordsLaws.{sheet_words}
 use Rattle.reading.proofs.good.Goals as goal
 

@@ -1,5 +1,4 @@
 -- `reading::lag_missing` meets its contract. Assumes nothing.
-use borrow.Author.Rules.{rules}
 use Rattle.reading.proofs.MissingLaws.{empty_is, lag_decides, row_decides, column_decides, land_decides}
 use Rattle.reading.proofs.lag_missing.Goals as goal
 

@@ -4,13 +4,12 @@ use mathlib.Core.Path.{◌≡◌, refl, ap, ap₂, sym, ◌∙◌}
 use mathlib.Core.List.{List, []}
 use mathlib.Core.Bool.{Bool}
 use native.Mathlib.Omega.{arith}
-use borrow.Author.Rules.{rules}
 use lib.ListN.{drop, get_or}
 use Rattle.maxplus.specs.Whole.{up}
 use Rattle.maxplus.specs.Entry.{val}
 use Rattle.words.specs.Words.{entry}
-use Rattle.sheet.specs.Sheet.{headed, sections, part, sizes, tables, count, panels_line, triggers_line, sized}
-use Rattle.sheet.proofs.SectionLaws.{sections_of, sections_many, headed_refused, headed_sized, sized_refused}
+use Rattle.sheet.specs.Sheet.{headed, sections, part, sizes, count, panels_line, triggers_line, sized}
+use Rattle.sheet.proofs.SectionLaws.{sections_of, sections_many, headed_sized, sized_refused}
 use Rattle.rows.specs.Inner.{Found}
 use Rattle.reading.specs.Reading.{answer}
 use Rattle.reading.specs.Inner.{Stacked}

@@ -1,5 +1,4 @@
 -- `reading::read_land` meets its contract: its lines are the definition's kind. Assumes nothing.
-use borrow.Author.Rules.{rules}
 use Rattle.sheet.specs.Text.{bytes}
 use Rattle.reading.proofs.read_land.Goals as goal
 

@@ -1,5 +1,4 @@
 -- `reading::read_last` meets its contract: its line is the definition's kind. Assumes nothing.
-use borrow.Author.Rules.{rules}
 use Rattle.sheet.specs.Text.{bytes}
 use Rattle.reading.proofs.read_last.Goals as goal
 

@@ -1,10 +1,8 @@
 -- `reading::read_rule` meets its contract. Assumes nothing.
 use mathlib.Core.Path.{refl}
 use native.Mathlib.Omega.{arith}
-use borrow.Author.Rules.{rules}
 use Rattle.sheet.specs.Text.{bytes}
 use Rattle.sheet.proofs.SectionLaws.{ruled_none, ruled_refused, ruled_two}
-use Rattle.rows.proofs.RowsLaws.{literal_yes, literal_no}
 use Rattle.reading.proofs.read_rule.Goals as goal
 
 pub returns-then-not-literal_at : goal.returns-then-not-literal_at

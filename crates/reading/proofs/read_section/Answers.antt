@@ -1,12 +1,9 @@
 -- `reading::read_section` meets its contract: each arm is the definition's kind at that place. Assumes nothing.
 use mathlib.Core.Path.{◌≡◌, refl, ap}
 use native.Mathlib.Omega.{arith}
-use borrow.Author.Rules.{rules}
 use lib.ListN.{length}
 use Rattle.sheet.specs.Text.{bytes}
-use Rattle.sheet.specs.Sheet.{sizes, tables}
 use Rattle.reading.specs.Inner.{kinds}
-use Rattle.reading.proofs.WordsLaws.{mark_few}
 use Rattle.reading.proofs.SectionsRead.{section_is}
 use Rattle.reading.proofs.read_section.Goals as goal
 

@@ -1,11 +1,9 @@
 -- `reading::read_sections` meets its contract. The loop's invariant: what was read stands in front of what is left, and its words are stored.
 -- Assumes nothing.
-use Prim.Native.Nat.{◌-◌, ◌≤◌}
-use mathlib.Core.Path.{◌≡◌, refl}
-use native.Mathlib.Omega.{arith}
-use Rattle.rows.proofs.RowsLaws.{reads_fault, reads_found}
-use Rattle.reading.specs.Inner.{kinds, most}
-use Rattle.reading.proofs.SectionsRead.{kinds_few, SectionsRead, sections_none, sections_fault, sections_step, sections_all}
+use Prim.Native.Nat.{◌-◌}
+use mathlib.Core.Path.{◌≡◌}
+use Rattle.reading.specs.Inner.{kinds}
+use Rattle.reading.proofs.SectionsRead.{SectionsRead}
 use Rattle.reading.proofs.read_sections.Given as goal
 
 abbrev pub invariant-loop-k : goal.invariant-loop-k

@@ -1,6 +1,5 @@
 -- `reading::read_sheet` meets its contract. Assumes nothing.
 use mathlib.Core.Path.{ap, sym, ◌∙◌}
-use borrow.Author.Rules.{rules}
 use Rattle.sheet.proofs.SectionLaws.{read_long, read_ruled, read_headed}
 use Rattle.reading.specs.Reading.{answer}
 use Rattle.reading.proofs.read_sheet.Goals as goal

@@ -1,10 +1,7 @@
 -- `reading::some_lag_missing` meets its contract. The loop's invariant: none of the triggers passed is without a lag and not spare. Assumes nothing.
 use Prim.Native.Nat.{ℕ, ◌≤◌, ◌<◌, ◌-◌}
-use mathlib.Core.Path.{◌≡◌, sym, ◌∙◌}
+use mathlib.Core.Path.{◌≡◌}
 use mathlib.Core.Bool.{false}
-use native.Mathlib.Omega.{arith}
-use borrow.Author.Count.{below_more}
-use Rattle.sheet.proofs.LineLaws.{place_any, place_none}
 use Rattle.reading.specs.Inner.{lag_missing_at}
 use Rattle.reading.proofs.some_lag_missing.Given as goal
 

@@ -1,6 +1,5 @@
 -- `reading::table` meets its contract. Assumes nothing.
 use mathlib.Core.Path.{refl}
-use borrow.Author.Rules.{rules}
 use Rattle.maxplus.specs.Finite.{each}
 use Rattle.reading.proofs.table.Goals as goal
 
