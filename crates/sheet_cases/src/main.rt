@@ -1,4 +1,6 @@
 // Reading's case table. Standard input holds cases, each `label|sheet;`; standard output gets a line for each: the refusal, or the sheet read.
+#![tactic(auto)]
+
 use reading::SheetWords;
 use rows::Row;
 
