@@ -7,7 +7,7 @@ use Prim.Native.Nat.{ℕ, zero, suc, ◌≤◌, ◌<◌}
 use native.Mathlib.Omega.{arith}
 use lib.ListN.{get_or}
 use Rattle.maxplus.specs.Tables.{Vec}
-use Rattle.maxplus.specs.Line.{at, line, lt_E, lt_l}
+use Rattle.maxplus.specs.Line.{line, lt_E, lt_l}
 use Rattle.maxplus.proofs.WholeLaws.{up_sub}
 use Rattle.maxplus.proofs.LineLaws.{lt_l_irrefl, lt_l_trans}
 use Rattle.words.specs.Words.{bias, entry}

@@ -2,6 +2,8 @@
 // for trigger 1), gains[l][j] a word in whose order d(i,j) − p(i) stands, and needs[l][j] the word of p(i) − Δ − d(i,j). A walk keeps the
 // untried triggers of each open level and its picks; a panel's mask is narrowed by the picks on the way down, so no mask is restored. What
 // the panels fixed so far ask of each trigger, step 6's w, is kept on the way down and put back on the way up.
+#![tactic(auto)]
+
 ghost use Rattle.std.specs.Prelude.{◌≡◌, ℕ, ◌%◌, ◌<◌, ◌≤◌};
 ghost use Rattle.walk.specs.State.{place_at, walk_at, start_of, counts_of};
 ghost use Rattle.walk.specs.Inner.{TryReady, Tried, FixedReady, Descends, GivenUp, Resumed};
