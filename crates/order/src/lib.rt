@@ -1,4 +1,6 @@
 // Step 1: whether timings that keep the order exist, and the star of the order table.
+#![tactic(auto)]
+
 ghost use Rattle.std.specs.Prelude.{◌≤◌, ◌<◌};
 ghost use Rattle.words.specs.Words.{far};
 ghost use Rattle.tables.specs.Held.{meant, Square, Closely};

@@ -1,4 +1,6 @@
 // Steps 2 to 4: the pulls, the least deviation, and the kept triggers of each panel.
+#![tactic(auto)]
+
 ghost use Rattle.std.specs.Prelude.{◌≡◌, ◌≤◌, ◌<◌};
 ghost use Rattle.maxplus.specs.Entry.{inv};
 ghost use Rattle.words.specs.Words.{entry, Close, Near};
