@@ -1,4 +1,6 @@
 // For a person who reads a refusal: a sentence that says what its number means and what to look at.
+#![tactic(auto)]
+
 ghost use Rattle.std.specs.Prelude.{◌≤◌, length};
 ghost use Rattle.advice.specs.Advice.{advice};
 ghost use Rattle.advice.specs.Inner.{nth_line};

@@ -1,4 +1,6 @@
 // The times that a program is given as an argument, such as `0,1`: numerals as in a sheet, split by one comma.
+#![tactic(auto)]
+
 ghost use Rattle.std.specs.Prelude.{◌≡◌, ℕ, suc, length};
 ghost use Rattle.sheet.specs.Sheet.{refused};
 ghost use Rattle.argument.specs.Times.{numbers};

@@ -1,1 +1,2 @@
 // The text of a sheet's tables: definitions and laws alone.
+#![tactic(auto)]

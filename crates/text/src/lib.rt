@@ -1,5 +1,7 @@
 // The texts that the programs write, put into lent bytes: of a plan, of a kept table, of a timing, of a refusal. Each function returns the
 // place behind what it wrote. A number has at most 20 bytes, and the room asked for is a round number above the longest text.
+#![tactic(auto)]
+
 ghost use Rattle.std.specs.Prelude.{◌≡◌, List, [], ◌∷◌, ◌+◌, ◌*◌, ◌≤◌, ℤ, pos, length, take, get_or};
 ghost use Rattle.std.proofs.Math.Option.{Option};
 ghost use Rattle.maxplus.specs.Finite.{each};

@@ -1,4 +1,6 @@
 // Bytes, numbers and fields put at a place of the lent bytes; what stands before the place is kept.
+#![tactic(auto)]
+
 ghost use Rattle.std.specs.Prelude.{[], ◌∷◌, ◌+◌, ◌<◌, ◌≤◌, length};
 ghost use Rattle.writing.specs.Numerals.{natural, numeral, item};
 ghost use Rattle.writing.specs.Texts.{field};
