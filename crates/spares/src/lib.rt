@@ -1,4 +1,6 @@
 // Spare triggers: which of a sheet's triggers are in use; rows and tables of those alone; and a set of them with each trigger at its own bit.
+#![tactic(auto)]
+
 ghost use Rattle.std.specs.Prelude.{◌≡◌, [], Bool, false, ℕ, ◌≤◌, ◌<◌, T, get_or};
 ghost use Rattle.maxplus.specs.Finite.{byte_of};
 ghost use Rattle.maxplus.specs.Packing.{filled};

@@ -1,4 +1,6 @@
 // A timing: its limit, its components as words, its deviation, and whether it is tightest.
+#![tactic(auto)]
+
 mod deviation;
 pub mod limit;
 mod order;
