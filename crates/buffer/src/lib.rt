@@ -1,4 +1,6 @@
 // A buffer of lines in order, each by its six words: all have one count. Its first len places hold lines.
+#![tactic(auto)]
+
 ghost use Rattle.std.specs.Prelude.{◌≡◌, ◌+◌, ◌≤◌, ◌<◌, min, length};
 ghost use Rattle.tables.specs.Held.{Says};
 ghost use Rattle.buffer.specs.Buffer.{room, Ordered, Placed, Fresh, Inserted};
