@@ -20,7 +20,8 @@ use Rattle.sheet.specs.Sizes.{order_limit}
 use Rattle.sheet.specs.Cue.{used, cue_size, trigger_at, order_table, floor_by, cue_of}
 use Rattle.sheet.specs.Good.{Good}
 use Rattle.sheet.proofs.Good.{read_good}
-use Rattle.sheet.proofs.Spares.{used_not_spare, used_order}
+use Rattle.sheet.proofs.Idle.{used_not_spare}
+use Rattle.sheet.proofs.Spares.{used_order}
 use Rattle.sheet.proofs.Seam.{order_of_after}
 use Rattle.reading.specs.Reading.{answer}
 use Rattle.reading.specs.declared.SheetWords.{SheetWords}

@@ -15,7 +15,7 @@ use Rattle.sheet.specs.Sheet.{got, table, optional, land_kind, tables, part, lag
 use Rattle.sheet.specs.Sheet.{some_lag_missing}
 use Rattle.sheet.proofs.LineLaws.{true_not_false, place_same}
 use Rattle.sheet.proofs.SectionLaws.{row_long, sections_of, sections_many, optional_of}
-use Rattle.sheet.proofs.Spares.{none_yes, none_no, none_same, none_past}
+use Rattle.sheet.proofs.Idle.{none_yes, none_no, none_same, none_past}
 use Rattle.rows.specs.Grid.{strips}
 use Rattle.rows.proofs.PlaceLaws.{strip_at, strips_at}
 use Rattle.reading.specs.Inner.{EmptyWords, Kinds, meant, lag_missing_by, lag_missing_at, some_lag_missing_at, UnmeasuredIs}

@@ -29,8 +29,10 @@ use Rattle.sheet.specs.Meaning.{Timing, landing, Tightest, InTime, Weighed, line
 use Rattle.sheet.specs.Cue.{used, cue_size, trigger_at, cue_of, Orderly, sheet_lines, cap}
 use Rattle.sheet.specs.Overruns.{overrun}
 use Rattle.sheet.specs.Good.{Good}
-use Rattle.sheet.proofs.Spares.{spare_idle, unused_idle}
+use Rattle.sheet.proofs.Idle.{spare_idle}
+use Rattle.sheet.proofs.Spares.{unused_idle}
 use Rattle.sheet.proofs.Overruns.{turned, late_sum}
+use Rattle.sheet.proofs.CapTerms.{late}
 use Rattle.sheet.proofs.Demands.{demand_2}
 
 module _ (t : Sheet) where
@@ -79,19 +81,16 @@ module _ (t : Sheet) where
 
   -- ---- the largest weight
   module _ (b : ℕ → ℤ) (c : Line triggers) where
-    late : ℕ → E
-    late i = line_landing t c i ⊗ num (neg (b i))
-
-    allowed_late : (w : ℤ) → Allowed t b c w ↔ (num w ⊗ sup panels late ≼ unit)
+    allowed_late : (w : ℤ) → Allowed t b c w ↔ (num w ⊗ sup panels (late t b c) ≼ unit)
     unfolding late
     allowed_late w = (
       λ h. rw sup_⊗ (sup_lub panels _ (λ i hi. ≼_of (sym (⊗_assoc _ _ _)) ▸ (turned _ (b i)).0 (h i hi))),
-      λ h i hi. (turned _ (b i)).1 (≼_of (⊗_assoc _ _ _) ▸ ⊗_right (num w) (sup_ub panels late i hi) ▸ h),
+      λ h i hi. (turned _ (b i)).1 (≼_of (⊗_assoc _ _ _) ▸ ⊗_right (num w) (sup_ub panels (late t b c) i hi) ▸ h),
     )
 
     -- where the line reaches some panel the largest is a number, and minus it is the cap
-    module _ (z : ℤ) (e : sup panels late ≡ num z) where
-      up_to : (w : ℤ) → (num w ⊗ sup panels late ≼ unit) ↔ (w ≤z neg z)
+    module _ (z : ℤ) (e : sup panels (late t b c) ≡ num z) where
+      up_to : (w : ℤ) → (num w ⊗ sup panels (late t b c) ≼ unit) ↔ (w ≤z neg z)
       up_to w = rw (e, num_⊗ w z) (
         λ h. record { le = let k = h.un.le in omega (arith, up_neg z, up_add w z) },
         λ h. record { un = record { le = let k = h.le in omega (arith, up_neg z, up_add w z) } },
@@ -107,17 +106,17 @@ module _ (t : Sheet) where
         largest = λ v a. (up_to v).0 ((allowed_late v).0 a);
       })
 
-      cap_inv : num (cap t b c) ≡ inv (sup panels late)
+      cap_inv : num (cap t b c) ≡ inv (sup panels (late t b c))
       cap_inv = ap num cap_number ∙ sym (inv_num z) ∙ ap inv (sym e)
 
   module _ (G : Good t) (o : Orderly t) where
     module _ (b : ℕ → ℤ) (c : Line triggers) (h : In c (sheet_lines t)) where
-      late_there : Present (sup panels (late b c))
+      late_there : Present (sup panels (late t b c))
       unfolding late
       late_there =
           let (i, hi, p) = reaches G o c h in
           let (z, e) = ⊗_present (line_landing t c i) (num (neg (b i))) p (neg (b i), refl) in
-          (_, val_of _ (≼_back e ▸ sup_ub panels (late b c) i hi))
+          (_, val_of _ (≼_back e ▸ sup_ub panels (late t b c) i hi))
 
       -- "so a cap always exists"
       pub cap_is : Cap t b c (cap t b c)

@@ -24,7 +24,8 @@ use Rattle.sheet.specs.Good.{RowsOf, Measured, Good}
 use Rattle.sheet.proofs.LineLaws.{true_not_false, none_or, none_at, at_any, none_place, not_got, bind_got, passed, there}
 use Rattle.sheet.proofs.SectionLaws.{row_long, row_passes, sections_of, optional_of, size_read}
 use Rattle.sheet.proofs.WithinLaws.{within_absent, within_inv, within_sup}
-use Rattle.sheet.proofs.Spares.{some_of, cue_readable}
+use Rattle.sheet.proofs.Idle.{some_of}
+use Rattle.sheet.proofs.Spares.{cue_readable}
 use Rattle.sheet.proofs.Seam.{cue_limited}
 use Rattle.cue.specs.Sizes.{size_limit}
 

@@ -27,7 +27,8 @@ use Rattle.sheet.specs.Good.{Good}
 use Rattle.sheet.specs.Times.{far_limit}
 use Rattle.sheet.specs.Admitted.{admitted}
 use Rattle.sheet.proofs.Good.{read_good}
-use Rattle.sheet.proofs.Spares.{spare_idle, unused_idle}
+use Rattle.sheet.proofs.Idle.{spare_idle}
+use Rattle.sheet.proofs.Spares.{unused_idle}
 use Rattle.sheet.proofs.Overruns.{in_time_early, no_later_lowered, lowered_spare, lowered_within}
 use Rattle.sheet.proofs.AdmittedLaws.{Admits, admitted_as}
 use Rattle.sheet.proofs.Seam.{at_used, over, over_tightest, tightest_ext, tightest_cue}

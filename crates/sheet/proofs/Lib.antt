@@ -2,6 +2,7 @@
 pub mod LineLaws
 pub mod SectionLaws
 pub mod WithinLaws
+pub mod Idle
 pub mod Spares
 pub mod Seam
 pub mod Good
@@ -11,6 +12,7 @@ pub mod OrderedLaws
 pub mod AdmittedLaws
 pub mod TwoSheets
 pub mod Demands
+pub mod CapTerms
 pub mod Caps
 pub mod Decided
 pub mod Fits

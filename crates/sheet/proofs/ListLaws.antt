@@ -31,7 +31,8 @@ use Rattle.sheet.specs.Meaning.{Timing, Weighed}
 use Rattle.sheet.specs.Cue.{used, cue_size, trigger_at, cue_of, Orderly, sheet_lines}
 use Rattle.sheet.specs.Good.{Good}
 use Rattle.sheet.proofs.WithinLaws.{within_absent}
-use Rattle.sheet.proofs.Spares.{used_not_spare, spare_unused}
+use Rattle.sheet.proofs.Idle.{used_not_spare}
+use Rattle.sheet.proofs.Spares.{spare_unused}
 use Rattle.sheet.proofs.Seam.{at_used}
 
 -- some line of a list has a component at j

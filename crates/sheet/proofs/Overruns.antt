@@ -26,7 +26,7 @@ use Rattle.sheet.specs.Meaning.{Timing, landing, InTime}
 use Rattle.sheet.specs.Overruns.{overrun, overruns_by, overruns, lower, lowered}
 use Rattle.sheet.specs.Good.{Good}
 use Rattle.sheet.proofs.WithinLaws.{within_absent, within_more, within_⊗, within_inv, within_sup}
-use Rattle.sheet.proofs.Spares.{spare_idle}
+use Rattle.sheet.proofs.Idle.{spare_idle}
 
 -- y ≤ z exactly when y − z is at most 0
 pub turned : (y : E) (z : ℤ) → (y ≼ num z) ↔ (y ⊗ num (neg z) ≼ unit)

@@ -31,7 +31,8 @@ use Rattle.sheet.specs.Cue.{used, cue_size, trigger_at, order_table, floor_by, d
 use Rattle.sheet.specs.Good.{Measured}
 use Rattle.sheet.proofs.LineLaws.{true_not_false}
 use Rattle.sheet.proofs.WithinLaws.{within_more, within_⊗, within_⊕, within_sup}
-use Rattle.sheet.proofs.Spares.{spare_idle, used_not_spare, unused_idle, order_row, order_column}
+use Rattle.sheet.proofs.Idle.{spare_idle, used_not_spare}
+use Rattle.sheet.proofs.Spares.{unused_idle, order_row, order_column}
 
 larger_⊗ : (a b c : E) → (a ⊕ b) ⊗ c ≡ a ⊗ c ⊕ b ⊗ c
 larger_⊗ a b c = ⊗_comm (a ⊕ b) c ∙ distrib c a b ∙ rw (⊗_comm c a, ⊗_comm c b)

@@ -19,7 +19,7 @@ use Rattle.sheet.specs.Sheet.{absent?, any, all, row, table, Measure, by_marks, 
 use Rattle.sheet.specs.Sheet.{some_lag_missing}
 use Rattle.sheet.specs.Good.{Measured}
 use Rattle.sheet.proofs.LineLaws.{any_none, any_at, place_none}
-use Rattle.sheet.proofs.Spares.{none_absent, none_same}
+use Rattle.sheet.proofs.Idle.{none_absent, none_same}
 use Rattle.sheet_text.specs.SheetText.{first_entries, first_rows, first_numbers, number_line, if_given, trimmed}
 use Rattle.sheet_text.proofs.LineBack.{listed, listed_rows}
 

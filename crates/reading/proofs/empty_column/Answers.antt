@@ -1,7 +1,7 @@
 -- `reading::empty_column` meets its contract. The loop's invariant: the rows passed have no entry there. Assumes nothing.
 use mathlib.Core.Path.{sym, ◌∙◌}
 use native.Mathlib.Omega.{arith}
-use Rattle.sheet.proofs.Spares.{none_yes, none_no}
+use Rattle.sheet.proofs.Idle.{none_yes, none_no}
 use Rattle.reading.proofs.empty_column.Goals as goal
 
 pub returns-then-present : goal.returns-then-present
