@@ -1,5 +1,7 @@
 // Last moments (document 02, No. 5): how late each trigger lands, fired at 0; by this, whether times are in time, times made early enough, and
 // the cap of a line.
+#![tactic(auto)]
+
 ghost use Rattle.std.specs.Prelude.{◌≡◌, ℕ, ◌≤◌, ◌<◌, ℤ};
 ghost use Rattle.maxplus.specs.Entry.{num, ◌≼◌, ◌⊗◌, inv, unit};
 ghost use Rattle.maxplus.specs.Tables.{sup};
