@@ -1,4 +1,6 @@
 // The rows of a table put at a place of the lent bytes, as lines of a sheet.
+#![tactic(auto)]
+
 ghost use Rattle.std.specs.Prelude.{◌+◌, ◌*◌, ◌≤◌, length};
 ghost use Rattle.cue.specs.Sizes.{size_limit};
 ghost use Rattle.words.specs.Words.{entry, Close};
