@@ -12,7 +12,7 @@ use Rattle.maxplus.proofs.SupLaws.{sup_ext}
 use Rattle.cue.specs.Cue.{timing, overdue}
 use Rattle.sheet.specs.Sheet.{Sheet, given, limit}
 use Rattle.sheet.specs.Sizes.{cap_down}
-use Rattle.sheet.specs.Overruns.{overrun, overruns_by, overruns}
+use Rattle.sheet.specs.Overruns.{overrun, overruns_by}
 use Rattle.sheet.proofs.Overruns.{overrun_within}
 use Rattle.words.specs.Words.{entry}
 use Rattle.words.proofs.Laws.{entry_zero, close_none}

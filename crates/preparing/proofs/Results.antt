@@ -1,6 +1,6 @@
 -- For a cue whose tables arrays of words hold: what each function's result is, in the words of the method, and how far its words go.
 use mathlib.Core.Path.{◌≡◌, refl, ap, ap₂, sym, subst, ◌∙◌}
-use mathlib.Core.Logic.{inl}
+use mathlib.Core.Logic.{inl, inr}
 use mathlib.Core.List.{List, [], ◌∷◌}
 use mathlib.Core.Bool.{Bool, true, false, ◌&&◌}
 use Prim.Native.Nat.{ℕ, zero, suc, ◌≤◌, ◌<◌}
@@ -148,6 +148,8 @@ module _ {P : Cue} {orders lags : List (List ℕ)} {c : CueWords} (H : HoldsCue 
   level_floored i h = let (k, hk, q) = each_in P.panels _ i h in go k hk (present? (P.floor k)) refl q
     where
       go : (k : ℕ) → k < P.panels → (b : Bool) → present? (P.floor k) ≡ b → In i (only_if b (k ∷ [])) → (i < P.panels) × Present (P.floor i)
+      go k hk false e x = elim x [ ]
+      go k hk true e (inr x) = elim x [ ]
       go k hk true e (inl q) = rw q (hk, present?_yes (P.floor k) (rw e tt))
 
   module _ {d : List (List ℕ)} {u : List ℕ} (hd : Holds P.panels n (through n P) d) (hu : HoldsV n (λ j. num (pull n P j)) u) where

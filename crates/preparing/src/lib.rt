@@ -1,5 +1,7 @@
 // From what was read to all that the operations are made from: the cue's tables, the order check, M*, d, r, Δ, the kept triggers, the levels
 // and what is compared there.
+#![tactic(auto)]
+
 ghost use Rattle.std.specs.Prelude.{◌≡◌, List, ℕ};
 ghost use Rattle.sheet.specs.Sheet as spec;
 ghost use Rattle.sheet.specs.Sheet.{read};

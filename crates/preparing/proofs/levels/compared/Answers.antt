@@ -1,0 +1,24 @@
+-- `marks::levels::compared` meets its contract. The rows passed are written. Assumes nothing.
+use native.Mathlib.Omega.{arith}
+use Rattle.tables.specs.Held.{meant, meant_v}
+use Rattle.tables.proofs.Loops.{filled_more}
+use Rattle.preparing.proofs.LevelLaws.{gained_at, needed_at}
+use Rattle.preparing.proofs.levels.compared.Goals as goal
+
+pub loop-l-preserved : goal.loop-l-preserved
+loop-l-preserved c =
+    let a = c.args in
+    let i = c.loop-l.invariant in (
+      omega arith,
+      filled_more _ _ _ _ _ (omega arith) i.1 (gained_at a.through.now a.floor c.wide-i.ensures c.less.ensures),
+      filled_more _ _ _ _ _ (omega arith) i.2 (needed_at a.through.now a.asks c.wide-i.ensures c.rest.ensures),
+    )
+
+pub returns : goal.returns
+unfolding meant meant_v
+returns c =
+    let i = c.loop-l.invariant in
+    record {
+      gained = record { at = λ l j h k. (i.1.done l (omega arith)).at j k };
+      needed = record { at = λ l j h k. (i.2.done l (omega arith)).at j k };
+    }
