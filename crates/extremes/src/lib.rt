@@ -1,4 +1,6 @@
 // The test for extreme: a line is extreme exactly when the closures of its triggers have a trigger in common. A set is six bits in a byte.
+#![tactic(auto)]
+
 ghost use Rattle.std.specs.Prelude.{◌≡◌, List, ℕ, ◌+◌, ◌≤◌, ◌<◌, get_or};
 ghost use Rattle.maxplus.specs.Entry.{◌⊗◌, inv, Present};
 ghost use Rattle.words.specs.Words.{entry, Close};

@@ -1,4 +1,6 @@
 // Sets of rays, of which only the least matter, and what comes of them with one panel more.
+#![tactic(auto)]
+
 ghost use Rattle.std.specs.Prelude.{◌≡◌, ℕ, ◌+◌, ◌≤◌, ◌<◌, length};
 ghost use Rattle.words.specs.Words.{entry, Close};
 ghost use Rattle.cue.specs.Sizes.{size_limit};

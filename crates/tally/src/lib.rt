@@ -1,6 +1,8 @@
 // The counts of document 01's walk without walking. What happens below a level hangs on the triggers left to the levels from there on, and
 // on nothing else, so the last answer of each level is remembered with those triggers. Where no fixing cuts another panel's triggers, each
 // level is looked into once. The triggers left to the levels from one on are one word, six bits each, that level's lowest.
+#![tactic(auto)]
+
 ghost use Rattle.std.specs.Prelude.{◌≡◌, ◌+◌, ◌≤◌, ◌<◌, length, get_or};
 ghost use Rattle.walk.specs.Trace.{Masks};
 ghost use Rattle.walk.specs.State.{counts_of};

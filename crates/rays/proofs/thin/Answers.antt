@@ -1,0 +1,20 @@
+-- `rays::thin` meets its contract: the first `k` rays have been looked at, and `left` of them stay.
+use native.Mathlib.Omega.{arith}
+use Rattle.tables.proofs.Loops.{says_true, says_false}
+use Rattle.rays.proofs.RayLaws.{thinning_out, thinning_keep, thinning_end}
+use Rattle.rays.proofs.thin.Goals as goal
+use Rattle.rays.proofs.thin.Goals.{then-not-under, else-not-under}
+
+pub loop-k-preserved : goal.loop-k-preserved
+loop-k-preserved c = (
+  omega arith,
+  elim c.if-not-under.branch [
+    | then-not-under w ↦ rw (w.set-is, w.left-is) (thinning_keep c.loop-k.invariant.1 (omega (arith, c.requires.0))
+        (says_false c.under.result w.if-not-under.true c.under.ensures))
+    | else-not-under w ↦ rw (w.set-is, w.left-is) (thinning_out c.loop-k.invariant.1
+        (says_true c.under.result w.if-not-under.false c.under.ensures))
+  ],
+)
+
+pub returns : goal.returns
+returns c = let l = c.loop-k in thinning_end l.invariant.1 (omega (arith, l.invariant.0))

@@ -1,0 +1,10 @@
+-- `tally::packed` meets its contract: the word speaks of the levels from `k` on.
+use lib.ListN.{get_or}
+use Rattle.tally.specs.Counting.{Speaks}
+use Rattle.tally.proofs.packed.Given as goal
+
+abbrev pub invariant-loop-k : goal.invariant-loop-k
+invariant-loop-k l = Speaks (λ i. get_or l.kept i 0) l.k l.left
+
+abbrev pub decreases-loop-k : goal.decreases-loop-k
+decreases-loop-k l = l.k
