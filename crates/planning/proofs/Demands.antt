@@ -14,7 +14,8 @@ use Rattle.sheet.specs.Meaning.{Timing, Keeps}
 use Rattle.cue.specs.Written.{width, list_words, lent_words}
 use Rattle.cue.proofs.LentLaws.{lent_words_length, uncapped_lent}
 use Rattle.sheet.proofs.ListLaws.{spare_shown}
-use Rattle.sheet.proofs.Caps.{reaches, cap_is, in_time_capped}
+use Rattle.sheet.proofs.Caps.{cap_is, in_time_capped}
+use Rattle.sheet.proofs.LineLandings.{reaches}
 use Rattle.sheet.proofs.TwoSheets.{SameLists}
 use Rattle.sheet.proofs.Demands as sheets
 use Rattle.sheet.specs.Sheet.{got, Sheet, read, spare}

@@ -13,47 +13,24 @@ use Rattle.maxplus.specs.Entry.{E, num, ◌≼◌, ◌⊗◌, inv, unit, Present
 use Rattle.maxplus.specs.Finite.{In}
 use Rattle.maxplus.specs.Line.{Line, at}
 use Rattle.maxplus.specs.Tables.{sup, mv}
-use Rattle.maxplus.specs.Packing.{layout}
 use Rattle.maxplus.proofs.WholeLaws.{up_add, up_neg}
 use Rattle.maxplus.proofs.EntryLaws.{◌▸◌, ≼_absent, ≼_of, ≼_back, ⊗_left, ⊗_right, ⊗_assoc, ⊗_nothing, ⊗_left_comm}
 use Rattle.maxplus.proofs.EntryLaws.{val_of, num_≼, num_⊗, inv_num}
-use Rattle.maxplus.proofs.FiniteLaws.{test, map_in}
-use Rattle.maxplus.proofs.SupLaws.{sup_ub, sup_lub, sup_ext, sup_⊗, sup_l_ub, sup_l_lub, sup_l_⊗}
-use Rattle.maxplus.proofs.PackingLaws.{sup_places}
-use Rattle.maxplus.proofs.LayoutLaws.{layout_place}
-use Rattle.cue.specs.Vectors as vectors
-use Rattle.cue.specs.Method.{lines}
-use Rattle.cue.proofs.Reaches.{⊗_present, line_reaches}
+use Rattle.maxplus.proofs.FiniteLaws.{test}
+use Rattle.maxplus.proofs.SupLaws.{sup_ub, sup_lub, sup_⊗, sup_l_ub, sup_l_lub, sup_l_⊗}
+use Rattle.cue.proofs.Reaches.{⊗_present}
 use Rattle.sheet.specs.Sheet.{Sheet, spare}
 use Rattle.sheet.specs.Meaning.{Timing, landing, Tightest, InTime, Weighed, line_landing, Allowed, Cap, Capped}
-use Rattle.sheet.specs.Cue.{used, cue_size, trigger_at, cue_of, Orderly, sheet_lines, cap}
+use Rattle.sheet.specs.Cue.{Orderly, sheet_lines, cap}
 use Rattle.sheet.specs.Overruns.{overrun}
 use Rattle.sheet.specs.Good.{Good}
 use Rattle.sheet.proofs.Idle.{spare_idle}
-use Rattle.sheet.proofs.Spares.{unused_idle}
 use Rattle.sheet.proofs.Overruns.{turned, late_sum}
-use Rattle.sheet.proofs.CapTerms.{late}
+use Rattle.sheet.proofs.LineLandings.{reaches, late}
 use Rattle.sheet.proofs.Demands.{demand_2}
 
 module _ (t : Sheet) where
   open t use {panels, triggers, lag}
-
-  -- ---- "Every line reaches some panel": each with a floor
-  line_landing_cue : (c : Line (cue_size t)) (i : ℕ) → i < panels →
-      line_landing t (layout (used t) (cue_size t) triggers c) i ≡ vectors.landing (cue_size t) (cue_of t) (at (cue_size t) c) i
-  unfolding line_landing mv
-  line_landing_cue c i hi =
-      sup_places (used t) triggers (λ j. lag i j ⊗ at triggers (layout (used t) (cue_size t) triggers c) j)
-      (λ j hj u. ap (λ e. e ⊗ at triggers (layout (used t) (cue_size t) triggers c) j) ((unused_idle t j hj u).no_lag i hi) ∙ ⊗_nothing _) ∙
-      sup_ext (cue_size t) (λ k hk. ap (λ e. lag i (trigger_at t k) ⊗ e) (layout_place (used t) triggers triggers (omega arith) c k hk))
-
-  pub reaches : Good t → Orderly t → (c : Line triggers) → In c (sheet_lines t) → (i : ℕ) × (i < panels) × Present (line_landing t c i)
-  unfolding sheet_lines
-  reaches G o c h =
-      let (d, hd, e) = map_in (layout (used t) (cue_size t) triggers) (lines (cue_size t) (cue_of t)) c h in
-      let (i, hi, p) = G.readable.floored in
-      let (z, f) = line_reaches (cue_size t) (cue_of t) o d hd i hi p in
-      (i, hi, (z, ap (λ c. line_landing t c i) e ∙ line_landing_cue d i hi ∙ f))
 
   -- ---- a timing lands as late as the latest of its lines, each with its weight
   module _ (L : List (Line triggers)) (X : Timing) (w : Weighed t L X) (i : ℕ) (hi : i < panels) where
@@ -114,7 +91,7 @@ module _ (t : Sheet) where
       late_there : Present (sup panels (late t b c))
       unfolding late
       late_there =
-          let (i, hi, p) = reaches G o c h in
+          let (i, hi, p) = reaches t G o c h in
           let (z, e) = ⊗_present (line_landing t c i) (num (neg (b i))) p (neg (b i), refl) in
           (_, val_of _ (≼_back e ▸ sup_ub panels (late t b c) i hi))
 

@@ -12,7 +12,7 @@ pub mod OrderedLaws
 pub mod AdmittedLaws
 pub mod TwoSheets
 pub mod Demands
-pub mod CapTerms
+pub mod LineLandings
 pub mod Caps
 pub mod Decided
 pub mod Fits
