@@ -5,8 +5,9 @@ linked=(-L "native=$root/target/staticlib" -l static=planner_c)
 
 # The library is built anew unless it is younger than every file that it is made of.
 library_built() {
-    [ -f "$library" ] && [ -z "$(find "$root/crates" "$root/crates.txt" -newer "$library" -print -quit)" ] && return
-    (cd "$root" && rt staticlib planner_c) >"$out/staticlib" 2>&1 && return
+    [ -f "$library" ] && [ -z "$(find "$root/crates" -name out -prune -o -newer "$library" -type f -print -quit)" ] &&
+        [ "$library" -nt "$root/crates.txt" ] && return
+    "$root/tools/library" >"$out/staticlib" 2>&1 && return
     tail -n 20 "$out/staticlib"
     return 1
 }

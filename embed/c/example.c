@@ -3,7 +3,7 @@
  * desk with an idle trigger, with last moments and by the spread of landings, and compares it with other sheets; then makes a sheet to try and
  * plans that. From the root of the repository:
  *
- *     rt staticlib planner_c
+ *     tools/library
  *     cc -std=c99 -Wall -Wextra -Iembed/c embed/c/example.c target/staticlib/libplanner_c.a -o target/example
  *     target/example
  *

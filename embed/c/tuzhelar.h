@@ -1,7 +1,7 @@
 /*
  * Tuzhelar, the proved planner for surtitle cues, for C and C++ on x86-64 Linux.
  *
- * `rt staticlib planner_c` writes target/staticlib/libplanner_c.a, which is linked as it is:
+ * `tools/library` writes target/staticlib/libplanner_c.a, which is linked as it is:
  *
  *     cc -Iembed/c program.c target/staticlib/libplanner_c.a
  *

@@ -1,5 +1,5 @@
 //! Says where `libplanner_c.a` is: in the folder that `TUZHELAR_LIBRARY_DIR` names, otherwise in
-//! `target/staticlib` of the repository, where `rt staticlib planner_c` writes it.
+//! `target/staticlib` of the repository, where `tools/library` writes it.
 //!
 //! The library defines six names and calls `memcpy` and `memset` alone. It has no panic handler and
 //! nothing else that Rust's standard library has too, so it is linked as it is.
@@ -28,7 +28,7 @@ fn main() {
             println!("cargo::rustc-link-lib=static=planner_c");
         }
         _ => println!(
-            "cargo::error={LIBRARY} is not in {}: run `rt staticlib planner_c` in the repository, \
+            "cargo::error={LIBRARY} is not in {}: run `tools/library` in the repository, \
              or set {VARIABLE} to the library's folder",
             folder.display()
         ),

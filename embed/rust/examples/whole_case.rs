@@ -3,7 +3,7 @@
 //! last moments and by the spread of landings, and compares it with other sheets; then makes a sheet to try
 //! and plans that.
 //!
-//!     rt staticlib planner_c
+//!     tools/library
 //!     cargo run --offline --manifest-path embed/rust/Cargo.toml --example whole_case
 
 use std::error::Error;

@@ -4,7 +4,7 @@
 //! bytes of a sheet; this crate only calls them (`ffi`) and gives names to the words. Slices of any length
 //! and content have an answer.
 //!
-//! `rt staticlib planner_c` writes the library that is linked; `build.rs` says where it is looked for.
+//! `tools/library` writes the library that is linked; `build.rs` says where it is looked for.
 //!
 //! ```
 //! let sheet = b"panels=2\ntriggers=2\nlag=2,0\nlag=4,1\nfloor=5,2\ndue=1,2\nafter=-,-\nafter=-,-\n";
