@@ -8,6 +8,7 @@ ghost use Rattle.argument.specs.Inner.{times_of, put_at};
 
 use items::{Item, item_at};
 
+pub mod call;
 pub mod whole;
 
 // Components lie from -FAR_LIMIT to FAR_LIMIT; any number beyond is read as one past the end, which every operation on a timing refuses too.

@@ -10,7 +10,9 @@ ghost use Rattle.hire.specs.Call.{Wanted, state?, place?, looked_at};
 ghost use Rattle.hire.specs.Output.{hire_text, hire_complaint, program_hire, usage, program_text, program_complaint};
 ghost use Rattle.hire.specs.Inner.{passes, held};
 
+use argument::call;
 use argument::whole::{WORD_LIMIT, Whole, read_whole};
+use std::env::Env;
 use hiring::chain::later_state;
 use text::Ends;
 use writing::put_bytes;
@@ -165,13 +167,13 @@ fn size_of(w: Whole) -> usize
 }
 
 // Writes what the other arguments and this number ask for. The space of each is longer than any argument that the system hands over.
-fn write_sheet(number: &[u8]) {
+fn write_sheet<R: Env>(rt: &R, number: &[u8]) {
     let mut panels = [0u8; 131072];
-    let panels_end = os::arg(1, &mut panels);
+    let panels_end = call::copied(rt, 1, &mut panels);
     let mut triggers = [0u8; 131072];
-    let triggers_end = os::arg(2, &mut triggers);
+    let triggers_end = call::copied(rt, 2, &mut triggers);
     let mut state = [0u8; 131072];
-    let state_end = os::arg(3, &mut state);
+    let state_end = call::copied(rt, 3, &mut state);
     let mut out = [0u8; 2048];
     let mut errors = [0u8; 400];
     let ends = answers(
@@ -191,15 +193,15 @@ fn write_sheet(number: &[u8]) {
 }
 
 // A program has no exit status of its own to choose, so a wrong call shows in standard output being empty.
-fn main() {
-    match os::arg_count() {
-        4 => {
-            write_sheet(b"1");
+fn main(rt: HostRuntime) {
+    match call::count(&rt, 5) {
+        3 => {
+            write_sheet(&rt, b"1");
         }
-        5 => {
+        4 => {
             let mut number = [0u8; 131072];
-            let length = os::arg(4, &mut number);
-            write_sheet(&number[..length]);
+            let length = call::copied(&rt, 4, &mut number);
+            write_sheet(&rt, &number[..length]);
         }
         _ => {
             let mut errors = [0u8; 400];

@@ -69,10 +69,10 @@ fn reach_input(wish: Timing) {
 
 // The space is longer than any argument that the system hands over. A program has no exit status of its own to choose, so a wrong call shows in
 // standard output being empty.
-fn main() {
-    if os::arg_count() == 2 {
+fn main(rt: HostRuntime) {
+    if argument::call::count(&rt, 2) == 1 {
         let mut argument = [0u8; 131072];
-        let length = os::arg(1, &mut argument);
+        let length = argument::call::copied(&rt, 1, &mut argument);
         let read = argument::times(&argument[..length]);
         if read.numerals {
             let at = read.at;
