@@ -16,8 +16,8 @@ fn answer(tested: Tested, out: &mut [u8; 64]) -> usize
     ensures out_after { take result out.new ≡ tested_text (test_answer tested) }
 {
     match tested {
-        Tested::Yes => bytes::copy(b"tightest=yes\n", out),
-        Tested::No => bytes::copy(b"tightest=no\n", out),
+        Tested::Yes => writing::put_bytes(out, 0, b"tightest=yes\n"),
+        Tested::No => writing::put_bytes(out, 0, b"tightest=no\n"),
         Tested::Refused(refusal) => text::refusal_text(out, refusal),
     }
 }
