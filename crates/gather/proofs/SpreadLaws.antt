@@ -14,7 +14,7 @@ use lib.Seq.{get_or-set_same, get_or-take, length-take-le, take-suc}
 use Rattle.maxplus.specs.Entry.{E, num, ◌≼◌, ◌⊗◌, ◌⊕◌, inv, unit, Present}
 use Rattle.maxplus.specs.Finite.{In, map_l}
 use Rattle.maxplus.specs.Tables.{Vec, normal}
-use Rattle.maxplus.specs.Line.{Line, line}
+use Rattle.maxplus.specs.Line.{Line}
 use Rattle.maxplus.specs.Sorted.{sift}
 use Rattle.maxplus.proofs.EntryLaws.{◌▸◌, ≼_of, ≼_back, ⊕_l, ⊕_r, ⊗_right, ⊗_unit_r, inv_num}
 use Rattle.maxplus.proofs.FiniteLaws.{in_app, in_left, in_right, in_at, in_place, in_map, map_in}

@@ -1,4 +1,6 @@
 // The least lines above a last one: those of rays, which are made by adding one panel with a floor after the other.
+#![tactic(auto)]
+
 ghost use Rattle.std.specs.Prelude.{List, [], ◌∷◌, ◌++◌, ℕ, ◌+◌, ◌≤◌, ◌<◌, length, take, ◌≡◌, true};
 ghost use Rattle.maxplus.specs.Finite.{map_l};
 ghost use Rattle.maxplus.specs.Line as maxplus;

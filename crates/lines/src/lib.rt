@@ -1,4 +1,6 @@
 // From prepared tables to document 01's list in a lent space. A buffer gathers the lines in order, one buffer-full after the other.
+#![tactic(auto)]
+
 ghost use Rattle.cue.specs.Cue.{Cue};
 ghost use Rattle.cue.specs.Method.{lines};
 ghost use Rattle.candidates.specs.Drawable.{Drawable};

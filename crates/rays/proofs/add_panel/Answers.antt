@@ -12,4 +12,4 @@ returns-then-all_meet c =
 pub returns : goal.returns
 returns c =
     let (a, b, q) = c.expand-part.ensures in
-    (q.size, added_kept (omega (arith, b, c.if-part-many.false)) q c.keep.ensures)
+    (q.size, added_kept (omega (arith, b)) q c.keep.ensures)

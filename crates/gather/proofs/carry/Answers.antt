@@ -1,0 +1,23 @@
+-- `gather::carry` meets its contract: the set has been carried on to `level`.
+use native.Mathlib.Omega.{arith}
+use Rattle.candidates.proofs.DrawableLaws.{levels_few, stars_close, needs_close}
+use Rattle.gather.proofs.SpreadLaws.{level_wants, carried_more}
+use Rattle.gather.proofs.carry.Goals as goal
+
+pub bounds-kept-level : goal.bounds-kept-level
+bounds-kept-level c = omega (arith, c.loop-level-test.true, levels_few c.requires.0.2)
+
+pub offset_bounds-needs-level : goal.offset_bounds-needs-level
+offset_bounds-needs-level c = omega (arith, c.loop-level-test.true, levels_few c.requires.0.2)
+
+pub bounds-needs-level : goal.bounds-needs-level
+bounds-needs-level c = omega (arith, c.loop-level-test.true, levels_few c.requires.0.2)
+
+pub add_panel-added-requires : goal.add_panel-added-requires
+add_panel-added-requires c =
+    let (y, v) = c.loop-level.invariant in
+    let p = c.requires.0.2 in
+    (p.some, p.few, v.few, v.size, y, v.words, stars_close p, level_wants c.loop-level-test.true (needs_close p))
+
+pub loop-level-preserved : goal.loop-level-preserved
+loop-level-preserved c = (c.add_panel-added.ensures.0, carried_more c.add_panel-added.result.done c.loop-level-test.true c.if-not-added.false c.add_panel-added.ensures.1 c.loop-level.invariant.1)
