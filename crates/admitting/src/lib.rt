@@ -1,4 +1,6 @@
 // What testing a timing refuses, with which every operation on a sheet and a timing begins; and then all that it is made from.
+#![tactic(auto)]
+
 ghost use Rattle.std.specs.Prelude.{Bool, ℕ, ℤ};
 ghost use Rattle.maxplus.specs.Packing.{rank, place};
 ghost use Rattle.sheet.specs.Admitted.{admitted};

@@ -1,4 +1,6 @@
 // Testing a timing: whether it is tightest and in time.
+#![tactic(auto)]
+
 ghost use Rattle.std.specs.Prelude.{◌≡◌};
 ghost use Rattle.timing.specs.Times.{component};
 ghost use Rattle.testing.specs.Testing.{testing, test_answer};
