@@ -20,4 +20,6 @@ add_panel-added-requires c =
     (p.some, p.few, v.few, v.size, y, v.words, stars_close p, level_wants c.loop-level-test.true (needs_close p))
 
 pub loop-level-preserved : goal.loop-level-preserved
-loop-level-preserved c = (c.add_panel-added.ensures.0, carried_more c.add_panel-added.result.done c.loop-level-test.true c.if-not-added.false c.add_panel-added.ensures.1 c.loop-level.invariant.1)
+loop-level-preserved c =
+    let (y, e) = c.add_panel-added.ensures in
+    (y, carried_more c.add_panel-added.result.done c.loop-level-test.true c.if-not-added.false e c.loop-level.invariant.1)

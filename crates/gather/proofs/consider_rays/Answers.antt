@@ -13,7 +13,8 @@ consider-held-requires c =
     ((P, needs, _, p, c.loop-k.invariant.gathered P needs C p q g), c.requires.1, d.count, d.words.sized, d.words.close)
 
 pub loop-k-preserved : goal.loop-k-preserved
-loop-k-preserved c = drawn_to_more c.loop-k.invariant c.loop-k-test.true (omega (arith, c.requires.2, c.requires.3)) c.normal-line.ensures c.consider-held.ensures
+loop-k-preserved c =
+    drawn_to_more c.loop-k.invariant c.loop-k-test.true (omega (arith, c.requires.2, c.requires.3)) c.normal-line.ensures c.consider-held.ensures
 
 pub returns : goal.returns
 returns c =

@@ -8,7 +8,8 @@ use Rattle.buffer.specs.Space.{laid}
 use Rattle.lines.proofs.write.write_held.Given as goal
 
 abbrev pub invariant-loop-k : goal.invariant-loop-k
-invariant-loop-k l = (l.k ≤ l.len) × (length l.out ≡ length l.initial.out) × (l.out ≡ laid l.initial.out l.at (list_words l.n (held l.n l.k l.buf)))
+invariant-loop-k l =
+    (l.k ≤ l.len) × (length l.out ≡ length l.initial.out) × (l.out ≡ laid l.initial.out l.at (list_words l.n (held l.n l.k l.buf)))
 
 abbrev pub decreases-loop-k : goal.decreases-loop-k
 decreases-loop-k l = l.len - l.k

@@ -15,7 +15,8 @@ abbrev words_of : LineWords → List ℤ
 words_of line = component_words line.count (line_of line.count line.at)
 
 abbrev pub invariant-loop-j : goal.invariant-loop-j
-invariant-loop-j l = (l.j ≤ size_limit) × (length l.out ≡ length l.initial.out) × (l.out ≡ paste l.initial.out (l.at + 1) (words_of l.line) l.j)
+invariant-loop-j l =
+    (l.j ≤ size_limit) × (length l.out ≡ length l.initial.out) × (l.out ≡ paste l.initial.out (l.at + 1) (words_of l.line) l.j)
 
 abbrev pub decreases-loop-j : goal.decreases-loop-j
 decreases-loop-j l = 6 - l.j

@@ -7,7 +7,8 @@ use Rattle.walk.specs.State.{picked}
 use Rattle.walk.proofs.narrowing.narrowed.Given as goal
 
 abbrev pub invariant-loop-i : goal.invariant-loop-i
-invariant-loop-i l = (l.i ≤ l.k) × (narrow l.gains l.k (drop l.i (picked l.k l.picks)) l.i l.m ≡ mask_at l.kept l.gains (picked l.k l.picks)) × (l.m < 64)
+invariant-loop-i l =
+    (l.i ≤ l.k) × (narrow l.gains l.k (drop l.i (picked l.k l.picks)) l.i l.m ≡ mask_at l.kept l.gains (picked l.k l.picks)) × (l.m < 64)
 
 abbrev pub decreases-loop-i : goal.decreases-loop-i
 decreases-loop-i l = l.k - l.i
