@@ -1,4 +1,6 @@
 // Kept table and walk: the least deviation, each panel's kept triggers, steps and selections.
+#![tactic(auto)]
+
 ghost use Rattle.std.specs.Prelude.{◌≡◌, Bool, false, ℕ, get_or};
 ghost use Rattle.maxplus.specs.Finite.{byte_of};
 ghost use Rattle.maxplus.specs.Packing.{filled};
