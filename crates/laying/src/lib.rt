@@ -1,5 +1,7 @@
 // From the list of a cue to the sheet's, where it stands in a lent space: each line laid out over the sheet's triggers, and with its cap if the
 // sheet has a last line.
+#![tactic(auto)]
+
 ghost use Rattle.std.specs.Prelude.{◌≡◌, List, ℤ};
 ghost use Rattle.cue.specs.Written.{width, with_list};
 ghost use Rattle.sheet.specs.Sheet.{Sheet, given};

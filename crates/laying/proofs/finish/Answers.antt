@@ -1,0 +1,21 @@
+-- `laying::finish` meets its contract: the cue's lines are laid out, and where the sheet has a last line each gets its cap.
+use Rattle.laying.proofs.FinishLaws.{listing_room, caps_ready, finished_capped, finished_plain}
+use Rattle.laying.proofs.finish.Goals as goal
+
+pub lay_out-requires : goal.lay_out-requires
+lay_out-requires c = let (t, before, l) = c.requires in (listing_room l, (_, _, l.placed))
+
+pub add_caps-requires : goal.add_caps-requires
+add_caps-requires c =
+    let (t, before, l) = c.requires in
+    caps_ready l c.lay_out.ensures l.placed.triggers_are c.if-moments.true
+
+pub returns-then-moments : goal.returns-then-moments
+returns-then-moments c =
+    λ t before l.
+    finished_capped l c.lay_out.ensures l.placed.triggers_are c.if-moments.true c.add_caps.ensures
+
+pub returns-else-moments : goal.returns-else-moments
+returns-else-moments c =
+    λ t before l.
+    finished_plain l c.lay_out.ensures c.if-moments.false
