@@ -1,6 +1,8 @@
 // The walk's case table. Standard input holds cases, each `label|sheet;`; standard output gets the label and a line for the state before the
 // first step and for each that a step hands back: the selection, step 6's w, how many panels are fixed and the fixings so far. Once the end
 // is come to, one more step is taken.
+#![tactic(auto)]
+
 ghost use Rattle.std.specs.Prelude.{◌<◌, ◌≤◌};
 ghost use Rattle.walk.specs.Trace.{Masks};
 ghost use Rattle.walk.specs.Steps.{StepReady};
