@@ -1,4 +1,6 @@
 // Planning: the least deviation, and the list at the front of the lent space.
+#![tactic(auto)]
+
 ghost use Rattle.std.specs.Prelude.{◌≡◌, List, ℕ};
 ghost use Rattle.sheet.specs.Sheet.{Sheet};
 ghost use Rattle.preparing.specs.Prepared.{Made};
