@@ -29,25 +29,29 @@ near_by : {b : Bool} {n m : ℕ} (X : Timing) → b ≡ some_beyond n X → n �
 near_by X e q v h = subst (λ n. some_beyond n X ≡ v) q (sym e ∙ h)
 
 pub returns-then-reading-ne0 : goal.returns-then-reading-ne0
-returns-then-reading-ne0 c = refuses (admitted_refused _ _ _ _ (reading_refused _ _ c.read_sheet-reading.ensures c.if-reading-ne0.true)) c.not_prepared.ensures c.if-reading-ne0.true
+returns-then-reading-ne0 c =
+    refuses (admitted_refused _ _ _ _ (reading_refused _ _ c.read_sheet-reading.ensures c.if-reading-ne0.true))
+    c.not_prepared.ensures c.if-reading-ne0.true
 
 pub returns-then-timing-n : goal.returns-then-timing-n
 returns-then-timing-n c =
-    let (t, r, e, W) = (reading_good _ _ c.read_sheet-reading.ensures c.if-reading-ne0.false) in
+    let (t, r, e, W) = reading_good _ _ c.read_sheet-reading.ensures c.if-reading-ne0.false in
     refuses (admitted_10 _ _ _ t r e (λ q. c.if-timing-n.true (q ∙ sym (triggers_of W)))) c.not_prepared-then-timing-n.ensures (λ e. omega arith)
 
 pub beyond-requires : goal.beyond-requires
-beyond-requires c = let (t, r, e, W) = (reading_good _ _ c.read_sheet-reading.ensures c.if-reading-ne0.false) in omega (arith, triggers_of W, W.good.triggers_few)
+beyond-requires c =
+    let (t, r, e, W) = reading_good _ _ c.read_sheet-reading.ensures c.if-reading-ne0.false in
+    omega (arith, triggers_of W, W.good.triggers_few)
 
 pub returns-then-beyond : goal.returns-then-beyond
 returns-then-beyond c =
-    let (t, r, e, W) = (reading_good _ _ c.read_sheet-reading.ensures c.if-reading-ne0.false) in
+    let (t, r, e, W) = reading_good _ _ c.read_sheet-reading.ensures c.if-reading-ne0.false in
     refuses (admitted_11 _ _ _ t r e (c.if-timing-n.false ∙ triggers_of W) (near_by _ c.beyond.ensures (triggers_of W) true c.if-beyond.true))
     c.not_prepared-then-beyond.ensures (λ e. omega arith)
 
 pub returns : goal.returns
 returns c =
-    let (t, r, e, W) = (reading_good _ _ c.read_sheet-reading.ensures c.if-reading-ne0.false) in
+    let (t, r, e, W) = reading_good _ _ c.read_sheet-reading.ensures c.if-reading-ne0.false in
     same_sheet
     (admitted_on _ _ _ t r e (c.if-timing-n.false ∙ triggers_of W) (near_by _ c.beyond.ensures (triggers_of W) false c.if-beyond.false))
     (c.prepare.ensures _ c.read_sheet-reading.ensures)

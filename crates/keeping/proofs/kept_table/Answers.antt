@@ -9,7 +9,9 @@ use Rattle.keeping.proofs.KeptLaws.{walked_answer, keeping_of}
 use Rattle.keeping.proofs.kept_table.Goals as goal
 
 pub returns-then-prepared-ne0 : goal.returns-then-prepared-ne0
-returns-then-prepared-ne0 c = c.no_table.ensures ∙ ap kept_answer (keeping_of _ ((c.prepare-prepared.ensures _ c.read_sheet-reading.ensures).refusal c.if-prepared-ne0.true))
+returns-then-prepared-ne0 c =
+    c.no_table.ensures ∙
+    ap kept_answer (keeping_of _ ((c.prepare-prepared.ensures _ c.read_sheet-reading.ensures).refusal c.if-prepared-ne0.true))
 
 pub returns : goal.returns
 returns c =
