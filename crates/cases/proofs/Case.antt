@@ -1,6 +1,7 @@
 -- Cases as tables about the operations themselves: for each the sheet, what is lent, what the operation returns and what it leaves. A case
 -- holds where the operation's contract allows nothing else. `Learnt` of an operation is its contract as a caller has it: the toolchain reads
 -- it from the `ensures` in the source, so that another contract there makes another claim here.
+use denote.MutBor.{MutBor}
 use mathlib.Core.Path.{◌≡◌, refl, ap, sym, ◌∙◌}
 use mathlib.Core.Bool.{Bool, true, false, decide}
 use mathlib.Core.List.{List, [], ◌∷◌, ◌++◌}
@@ -13,11 +14,8 @@ use contract.Lifetimes.{Lfts}
 use denote.Ref.{Bor}
 use Rattle.maxplus.specs.Entry.{num, ◌≼◌, ◌⊗◌, unit}
 use Rattle.maxplus.proofs.EntryLaws.{≼_dec}
-use Rattle.maxplus.specs.Line.{at}
 use Rattle.maxplus.proofs.FiniteLaws.{all_dec, decide_yes, decide_of}
-use Rattle.cue.specs.Vectors.{Tightest, deviation, Readable}
-use Rattle.cue.specs.Method.{kept}
-use Rattle.cue.specs.Method.{selections, steps}
+use Rattle.cue.specs.Vectors.{Tightest, Readable}
 use Rattle.cue.proofs.Deviation.{tightest?}
 use Rattle.sheet.specs.Text.{bytes}
 use Rattle.sheet.specs.Sheet.{read, Sheet}
@@ -58,7 +56,7 @@ pub data Case : Type 0 where
 
 -- whatever references a caller hands over to these bytes and words: what the contract allows is the case's answer, and what is left
 abbrev pub CaseHolds : Case → Type 0
-CaseHolds (plans s lent r left) = (κs : Lfts 2) (sheet : Bor (List ℕ)) (before after : Bor (List ℤ)) (q : CuePlan) →
+CaseHolds (plans s lent r left) = (κs : Lfts 2) (sheet : Bor (List ℕ)) (before after : MutBor (List ℤ)) (q : CuePlan) →
     sheet.now ≡ bytes s → before.now ≡ lent → plan.Learnt κs (sheet, (before, tt)) q (sheet, (after, tt)) → (q ≡ r) × (after.now ≡ left)
 CaseHolds (keeps s r) = (κs : Lfts 1) (sheet : Bor (List ℕ)) (q : KeptTable) →
     sheet.now ≡ bytes s → keptTable.Learnt κs (sheet, tt) q (sheet, tt) → q ≡ r
@@ -66,7 +64,7 @@ CaseHolds (tests s times r) = (κs : Lfts 1) (sheet : Bor (List ℕ)) (timing : 
     sheet.now ≡ bytes s → timing ≡ record { count = length times; at = times ++ rest } →
     test_timing.Learnt κs (sheet, (timing, tt)) q (sheet, (timing, tt)) → q ≡ r
 CaseHolds (reaches s times lent r left) =
-    (κs : Lfts 2) (sheet : Bor (List ℕ)) (timing : Timing) (rest : List ℤ) (before after : Bor (List ℤ)) (q : Reached) →
+    (κs : Lfts 2) (sheet : Bor (List ℕ)) (timing : Timing) (rest : List ℤ) (before after : MutBor (List ℤ)) (q : Reached) →
     sheet.now ≡ bytes s → timing ≡ record { count = length times; at = times ++ rest } → before.now ≡ lent →
     latest_timing.Learnt κs (sheet, (timing, (before, tt))) q (sheet, (timing, (after, tt))) → (q ≡ r) × (after.now ≡ left)
 
@@ -158,13 +156,13 @@ holds (plans s lent r left) (e, w) = λ κs sheet before after q b l (f, v). (
 )
 holds (keeps s r) e = λ κs sheet q b f. f ∙ ap (λ s. kept_answer (keeping s)) b ∙ e
 holds (tests s times r) e = λ κs sheet timing rest q b t h.
-    tested_one q r (h ∙ ap (λ s. testing s (timing .count) (component (timing .at))) b ∙
+    tested_one q r (h ∙ ap (λ s. testing s timing.count (component timing.at)) b ∙
     ap (λ (t : Timing). testing (bytes s) t.count (component t.at)) t ∙ sym (e rest))
 holds (reaches s times lent r left) e = λ κs sheet timing rest before after q b t l (f, v). let (x, y) = e rest in (
-  f ∙ ap (λ s. reach_answer (reaching s (timing .count) (component (timing .at)) before.now)) b ∙
+  f ∙ ap (λ s. reach_answer (reaching s timing.count (component timing.at) before.now)) b ∙
       ap (λ (t : Timing). reach_answer (reaching (bytes s) t.count (component t.at) before.now)) t ∙
       ap (λ l. reach_answer (reaching (bytes s) (length times) (component (times ++ rest)) l)) l ∙ x,
-  v ∙ ap (λ s. reached_space (reaching s (timing .count) (component (timing .at)) before.now) before.now) b ∙
+  v ∙ ap (λ s. reached_space (reaching s timing.count (component timing.at) before.now) before.now) b ∙
       ap (λ (t : Timing). reached_space (reaching (bytes s) t.count (component t.at) before.now) before.now) t ∙
       ap (λ l. reached_space (reaching (bytes s) (length times) (component (times ++ rest)) l) l) l ∙ y,
 )

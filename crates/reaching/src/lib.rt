@@ -1,4 +1,6 @@
 // Reaching for the latest tightest timing that is no later than a given one, with the list at the front of the lent space.
+#![tactic(auto)]
+
 ghost use Rattle.std.specs.Prelude.{◌≡◌, Bool, false, ℕ};
 ghost use Rattle.maxplus.specs.Packing.{filled};
 ghost use Rattle.sheet.specs.Sheet.{Sheet};

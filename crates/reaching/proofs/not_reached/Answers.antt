@@ -6,8 +6,7 @@ use lib.IntN.{ℤ, pos}
 use lib.ListN.{replicate}
 use Rattle.timing.proofs.NumberLaws.{components_none}
 use Rattle.reaching.specs.declared.Reached.{Reached}
-use Rattle.reaching.proofs.not_reached.Statement.{statement}
-use Rattle.reaching.proofs.not_reached.Tie as tie
+use Rattle.reaching.proofs.not_reached.Goals as goal
 
 -- a refusal's answer, with no components
 abbrev answered : (k wide count : ℕ) → List ℤ → Reached
@@ -17,8 +16,8 @@ same_answer : {k l v w n m : ℕ} {at : List ℤ} → k ≡ l → v ≡ w → n 
     answered k v n (replicate 6 (pos 0)) ≡ answered l w m at
 same_answer d e f g = cc
 
-returns : tie.Need-returns
-returns c = let none = components_none (λ j. pos 0) in (λ e. same_answer e refl refl none, λ v e. same_answer refl v e none)
+pub returns-clause-full : goal.returns-clause-full
+returns-clause-full c = let none = components_none (λ j. pos 0) in λ e. same_answer e refl refl none
 
-pub not-reached-spec : {M : Type 1} → statement M
-not-reached-spec = tie.close (tie.spec returns)
+pub returns-clause-refused : goal.returns-clause-refused
+returns-clause-refused c = let none = components_none (λ j. pos 0) in λ v e. same_answer refl v e none
