@@ -25,7 +25,7 @@ use Rattle.answer_words.specs.Words.{pairs, plan_words, kept_words, room_words, 
 
 -- a word comes back as it was
 pub back : {z t : ℤ} → mag z < 2 ^ hbits w64 → z ≡ t → to_z w64 (of_z w64 z) ≡ t
-back h e = to_z-of_z (record { sfits = h }) ∙ e
+back h e = to_z-of_z {w = w64} (record { sfits = h }) ∙ e
 
 pub sets_append : (vs ws l : List ℤ) (i k : ℕ) → i + length vs ≡ k → sets l i (vs ++ ws) ≡ sets (sets l i vs) k ws
 sets_append [] ws l i k e = ap (λ k. sets l k ws) (let q : i ≡ k = omega arith in q)

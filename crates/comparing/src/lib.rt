@@ -1,4 +1,6 @@
 // Comparing two sheets: whether the same timings are tightest on both.
+#![tactic(auto)]
+
 ghost use Rattle.std.specs.Prelude.{◌≡◌, List, ◌+◌, ◌*◌, ◌≤◌, ℤ, length, take, drop};
 ghost use Rattle.cue.specs.Written.{line_size, uncapped};
 ghost use Rattle.tables.specs.Held.{Says};

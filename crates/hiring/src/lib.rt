@@ -1,4 +1,6 @@
 // A load that the hire shop can repeat: one sheet from its sizes and a state, and the next state.
+#![tactic(auto)]
+
 ghost use Rattle.std.specs.Prelude.{◌≡◌, ◌+◌, ◌*◌, ◌≤◌, ◌++◌, length};
 ghost use Rattle.maxplus.specs.Entry.{num};
 ghost use Rattle.cue.specs.Sizes.{size_limit};
