@@ -1,4 +1,6 @@
 // The kept table and the walk's numbers of the sheet on standard input, on standard output; for a refusal also a sentence on standard error.
+#![tactic(auto)]
+
 ghost use Rattle.std.specs.Prelude.{◌≡◌, take};
 ghost use Rattle.io.specs.Counts.{IsPrefixLen};
 ghost use Rattle.keeping.specs.Keeping.{keeping};
