@@ -1,4 +1,6 @@
 // A sheet of a load that can be repeated, on standard output; for a refusal also a sentence on standard error.
+#![tactic(auto)]
+
 ghost use Rattle.std.specs.Prelude.{◌≡◌, ℕ, min, List, [], take, ℤ};
 ghost use Rattle.maxplus.specs.Whole.{up};
 ghost use Rattle.io.specs.Counts.{IsPrefixLen};
@@ -12,8 +14,8 @@ ghost use Rattle.hire.specs.Inner.{passes, held};
 
 use argument::call;
 use argument::whole::{WORD_LIMIT, Whole, read_whole};
-use std::env::Env;
 use hiring::chain::later_state;
+use std::env::Env;
 use text::Ends;
 use writing::put_bytes;
 
