@@ -1,5 +1,7 @@
 // Whether the times of the argument are tightest for the sheet on standard input, on standard output; for a refusal also a sentence on standard
 // error.
+#![tactic(auto)]
+
 ghost use Rattle.std.specs.Prelude.{◌≡◌, take};
 ghost use Rattle.io.specs.Counts.{IsPrefixLen};
 ghost use Rattle.timing.specs.Times.{component};
