@@ -1,4 +1,6 @@
 // The plan of the sheet on standard input, on standard output; for a refusal also a sentence on standard error.
+#![tactic(auto)]
+
 ghost use Rattle.std.specs.Prelude.{◌≡◌, List, ◌+◌, ◌*◌, ◌≤◌, ℤ, length, take};
 ghost use Rattle.std.proofs.Math.Option.{Option};
 ghost use Rattle.maxplus.specs.Line.{Line};
