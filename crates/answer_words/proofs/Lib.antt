@@ -1,3 +1,2 @@
 -- Words stored one after the other make the answers.
 pub mod Storing
-pub mod ComparedLaws

@@ -1,15 +1,10 @@
 -- `answer_words::answers::put_panels` meets its contract: after i turns the words of i panels are stored. Assumes nothing.
-use mathlib.Core.Path.{◌≡◌, refl, ap, ◌∙◌}
-use Prim.Native.Nat.{◌-◌, ◌≤◌}
+use mathlib.Core.Path.{refl}
 use native.Mathlib.Omega.{arith}
 use borrow.Author.Rules.{rules}
-use lib.IntN.{ℤ}
-use lib.ListN.{length}
-use lib.Seq.{sets, length-sets}
 use Rattle.maxplus.specs.Finite.{each}
 use Rattle.answer_words.specs.Words.{pairs}
 use Rattle.answer_words.proofs.Storing.{back, panel_more}
-use Rattle.cue.specs.Sizes.{size_limit}
 use Rattle.answer_words.proofs.answers.put_panels.Goals as goal
 
 pub loop-i-init : goal.loop-i-init
@@ -17,9 +12,8 @@ unfolding pairs each
 loop-i-init c = (omega arith, refl)
 
 pub loop-i-preserved : goal.loop-i-preserved
-loop-i-preserved c =
-    (
-      omega arith,
-      panel_more _ c.loop-i.i _ _ c.loop-i.invariant.1 (back (search rules) c.byte_word.ensures) c.put.ensures
-          (back (search rules) c.byte_word-in-loop-i.ensures) c.put-in-loop-i.ensures,
-    )
+loop-i-preserved c = (
+  omega arith,
+  panel_more _ c.loop-i.i _ _ c.loop-i.invariant.1 (back (search rules) c.byte_word.ensures) c.put.ensures
+      (back (search rules) c.byte_word-in-loop-i.ensures) c.put-in-loop-i.ensures,
+)

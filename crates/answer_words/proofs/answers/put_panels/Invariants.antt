@@ -1,14 +1,8 @@
 -- `answer_words::answers::put_panels` meets its contract: after i turns the words of i panels are stored. Assumes nothing.
-use mathlib.Core.Path.{◌≡◌, refl, ap, ◌∙◌}
+use mathlib.Core.Path.{◌≡◌}
 use Prim.Native.Nat.{◌-◌, ◌≤◌}
-use native.Mathlib.Omega.{arith}
-use borrow.Author.Rules.{rules}
-use lib.IntN.{ℤ}
-use lib.ListN.{length}
-use lib.Seq.{sets, length-sets}
-use Rattle.maxplus.specs.Finite.{each}
+use lib.Seq.{sets}
 use Rattle.answer_words.specs.Words.{pairs}
-use Rattle.answer_words.proofs.Storing.{back, panel_more}
 use Rattle.cue.specs.Sizes.{size_limit}
 use Rattle.answer_words.proofs.answers.put_panels.Given as goal
 

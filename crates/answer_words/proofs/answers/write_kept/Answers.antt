@@ -1,9 +1,6 @@
 -- `answer_words::answers::write_kept` meets its contract. Assumes nothing.
-use mathlib.Core.Path.{◌≡◌}
 use native.Mathlib.Omega.{arith}
-use lib.IntN.{pos}
 use mir.Syntax.{w64}
-use mir.Val.{to_z, of_z}
 use mir.Facts.{to_z_pos}
 use Rattle.answer_words.proofs.Storing.{back, table_words, no_table}
 use borrow.Author.Rules.{rules}

@@ -1,7 +1,4 @@
 -- `answer_words::answers::write_plan` meets its contract. Assumes nothing.
-use mathlib.Core.Path.{◌≡◌}
-use mir.Syntax.{w64}
-use mir.Val.{to_z, of_z}
 use Rattle.answer_words.proofs.Storing.{back, planned_words, full_words}
 use borrow.Author.Rules.{rules}
 use Rattle.answer_words.proofs.answers.write_plan.Goals as goal

@@ -1,5 +1,4 @@
 -- `answer_words::times::six_times` meets its contract. Assumes nothing.
-use native.Mathlib.Omega.{arith}
 use Rattle.answer_words.proofs.Storing.{back}
 use Rattle.answer_words.proofs.Storing.{six_listed}
 use borrow.Author.Rules.{rules}
