@@ -1,5 +1,7 @@
 // The operations for C and Rust. Nothing is asked of a length: a word that does not fit an answer is dropped, and as many times are
 // taken as are lent.
+#![tactic(auto)]
+
 ghost use Rattle.std.specs.Prelude.{◌≡◌, length};
 ghost use Rattle.testing.specs.Testing.{testing};
 ghost use Rattle.planning.specs.Planning.{planning, space_after, plan_answer};
