@@ -10,9 +10,9 @@ and of the code keep their spelling. It stops where two names would fall togethe
 import collections
 import os
 import re
+import subprocess
 import sys
 
-KIT = "/opt/rattle"
 NAME = r"[^\s(){};,.\"«»\[\]|@`]+"
 DECLARED = re.compile(r"^\s*(?:(?:pub|abbrev|unfoldable|ruleset)\s+)*(" + NAME + r")\s+:(?=\s|$)", re.M)
 SORTS = re.compile(r"^\s*(?:(?:pub|abbrev|unfoldable)\s+)*(?:data|record)\s+(" + NAME + r")", re.M)
@@ -64,8 +64,9 @@ def turned(name):
 
 
 def library_names():
+    kit = os.path.dirname(subprocess.run(["rt", "doc"], capture_output=True, text=True, check=True).stdout.strip())
     found = set()
-    for path in texts(os.path.join(KIT, "rattle"), ".antt"):
+    for path in texts(os.path.join(kit, "rattle"), ".antt"):
         found.update(it for it in re.split(r"[\s(){};,.\"«»\[\]|@`]+", read(path)) if "-" in it)
     return found
 

@@ -1,12 +1,11 @@
 // What the system hands a program: how many arguments its call has, and each one's bytes.
-ghost use Rattle.std.specs.Prelude.{◌<◌, ◌≤◌};
+ghost use Rattle.std.specs.Prelude.{◌≤◌};
 ghost use Rattle.io.specs.Counts.{IsPrefixLen};
 
 use std::env::{Env, FillError};
 
 // How many arguments the call has, counted as far as `most`.
 pub fn count<R: Env>(rt: &R, most: usize) -> usize
-    requires { most < 16 }
     ensures { result ≤ most }
 {
     let mut place = [0u8; 1];
