@@ -1,33 +1,15 @@
-// Tables of six by six words: out of a sheet's rows, the unit table, the larger of two, the product, a column.
+// Tables of six by six words: the unit table, the larger of two, the product, a column.
 #![tactic(auto)]
 
-ghost use Rattle.std.specs.Prelude.{◌≡◌, [], ℕ, ◌≤◌, ◌<◌, length, get_or};
+ghost use Rattle.std.specs.Prelude.{◌≡◌, ℕ, ◌≤◌, ◌<◌, length, get_or};
 ghost use Rattle.maxplus.specs.Entry.{◌⊗◌, ◌⊕◌};
 ghost use Rattle.maxplus.specs.Tables.{sup, mm, idm};
 ghost use Rattle.words.specs.Words.{entry, far, Near};
 ghost use Rattle.tables.specs.Held.{Square, cell, meant, meant_v, Holds, HoldsV, Closely, CloselyV, Raised};
 ghost use Rattle.cue.specs.Sizes.{size_limit};
 
-use rows::Row;
-
 pub mod differences;
 pub mod largest;
-
-// The table of a sheet's rows.
-pub fn table(rows: [Row; 6]) -> [[u64; 6]; 6]
-    ensures { (i : ℕ) → i < 6 → get_or result i [] ≡ (get_or rows i (record { at = [] })).at }
-{
-    let blank = [0u64; 6];
-    let mut r = [blank; 6];
-    let mut i: usize = 0;
-    while i < 6 {
-        let row = rows[i];
-        let at = row.at;
-        r[i] = at;
-        i += 1;
-    }
-    r
-}
 
 // "power 0 has 0 on the diagonal and absent elsewhere"
 pub fn identity() -> [[u64; 6]; 6]
