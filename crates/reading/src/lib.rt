@@ -12,6 +12,7 @@ ghost use Rattle.reading.specs.Inner.{meant, measure_from, table_words, lag_miss
 ghost use Rattle.cue.specs.Sizes.{size_limit};
 
 use refusals::Refusal;
+use rows::Items::{Entry, Mark};
 use rows::{Items, literal_at, read_optional, read_rows};
 
 // The most bytes that a sheet may have.
@@ -100,20 +101,12 @@ fn read_sized(
     let mut floor = [[0u64; 6]; 6];
     let mut due = [[0u64; 6]; 6];
     let mut after = [[0u64; 6]; 6];
-    let at = read_rows(s, from, b"lag=", Items::Entry, panels, triggers, &mut lag)?;
-    let at = read_rows(s, at, b"floor=", Items::Entry, marks, panels, &mut floor)?;
-    let at = read_rows(s, at, b"due=", Items::Mark, marks, triggers, &mut due)?;
-    let at = read_rows(
-        s,
-        at,
-        b"after=",
-        Items::Entry,
-        triggers,
-        triggers,
-        &mut after,
-    )?;
-    let (land, at) = read_optional(s, at, b"land=", Items::Entry, triggers, panels)?;
-    let (last, at) = read_optional(s, at, b"last=", Items::Mark, 1, panels)?;
+    let at = read_rows(s, from, b"lag=", Entry, panels, triggers, &mut lag)?;
+    let at = read_rows(s, at, b"floor=", Entry, marks, panels, &mut floor)?;
+    let at = read_rows(s, at, b"due=", Mark, marks, triggers, &mut due)?;
+    let at = read_rows(s, at, b"after=", Entry, triggers, triggers, &mut after)?;
+    let (land, at) = read_optional(s, at, b"land=", Entry, triggers, panels)?;
+    let (last, at) = read_optional(s, at, b"last=", Mark, 1, panels)?;
     let sheet = SheetWords {
         panels,
         triggers,
