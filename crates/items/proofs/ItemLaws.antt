@@ -36,12 +36,6 @@ range_bounds a b e =
     let p = both_true (leb a b) (leb b 57) e in
     (leb-true a b p.0, leb-true b 57 p.1)
 
-pub leading_digit : (b : ℕ) → leading b ≡ true → 48 ≤ b
-leading_digit b e = omega (arith, range_bounds 49 b e)
-
-pub leading_worth : (w b : ℕ) → leading b ≡ true → w ≡ b - 48 → w ≤ 9
-leading_worth w b e q = omega (arith, range_bounds 49 b e)
-
 module _ (most : ℕ) where
   cond_capped : (t : Bool) (a b x y : ℕ) → min a (suc most) ≡ min b (suc most) → min x (suc most) ≡ min y (suc most)
       → min (cond t a x) (suc most) ≡ min (cond t b y) (suc most)
@@ -91,9 +85,6 @@ module _ (s : List ℕ) (at : ℕ) where
     behind_digit e = rw (add-one, drop-cons s at 0 h, e)
 
 module _ {most : ℕ} {s : List ℕ} {from first : ℕ} where
-  pub read_first : from ≤ length s → first ≤ 9 → 9 ≤ most → ReadTo most s from first from first
-  read_first h k m = record { within = h; small = omega arith; value_on = refl; behind_on = refl }
-
   module _ {at v : ℕ} (r : ReadTo most s from first at v) where
     pub read_digit : (w : ℕ) → at < length s → digit (get_or s at 0) ≡ true → w ≡ min (v * 10 + (get_or s at 0 - 48)) (suc most)
         → ReadTo most s from first (at + 1) w

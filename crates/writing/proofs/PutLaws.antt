@@ -1,11 +1,12 @@
--- Laws of putting: nothing, one byte, one text behind another, a key byte by byte.
+-- Laws of putting: nothing, one text behind another, a key, a field.
 use mathlib.Core.Path.{◌≡◌, refl, sym, ap, ap₂, subst, ◌∙◌}
-use mathlib.Core.List.{List, [], ◌∷◌, ◌++◌, append-nil, append_assoc}
-use Prim.Native.Nat.{ℕ, ◌+◌, ◌≤◌, ◌<◌}
-use native.Mathlib.Numerals.{add-one}
+use mathlib.Core.List.{List, [], ◌++◌, append-nil, append_assoc}
+use Prim.Native.Nat.{ℕ, ◌+◌, ◌-◌, ◌≤◌}
 use native.Mathlib.Omega.{arith}
-use lib.ListN.{length, take, drop, get_or, set, length-append, length-set, take-append-drop}
-use lib.Seq.{take-suc-set, take-length, drop-set-lt, drop-drop, paste, paste-zero, paste-suc, take-paste, drop-paste}
+use lib.ListN.{length, take, drop, length-append, length-take, length-drop, take-append-drop}
+use lib.Seq.{drop-drop}
+use borrow.Rule.Slice.PartMut.{put_mid}
+use Rattle.std.proofs.lemmas.Slice.{take-put_mid, drop-put_mid}
 use Rattle.sheet.specs.Text.{bytes}
 use Rattle.writing.specs.Texts.{field}
 use Rattle.writing.specs.Writing.{Puts, Writes}
@@ -18,16 +19,6 @@ put_nothing b at h =
       end = omega arith;
       text = sym (append-nil (take at b));
       rest = refl;
-    }
-
-pub put_one : (b : List ℕ) (at x : ℕ) → at < length b → Puts b (set b at x) at (at + 1) (x ∷ [])
-put_one b at x h =
-    record {
-      same_length = length-set b at x;
-      within = omega (arith, length-set b at x);
-      end = refl;
-      text = rw (add-one at) (take-suc-set b at x h);
-      rest = drop-set-lt (at + 1) b at x (omega arith);
     }
 
 -- what is the same behind one place is so behind a later one
@@ -61,42 +52,20 @@ put_front {a} {b} {r} {t} p =
 pub written : {a b : List ℕ} {r : ℕ} {t : List ℕ} → Puts a b 0 r t → Writes b r t
 written p = record { within = p.within; text = p.text }
 
--- ---- a key, byte by byte: the first i bytes are put
-pub record Copied (before after : List ℕ) (at : ℕ) (key : List ℕ) (i : ℕ) : Type 0 where
-  pub few : i ≤ length key
-  pub room : at + length key ≤ length before
-  pub same_length : length after ≡ length before
-  pub is : after ≡ paste before at key i
-
-pub copied_none : (b : List ℕ) (at : ℕ) (key : List ℕ) → at + length key ≤ length b → Copied b b at key 0
-copied_none b at key h =
-    record {
-      few = omega arith;
-      room = h;
-      same_length = refl;
-      is = paste-zero b at key;
-    }
-
-module _ {b c : List ℕ} {at : ℕ} {key : List ℕ} {i : ℕ} (p : Copied b c at key i) where
-  pub copied_more : i < length key → Copied b (set c (at + i) (get_or key i 0)) at key (i + 1)
-  copied_more h =
-      record {
-        few = omega arith;
-        room = p.room;
-        same_length = length-set c (at + i) (get_or key i 0) ∙ p.same_length;
-        is = rw (p.is, add-one i) (paste-suc b at key i 0 (omega (arith, p.room)) h);
-      }
-
-  pub copied_all : length key ≤ i → Puts b c at (at + i) key
-  copied_all h =
-      let e : i ≡ length key = omega (arith, p.few) in
-      record {
-        same_length = p.same_length;
-        within = omega (arith, p.room, p.same_length);
-        end = omega arith;
-        text = rw (p.is, e) (take-paste b at key (length key) (omega (arith, p.room)) (omega arith) ∙ ap (λ l. take at b ++ l) (take-length key));
-        rest = rw (p.is, e) (drop-paste b at key (length key) (omega (arith, p.room)) (omega arith));
-      }
+-- ---- a key, copied to its place
+pub put_key : (b key part : List ℕ) (at : ℕ) → part ≡ key → at + length key ≤ length b →
+    Puts b (put_mid at (at + length key - at) b part) at (at + length key) key
+put_key b key part at e h =
+    let l : length part ≡ length key = ap length e in
+    let k : at + length key - at ≡ length key = omega arith in
+    let many : length (put_mid at (length key) b part) ≡ length b = simp (length-append, length-take, length-drop) (omega arith) in
+    rw k (record {
+      same_length = many;
+      within = omega arith;
+      end = refl;
+      text = take-put_mid at (length key) b part (at + length key) (omega arith) (omega arith) ∙ ap (λ l. take at b ++ l) e;
+      rest = drop-put_mid at (length key) b part (at + length key) (omega arith) (omega arith) l;
+    })
 
 -- ---- a field of at most 20 bytes behind its key
 pub field_length : (key v : List ℕ) → length (field key v) ≡ length key + length v + 1
@@ -104,5 +73,6 @@ unfolding bytes
 field_length key v = length-append (key ++ v) (bytes "\n") ∙ ap (λ k. k + 1) (length-append key v)
 
 pub put_field : {a b c d : List ℕ} {at m n r : ℕ} {key v : List ℕ} → Puts a b at m key → Puts b c m n v → Puts c d n r (bytes "\n") →
-    length v ≤ 20 → Puts a d at r (field key v) × (r ≤ at + length key + 21)
-put_field {key = key} {v = v} p q e h = let f = then (then p q) e in (f, omega (arith, f.end, field_length key v))
+    n ≤ m + 20 → Puts a d at r (field key v) × (r ≤ at + length key + 21)
+unfolding bytes
+put_field p q e h = (then (then p q) e, omega (arith, p.end, e.end))

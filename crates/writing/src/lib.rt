@@ -1,7 +1,7 @@
 // Bytes, numbers and fields put at a place of the lent bytes; what stands before the place is kept.
 #![tactic(auto)]
 
-ghost use Rattle.std.specs.Prelude.{[], ◌∷◌, ◌+◌, ◌<◌, ◌≤◌, length};
+ghost use Rattle.std.specs.Prelude.{List, ℕ, [], ◌∷◌, ◌+◌, ◌<◌, ◌≤◌, length};
 ghost use Rattle.writing.specs.Numerals.{natural, numeral, item};
 ghost use Rattle.writing.specs.Texts.{field};
 ghost use Rattle.cue.specs.Standing.{of_signed};
@@ -22,12 +22,9 @@ pub fn put_bytes(out: &mut [u8], at: usize, key: &[u8]) -> usize
     requires { at + length key.now ≤ length out.old }
     ensures { Puts out.old out.new at result key.now }
 {
-    let mut i: usize = 0;
-    while i < key.len() {
-        out[at + i] = key[i];
-        i += 1;
-    }
-    at + i
+    let end = at + key.len();
+    out[at..end].copy_from_slice(key);
+    end
 }
 
 // What stands before the j-th item, counted from 0: a comma, unless it is the first.
@@ -62,10 +59,9 @@ pub fn put_number(out: &mut [u8], at: usize, v: i64) -> usize
 {
     if v < 0 {
         let minus = put_byte(out, at, b'-');
-        // the magnitude, one more than -1 - v: the least number has no negative of its type
-        return put_natural(out, minus, (-1 - v) as u64 + 1);
+        return put_natural(out, minus, v.unsigned_abs());
     }
-    put_natural(out, at, v as u64)
+    put_natural(out, at, v.unsigned_abs())
 }
 
 // A component's word, a number or a lone minus for absent: at most 11 bytes.
@@ -77,27 +73,42 @@ pub fn put_item(out: &mut [u8], at: usize, w: i32) -> usize
     if w == ABSENT {
         return put_byte(out, at, b'-');
     }
-    put_number(out, at, w as i64)
+    put_number(out, at, i64::from(w))
 }
 
-// The key, a natural number, LF: at most 21 bytes behind the key.
-pub fn natural_field(out: &mut [u8], at: usize, key: &[u8], v: u64) -> usize
-    requires { at + length key.now + 24 ≤ length out.old }
-    ensures puts { Puts out.old out.new at result (field key.now (natural v)) }
-    ensures short { result ≤ at + length key.now + 21 }
-{
-    let behind = put_bytes(out, at, key);
-    let end = put_natural(out, behind, v);
-    put_byte(out, end, b'\n')
+// A number that can be put as text, of at most 20 bytes, for which put asks 24.
+pub trait Number: Copy {
+    ghost text: { Self → List ℕ };
+
+    fn put(self, out: &mut [u8], at: usize) -> usize
+        requires { at + 24 ≤ length out.old }
+        ensures puts { Puts out.old out.new at result (text self) }
+        ensures short { result ≤ at + 20 };
+}
+
+impl Number for u64 {
+    ghost text = { natural };
+
+    fn put(self, out: &mut [u8], at: usize) -> usize {
+        put_natural(out, at, self)
+    }
+}
+
+impl Number for i64 {
+    ghost text = { numeral };
+
+    fn put(self, out: &mut [u8], at: usize) -> usize {
+        put_number(out, at, self)
+    }
 }
 
 // The key, a number, LF: at most 21 bytes behind the key.
-pub fn number_field(out: &mut [u8], at: usize, key: &[u8], v: i64) -> usize
+pub fn put_field<V: Number>(out: &mut [u8], at: usize, key: &[u8], v: V) -> usize
     requires { at + length key.now + 24 ≤ length out.old }
-    ensures puts { Puts out.old out.new at result (field key.now (numeral v)) }
+    ensures puts { Puts out.old out.new at result (field key.now (V.text v)) }
     ensures short { result ≤ at + length key.now + 21 }
 {
     let behind = put_bytes(out, at, key);
-    let end = put_number(out, behind, v);
+    let end = v.put(out, behind);
     put_byte(out, end, b'\n')
 }

@@ -1,6 +1,6 @@
--- `writing::put_bytes` meets its contract. The loop's invariant: the first `i` bytes of the key are put. Assumes nothing.
-use Rattle.writing.proofs.PutLaws.{copied_more}
+-- put_bytes: the key is copied to its place
+use Rattle.writing.proofs.PutLaws.{put_key}
 use Rattle.writing.proofs.put_bytes.Goals as goal
 
-pub loop-i-preserved : goal.loop-i-preserved
-loop-i-preserved c = copied_more c.loop-i.invariant c.loop-i-test.true
+pub returns : goal.returns
+returns c = put_key _ _ _ _ c.copy_from_slice.ensures.after c.requires

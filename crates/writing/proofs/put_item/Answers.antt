@@ -15,5 +15,5 @@ pub returns : goal.returns
 returns c =
     let f = c.ranges.w in
     let e = of_signed_number _ f c.if-w-eq-ABSENT.false in
-    let p = put_short (item_32 _ f) (put_as (ap numeral (wider_back f) ∙ sym (ap item e)) c.put_number.ensures.puts) in
+    let p = put_short (item_32 _ f) (put_as (ap numeral (wider_back f) ∙ sym (ap item e)) (rw c.from.ensures at c.put_number.ensures.puts)) in
     record { puts = p.0; short = p.1 }
