@@ -15,7 +15,7 @@ use Rattle.sheet.specs.Overruns.{overrun, overruns_by}
 use Rattle.sheet.proofs.Overruns.{overrun_within}
 use Rattle.reading.specs.Reading.{last_words}
 use Rattle.reading.specs.declared.SheetWords.{SheetWords}
-use Rattle.tables.specs.Held.{meant, meant_v, Holds, HoldsV, Closely, CloselyV}
+use Rattle.tables.specs.Held.{meant, meant_v, HoldsV, Closely, CloselyV}
 use Rattle.tables.proofs.SquareLaws.{closely_within, closely_within_v}
 use Rattle.moments.specs.Moments.{MomentsOf}
 use Rattle.preparing.specs.Prepared.{Worded}

@@ -1,11 +1,10 @@
 -- What a good sheet's words give on the way to the marks: the cue's words, what the functions ask of them, and what is made.
 use mathlib.Core.Path.{◌≡◌, refl, ap, ap₂, sym, subst, ◌∙◌}
-use mathlib.Core.Bool.{Bool, true, false, not}
-use mathlib.Core.List.{List, []}
+use mathlib.Core.Bool.{Bool, true, false}
+use mathlib.Core.List.{List}
 use Prim.Native.Nat.{ℕ, ◌≤◌, ◌<◌}
 use native.Mathlib.Omega.{arith}
 use lib.Dec.{T}
-use lib.ListN.{get_or}
 use Rattle.maxplus.specs.Entry.{◌⊕◌, Present}
 use Rattle.maxplus.specs.Tables.{Mat, mm, star, NoGain}
 use Rattle.maxplus.proofs.PackingLaws.{placed}

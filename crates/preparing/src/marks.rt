@@ -22,29 +22,25 @@ pub fn marks_of(
 {
     let n = cue.triggers;
     let m = cue.panels;
-    let pulls = thresholds::pulls(star, cue.due, n);
-    let least = thresholds::least(through, pulls, cue.floor, m, n);
-    let kept = thresholds::kept(through, pulls, cue.floor, least, m, n);
-    let packed = pack(kept, cue.floor, m);
-    let asks = less(cue.floor, least, m);
-    compared(
-        through,
-        cue.floor,
-        asks,
-        packed.at,
-        packed.panels,
-        n,
-        gains,
-        needs,
-    );
+    let due = cue.due;
+    let floor = cue.floor;
+    let pulls = thresholds::pulls(star, due, n);
+    let least = thresholds::least(through, pulls, floor, m, n);
+    let kept = thresholds::kept(through, pulls, floor, least, m, n);
+    let packed = pack(kept, floor, m);
+    let masks = packed.kept;
+    let at = packed.at;
+    let f = packed.panels;
+    let asks = less(floor, least, m);
+    compared(through, floor, asks, at, f, n, gains, needs);
     let marks = Marks {
         triggers: n,
         panels: m,
-        levels: packed.panels,
+        levels: f,
         pulls,
-        due: cue.due,
+        due,
         asks,
-        kept: packed.kept,
+        kept: masks,
     };
     Marked { least, kept, marks }
 }

@@ -3,23 +3,12 @@ use mathlib.Core.Path.{◌≡◌, sym, subst, ◌∙◌}
 use mathlib.Core.Bool.{Bool, true, false}
 use Prim.Native.Nat.{ℕ}
 use native.Mathlib.Omega.{arith}
-use Rattle.sheet.specs.Sheet as spec
-use Rattle.sheet.specs.Sheet.{Got}
 use Rattle.sheet.specs.Meaning.{Timing}
 use Rattle.sheet.specs.Times.{some_beyond}
 use Rattle.sheet.proofs.AdmittedLaws.{admitted_refused, admitted_10, admitted_11, admitted_on}
-use Rattle.preparing.specs.Prepared.{PreparedAs}
-use Rattle.preparing.specs.declared.Prepared.{Prepared}
-use Rattle.preparing.specs.declared.Tables.{Tables}
-use Rattle.refusals.specs.declared.Refusal.{Refusal}
-use Rattle.std.specs.Prelude.{Result}
 use Rattle.std.proofs.lemmas.Result.{err_from_is_err_and}
 use Rattle.preparing.proofs.Preparing.{reading_refused, reading_good, triggers_of}
 use Rattle.admitting.proofs.admit.Goals as goal
-
--- what is prepared for one is prepared for the other
-same_sheet : {g h : Got spec.Sheet} {ts : Tables} {r : Result Prepared Refusal} → g ≡ h → PreparedAs h ts r → PreparedAs g ts r
-same_sheet e p = rw e p
 
 -- the components that are looked at
 near_by : {b : Bool} {n m : ℕ} (X : Timing) → b ≡ some_beyond n X → n ≡ m → (v : Bool) → b ≡ v → some_beyond m X ≡ v
@@ -51,6 +40,6 @@ prepare-requires c = let (t, r, e, W) = reading_good _ c.in_ok-sheet.ensures in 
 pub returns : goal.returns
 returns c =
     let (t, r, e, W) = reading_good _ c.in_ok-sheet.ensures in
-    same_sheet
+    rw
     (admitted_on _ _ _ t r e (c.if-timing-n.false ∙ triggers_of W) (near_by _ c.beyond.ensures (triggers_of W) false c.if-beyond.false))
     (c.prepare.ensures _ t r e W)

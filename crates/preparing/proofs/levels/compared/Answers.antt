@@ -1,5 +1,4 @@
 -- `marks::levels::compared` meets its contract. The rows passed are written. Assumes nothing.
-use mathlib.Core.Path.{refl}
 use native.Mathlib.Omega.{arith}
 use Rattle.tables.specs.Held.{meant, meant_v}
 use Rattle.tables.proofs.Loops.{filled_more}
@@ -10,8 +9,8 @@ pub loop-l-preserved : goal.loop-l-preserved
 loop-l-preserved c =
     let a = c.args in
     let i = c.loop-l.invariant in (
-      filled_more _ _ _ _ _ (omega arith) i.0 (gained_at a.through.now a.floor refl c.less.ensures),
-      filled_more _ _ _ _ _ (omega arith) i.1 (needed_at a.through.now a.asks refl c.rest.ensures),
+      filled_more _ _ _ _ _ (omega arith) i.0 (gained_at a.through.now a.floor c.from-i.ensures c.less.ensures),
+      filled_more _ _ _ _ _ (omega arith) i.1 (needed_at a.through.now a.asks c.from-i.ensures c.rest.ensures),
     )
 
 pub returns : goal.returns
