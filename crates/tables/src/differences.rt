@@ -11,10 +11,8 @@ pub fn less(row: [u64; 6], x: u64, n: usize) -> [u64; 6]
     ensures { HoldsV n (λ j. meant_v row j ⊗ inv (entry x)) result }
 {
     let mut r = [0u64; 6];
-    let mut j: usize = 0;
-    while j < n {
+    for j in 0..n {
         r[j] = words::minus(row[j], x);
-        j += 1;
     }
     r
 }
@@ -25,10 +23,8 @@ pub fn rest(x: u64, row: [u64; 6], n: usize) -> [u64; 6]
     ensures { HoldsV n (λ j. entry x ⊗ inv (meant_v row j)) result }
 {
     let mut r = [0u64; 6];
-    let mut j: usize = 0;
-    while j < n {
+    for j in 0..n {
         r[j] = words::minus(x, row[j]);
-        j += 1;
     }
     r
 }

@@ -1,5 +1,4 @@
 // Largest entries: of a vector, of sums with a table's row, and of differences.
-// A loop that runs often names the constant end too, as in `j < n && j < 6`: the compiler then unrolls it.
 ghost use Rattle.std.specs.Prelude.{◌≡◌, ◌+◌, ◌≤◌, ◌<◌};
 ghost use Rattle.maxplus.specs.Tables.{sup, mv};
 ghost use Rattle.words.specs.Words.{entry, far, third};
@@ -13,10 +12,8 @@ pub fn largest(x: [u64; 6], n: usize) -> u64
     ensures { entry result ≡ sup n (meant_v x) }
 {
     let mut best: u64 = 0;
-    let mut j: usize = 0;
-    while j < n && j < 6 {
+    for j in 0..n {
         best = words::larger(x[j], best);
-        j += 1;
     }
     best
 }
@@ -27,10 +24,8 @@ pub fn dot(table: &[[u64; 6]; 6], i: usize, x: [u64; 6], n: usize) -> u64
     ensures { entry result ≡ mv n (meant table.now) (meant_v x) i }
 {
     let mut best: u64 = 0;
-    let mut j: usize = 0;
-    while j < n && j < 6 {
+    for j in 0..n {
         best = words::larger(words::plus(table[i][j], x[j]), best);
-        j += 1;
     }
     best
 }
@@ -41,11 +36,9 @@ pub fn overdue(due: [u64; 6], x: [u64; 6], n: usize) -> u64
     ensures { entry result ≡ overdue n (meant_v due) (meant_v x) }
 {
     let mut best: u64 = 0;
-    let mut j: usize = 0;
-    while j < n {
+    for j in 0..n {
         let late = words::minus(x[j], due[j]);
         best = words::larger(late, best);
-        j += 1;
     }
     best
 }
@@ -56,12 +49,10 @@ pub fn shortfall(table: &[[u64; 6]; 6], floor: [u64; 6], x: [u64; 6], m: usize, 
     ensures { entry result ≡ shortfall m n (meant table.now) (meant_v floor) (meant_v x) }
 {
     let mut best: u64 = 0;
-    let mut i: usize = 0;
-    while i < m {
+    for i in 0..m {
         let lands = dot(table, i, x, n);
         let short = words::minus(floor[i], lands);
         best = words::larger(short, best);
-        i += 1;
     }
     best
 }

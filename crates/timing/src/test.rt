@@ -26,8 +26,5 @@ pub fn tested(
     ensures { (X : ℕ → ℤ) → HoldsV x.count (timing X) x.at →
         TestSays panels x.count order.now lag.now floor due least X result }
 {
-    if keeps(order, x) {
-        return deviation(lag, floor, due, x, panels) == least;
-    }
-    false
+    keeps(order, x) && deviation(lag, floor, due, x, panels) == least
 }

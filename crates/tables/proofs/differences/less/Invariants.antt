@@ -1,6 +1,5 @@
 -- `tables::differences::less` meets its contract. The places passed are written. Assumes nothing.
 use mathlib.Core.Path.{◌≡◌}
-use Prim.Native.Nat.{◌≤◌, ◌-◌}
 use Rattle.maxplus.specs.Entry.{◌⊗◌, inv}
 use Rattle.words.specs.Words.{entry}
 use Rattle.tables.specs.Held.{meant_v}
@@ -8,7 +7,4 @@ use Rattle.tables.proofs.Loops.{Filled}
 use Rattle.tables.proofs.differences.less.Given as goal
 
 abbrev pub invariant-loop-j : goal.invariant-loop-j
-invariant-loop-j l = (l.j ≤ l.n) × Filled (λ j v. entry v ≡ meant_v l.row j ⊗ inv (entry l.x)) 0 l.r l.j
-
-abbrev pub decreases-loop-j : goal.decreases-loop-j
-decreases-loop-j l = l.n - l.j
+invariant-loop-j l = Filled (λ j v. entry v ≡ meant_v l.row j ⊗ inv (entry l.x)) 0 l.r l.j

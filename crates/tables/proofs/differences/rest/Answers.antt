@@ -6,8 +6,8 @@ use Rattle.tables.proofs.differences.rest.Goals as goal
 
 pub loop-j-preserved : goal.loop-j-preserved
 unfolding meant_v
-loop-j-preserved c = (omega arith, filled_more _ 0 _ _ _ (omega arith) c.loop-j.invariant.1 c.minus.ensures)
+loop-j-preserved c = filled_more _ 0 _ _ _ (omega arith) c.loop-j.invariant c.minus.ensures
 
 pub returns : goal.returns
 unfolding meant_v
-returns c = record { at = λ j h. c.loop-j.invariant.1.done j (omega arith) }
+returns c = record { at = λ j h. c.loop-j.invariant.done j (omega arith) }

@@ -7,12 +7,12 @@ use Rattle.tables.proofs.Loops.{largest_none, largest_more}
 use Rattle.tables.proofs.largest.dot.Goals as goal
 
 pub loop-j-init : goal.loop-j-init
-loop-j-init c = (omega arith, largest_none _)
+loop-j-init c = largest_none _
 
 pub loop-j-preserved : goal.loop-j-preserved
 unfolding meant meant_v
-loop-j-preserved c = (omega arith, largest_more _ _ _ _ _ c.plus.ensures c.loop-j.invariant.1 c.larger-best.ensures)
+loop-j-preserved c = largest_more _ _ _ _ _ c.plus.ensures c.loop-j.invariant c.larger-best.ensures
 
-pub returns-after-loop-j : goal.returns-after-loop-j
+pub returns : goal.returns
 unfolding mv
-returns-after-loop-j c = let e : c.loop-j.j ≡ c.args.n = omega arith in rw e at c.loop-j.invariant.1
+returns c = let e : c.loop-j.j ≡ c.args.n = omega arith in rw e at c.loop-j.invariant

@@ -7,12 +7,12 @@ use Rattle.tables.proofs.Loops.{largest_none, largest_more}
 use Rattle.tables.proofs.largest.overdue.Goals as goal
 
 pub loop-j-init : goal.loop-j-init
-loop-j-init c = (omega arith, largest_none _)
+loop-j-init c = largest_none _
 
 pub loop-j-preserved : goal.loop-j-preserved
 unfolding meant_v
-loop-j-preserved c = (omega arith, largest_more _ _ _ _ _ c.minus-late.ensures c.loop-j.invariant.1 c.larger-best.ensures)
+loop-j-preserved c = largest_more _ _ _ _ _ c.minus-late.ensures c.loop-j.invariant c.larger-best.ensures
 
 pub returns : goal.returns
 unfolding overdue
-returns c = let e : c.loop-j.j ≡ c.args.n = omega arith in rw e at c.loop-j.invariant.1
+returns c = let e : c.loop-j.j ≡ c.args.n = omega arith in rw e at c.loop-j.invariant

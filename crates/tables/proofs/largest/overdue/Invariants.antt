@@ -1,6 +1,5 @@
 -- `tables::largest::overdue` meets its contract. Best is the largest difference of the places passed. Assumes nothing.
 use mathlib.Core.Path.{◌≡◌}
-use Prim.Native.Nat.{◌≤◌, ◌-◌}
 use Rattle.maxplus.specs.Entry.{◌⊗◌, inv}
 use Rattle.maxplus.specs.Tables.{sup}
 use Rattle.words.specs.Words.{entry}
@@ -8,7 +7,4 @@ use Rattle.tables.specs.Held.{meant_v}
 use Rattle.tables.proofs.largest.overdue.Given as goal
 
 abbrev pub invariant-loop-j : goal.invariant-loop-j
-invariant-loop-j l = (l.j ≤ l.n) × (entry l.best ≡ sup l.j (λ j. meant_v l.x j ⊗ inv (meant_v l.due j)))
-
-abbrev pub decreases-loop-j : goal.decreases-loop-j
-decreases-loop-j l = l.n - l.j
+invariant-loop-j l = entry l.best ≡ sup l.j (λ j. meant_v l.x j ⊗ inv (meant_v l.due j))
