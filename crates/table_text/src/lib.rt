@@ -25,25 +25,23 @@ fn put_entry(out: &mut [u8], at: usize, word: u64) -> usize
 }
 
 // The first `count` entries of a row, split by commas: at most 8 bytes each with the comma.
-fn put_entries(out: &mut [u8], at: usize, row: [u64; 6], count: usize) -> usize
-    requires { (at + 80 ≤ length out.old) × (count ≤ size_limit) × CloselyV count limit row }
-    ensures puts { Puts out.old out.new at result (row_items count (meant_v row)) }
+fn put_entries(out: &mut [u8], at: usize, row: &[u64; 6], count: usize) -> usize
+    requires { (at + 80 ≤ length out.old) × (count ≤ size_limit) × CloselyV count limit row.now }
+    ensures puts { Puts out.old out.new at result (row_items count (meant_v row.now)) }
     ensures short { result ≤ at + 48 }
 {
     let mut end = at;
-    let mut j: usize = 0;
-    while j < count {
+    for j in 0..count {
         let behind = put_comma(out, end, j);
         end = put_entry(out, behind, row[j]);
-        j += 1;
     }
     end
 }
 
 // A line: its key, its items, LF.
-fn put_row(out: &mut [u8], at: usize, key: &[u8], row: [u64; 6], count: usize) -> usize
-    requires { (at + length key.now + 80 ≤ length out.old) × (count ≤ size_limit) × CloselyV count limit row }
-    ensures puts { Puts out.old out.new at result (row_text key.now count (meant_v row)) }
+fn put_row(out: &mut [u8], at: usize, key: &[u8], row: &[u64; 6], count: usize) -> usize
+    requires { (at + length key.now + 80 ≤ length out.old) × (count ≤ size_limit) × CloselyV count limit row.now }
+    ensures puts { Puts out.old out.new at result (row_text key.now count (meant_v row.now)) }
     ensures short { result ≤ at + length key.now + 49 }
 {
     let behind = put_bytes(out, at, key);
@@ -66,11 +64,8 @@ pub fn put_rows(
     ensures short { result ≤ at + 60 * lines }
 {
     let mut end = at;
-    let mut i: usize = 0;
-    while i < lines {
-        let row = rows[i];
-        end = put_row(out, end, key, row, count);
-        i += 1;
+    for i in 0..lines {
+        end = put_row(out, end, key, &rows[i], count);
     }
     end
 }

@@ -13,7 +13,7 @@ ghost use Rattle.writing.specs.Writing.{Writes};
 ghost use Rattle.cue.specs.Written.{line_size, width};
 
 use crate::lines::{put_lines, put_panels, put_times};
-use writing::{natural_field, number_field, put_byte, put_bytes};
+use writing::{put_byte, put_bytes, put_field};
 
 mod lines;
 
@@ -42,10 +42,10 @@ pub fn plan_text(
     ensures text { (caps : Option (Line n → ℤ)) (L : List (Line n)) → wide ≡ width caps →
         StandsWith n count words.now caps L → take result out.new ≡ plan_text n (bit spares) deviation steps selections caps L }
 {
-    let mut end = number_field(out, 0, b"deviation=", deviation);
-    end = natural_field(out, end, b"steps=", steps);
-    end = natural_field(out, end, b"selections=", selections);
-    end = natural_field(out, end, b"count=", count as u64);
+    let mut end = put_field(out, 0, b"deviation=", deviation);
+    end = put_field(out, end, b"steps=", steps);
+    end = put_field(out, end, b"selections=", selections);
+    end = put_field(out, end, b"count=", count as u64);
     put_lines(out, end, words, wide, n, count, spares)
 }
 
@@ -62,10 +62,10 @@ pub fn kept_text(
     requires { (200 ≤ length out.old) × (panels ≤ 6) }
     ensures { Writes out.new result (kept_text deviation (each panels (λ i. (get_or kept i 0, get_or counts i 0) ∷ [])) steps selections) }
 {
-    let mut end = number_field(out, 0, b"deviation=", deviation);
+    let mut end = put_field(out, 0, b"deviation=", deviation);
     end = put_panels(out, end, panels, kept, counts);
-    end = natural_field(out, end, b"steps=", steps);
-    natural_field(out, end, b"selections=", selections)
+    end = put_field(out, end, b"steps=", steps);
+    put_field(out, end, b"selections=", selections)
 }
 
 // The text of a timing: 7 bytes of key, at most 126 of times and commas, LF.
@@ -83,7 +83,7 @@ pub fn refusal_text(out: &mut [u8], refusal: u8) -> usize
     requires { 40 ≤ length out.old }
     ensures { Writes out.new result (refusal_text refusal) }
 {
-    natural_field(out, 0, b"refused=", refusal as u64)
+    put_field(out, 0, b"refused=", u64::from(refusal))
 }
 
 // The text of refusal 9 with the count of lines that would be needed: two such fields.
@@ -91,6 +91,6 @@ pub fn full_text(out: &mut [u8], count: u64) -> usize
     requires { 80 ≤ length out.old }
     ensures { Writes out.new result (full_text count) }
 {
-    let end = natural_field(out, 0, b"refused=", 9);
-    natural_field(out, end, b"count=", count)
+    let end = put_field(out, 0, b"refused=", 9u64);
+    put_field(out, end, b"count=", count)
 }

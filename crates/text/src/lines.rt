@@ -11,7 +11,7 @@ ghost use Rattle.cue.specs.Written.{line_size};
 
 use trigger_sets::has;
 use words::{CAPPED_SIZE, LINE_SIZE};
-use writing::{number_field, put_byte, put_bytes, put_comma, put_item, put_natural, put_number};
+use writing::{put_byte, put_bytes, put_comma, put_field, put_item, put_natural, put_number};
 
 // A component: `s` for a spare trigger's.
 fn put_component(out: &mut [u8], at: usize, word: i32, spare: bool) -> usize
@@ -25,50 +25,40 @@ fn put_component(out: &mut [u8], at: usize, word: i32, spare: bool) -> usize
     put_item(out, at, word)
 }
 
-// The items of the line whose seven words begin at `from`: at most 12 bytes each with the comma, and put_component asks 24 for the sixth.
-fn put_items(out: &mut [u8], at: usize, words: &[i32], from: usize, n: usize, spares: u8) -> usize
-    requires { (at + 90 ≤ length out.old) × (n ≤ 6) × (from + line_size ≤ length words.now) }
-    ensures puts { Puts out.old out.new at result (items n (bit spares) (line_at n words.now from)) }
+// The items of a line's words, which begin behind its first: at most 12 bytes each with the comma, and put_component asks 24 for the sixth.
+fn put_items(out: &mut [u8], at: usize, line: &[i32], n: usize, spares: u8) -> usize
+    requires { (at + 90 ≤ length out.old) × (n ≤ 6) × (line_size ≤ length line.now) }
+    ensures puts { Puts out.old out.new at result (items n (bit spares) (line_at n line.now 0)) }
     ensures short { result ≤ at + 72 }
 {
     let mut end = at;
-    let mut j: usize = 0;
-    while j < n {
+    for j in 0..n {
         let behind = put_comma(out, end, j);
-        end = put_component(out, behind, words[from + 1 + j], has(spares, j));
-        j += 1;
+        end = put_component(out, behind, line[1 + j], has(spares, j));
     }
     end
 }
 
 // A line: 5 bytes of key, at most 72 of items and commas, LF.
-fn put_line(out: &mut [u8], at: usize, words: &[i32], from: usize, n: usize, spares: u8) -> usize
-    requires { (at + 100 ≤ length out.old) × (n ≤ 6) × (from + line_size ≤ length words.now) }
-    ensures puts { Puts out.old out.new at result (line_text n (bit spares) (line_at n words.now from)) }
+fn put_line(out: &mut [u8], at: usize, line: &[i32], n: usize, spares: u8) -> usize
+    requires { (at + 100 ≤ length out.old) × (n ≤ 6) × (line_size ≤ length line.now) }
+    ensures puts { Puts out.old out.new at result (line_text n (bit spares) (line_at n line.now 0)) }
     ensures short { result ≤ at + 78 }
 {
     let key = put_bytes(out, at, b"line=");
-    let end = put_items(out, key, words, from, n, spares);
+    let end = put_items(out, key, line, n, spares);
     put_byte(out, end, b'\n')
 }
 
 // A line and, if it takes eight words, its cap: 4 bytes of key, a number of at most 11, LF.
-fn put_capped(
-    out: &mut [u8],
-    at: usize,
-    words: &[i32],
-    wide: usize,
-    from: usize,
-    n: usize,
-    spares: u8,
-) -> usize
-    requires { (at + 120 ≤ length out.old) × (n ≤ 6) × (line_size ≤ wide) × (from + wide ≤ length words.now) }
-    ensures puts { Puts out.old out.new at result (text_at n (bit spares) wide words.now from) }
+fn put_capped(out: &mut [u8], at: usize, line: &[i32], n: usize, spares: u8) -> usize
+    requires { (at + 120 ≤ length out.old) × (n ≤ 6) × (line_size ≤ length line.now) }
+    ensures puts { Puts out.old out.new at result (text_at n (bit spares) (length line.now) line.now 0) }
     ensures short { result ≤ at + 94 }
 {
-    let end = put_line(out, at, words, from, n, spares);
-    if wide == CAPPED_SIZE {
-        return number_field(out, end, b"cap=", words[from + LINE_SIZE] as i64);
+    let end = put_line(out, at, line, n, spares);
+    if line.len() == CAPPED_SIZE {
+        return put_field(out, end, b"cap=", i64::from(line[LINE_SIZE]));
     }
     end
 }
@@ -87,10 +77,8 @@ pub fn put_lines(
     ensures { Puts out.old out.new at result (texts_of n (bit spares) wide count words.now) }
 {
     let mut end = at;
-    let mut k: usize = 0;
-    while k < count {
-        end = put_capped(out, end, words, wide, wide * k, n, spares);
-        k += 1;
+    for line in words.chunks_exact(wide).take(count) {
+        end = put_capped(out, end, line, n, spares);
     }
     end
 }
@@ -102,9 +90,9 @@ fn put_panel(out: &mut [u8], at: usize, kept: u8, count: u8) -> usize
     ensures short { result ≤ at + 13 }
 {
     let key = put_bytes(out, at, b"kept=");
-    let byte = put_natural(out, key, kept as u64);
+    let byte = put_natural(out, key, u64::from(kept));
     let comma = put_byte(out, byte, b',');
-    let end = put_natural(out, comma, count as u64);
+    let end = put_natural(out, comma, u64::from(count));
     put_byte(out, end, b'\n')
 }
 
@@ -115,10 +103,8 @@ pub fn put_panels(out: &mut [u8], at: usize, panels: usize, kept: [u8; 6], count
     ensures short { result ≤ at + 78 }
 {
     let mut end = at;
-    let mut i: usize = 0;
-    while i < panels {
+    for i in 0..panels {
         end = put_panel(out, end, kept[i], counts[i]);
-        i += 1;
     }
     end
 }
@@ -130,11 +116,9 @@ pub fn put_times(out: &mut [u8], at: usize, n: usize, times: [i64; 6]) -> usize
     ensures short { result ≤ at + 126 }
 {
     let mut end = at;
-    let mut j: usize = 0;
-    while j < n {
+    for j in 0..n {
         let behind = put_comma(out, end, j);
         end = put_number(out, behind, times[j]);
-        j += 1;
     }
     end
 }

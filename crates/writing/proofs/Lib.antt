@@ -3,4 +3,5 @@ pub mod PutLaws
 pub mod NumeralLaws
 pub mod SignedLaws
 pub mod TextLaws
+pub mod LineLaws
 pub mod WordLaws

@@ -1,5 +1,5 @@
 -- Laws of lines: how a loop over items, lines or panels makes its text grow, part by part; which spare triggers a plan's text asks about.
-use mathlib.Core.Path.{◌≡◌, refl, sym, ap, ap₂, ◌∙◌}
+use mathlib.Core.Path.{◌≡◌, refl, sym, ap, ap₂, subst, ◌∙◌}
 use mathlib.Core.List.{List, [], ◌∷◌, ◌++◌, append-nil, append_assoc}
 use mathlib.Core.Bool.{Bool, true, false, cond}
 use mathlib.Core.Option.{Option}
@@ -38,6 +38,9 @@ module _ (T : ℕ → List ℕ) (size : ℕ) where
         short = omega (arith, g.short);
         puts = put_as (sym (ap T (add-one k) ∙ e)) (then g.puts p);
       }
+
+  pub grown_as : {a b : List ℕ} {from end k j : ℕ} → k ≡ j → Grown T size a b from end k → Grown T size a b from end j
+  grown_as {a} {b} {from} {end} e g = subst (λ k. Grown T size a b from end k) e g
 
 -- ---- items
 abbrev pub first_items : (n : ℕ) → (ℕ → Bool) → Line n → ℕ → List ℕ

@@ -7,5 +7,5 @@ use Rattle.text.proofs.full_text.Goals as goal
 pub returns : goal.returns
 unfolding bytes refusal_text full_text
 returns c =
-    let first = c.natural_field-end.ensures.puts in
-    written (then first c.natural_field.ensures.puts)
+    let first = c.put_field-end.ensures.puts in
+    written (then first c.put_field.ensures.puts)

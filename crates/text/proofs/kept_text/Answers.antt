@@ -10,5 +10,5 @@ use Rattle.text.proofs.kept_text.Goals as goal
 pub returns : goal.returns
 unfolding bytes kept_text
 returns c =
-    let first = put_as (ap (λ z. field (bytes "deviation=") (numeral z)) (to_z-of_z c.ranges.deviation)) c.number_field-end.ensures.puts in
-    written (then (then (then first c.put_panels-end.ensures.puts) c.natural_field-end.ensures.puts) c.natural_field.ensures.puts)
+    let first = put_as (ap (λ z. field (bytes "deviation=") (numeral z)) (to_z-of_z c.ranges.deviation)) c.put_field-end.ensures.puts in
+    written (then (then (then first c.put_panels-end.ensures.puts) c.put_field-end-2.ensures.puts) c.put_field.ensures.puts)

@@ -11,7 +11,7 @@ use Rattle.text.proofs.plan_text.Goals as goal
 pub returns-clause-text : goal.returns-clause-text
 unfolding bytes
 returns-clause-text c =
-    let first = put_as (ap (λ z. field (bytes "deviation=") (numeral z)) (to_z-of_z c.ranges.deviation)) c.number_field-end.ensures.puts in
-    let fields = then (then (then first c.natural_field-end.ensures.puts) c.natural_field-end-2.ensures.puts) c.natural_field-end-3.ensures.puts in
+    let first = put_as (ap (λ z. field (bytes "deviation=") (numeral z)) (to_z-of_z c.ranges.deviation)) c.put_field-end.ensures.puts in
+    let fields = then (then (then first c.put_field-end-2.ensures.puts) c.put_field-end-3.ensures.puts) c.put_field-end-4.ensures.puts in
     let p = then fields c.put_lines.ensures in
     (λ caps L e stands. p.text ∙ plan_back c.requires.1 _ _ _ _ caps L e stands)

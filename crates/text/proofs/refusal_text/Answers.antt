@@ -6,4 +6,4 @@ use Rattle.text.proofs.refusal_text.Goals as goal
 
 pub returns : goal.returns
 unfolding bytes refusal_text
-returns c = written c.natural_field.ensures.puts
+returns c = written (rw c.from.ensures at c.put_field.ensures.puts)
