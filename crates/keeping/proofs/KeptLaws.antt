@@ -8,6 +8,8 @@ use native.Mathlib.Omega.{arith}
 use native.Mathlib.Decide.{dec_lt}
 use borrow.Author.Tests.{lt-ltb}
 use lib.Count.{ones}
+use Rattle.std.specs.Prelude.{Result, Ok}
+use Rattle.refusals.specs.declared.Refusal.{Refusal}
 use lib.Dec.{T}
 use lib.ListN.{length, get_or, get_or-eq_default}
 use lib.Seq.{ext_get_or}
@@ -40,7 +42,7 @@ use Rattle.walk.proofs.Stepping.{Walked, step_remembers}
 use Rattle.walk.proofs.Follows.{counts_follow}
 use Rattle.preparing.specs.Prepared.{MarkedAs}
 use Rattle.preparing.specs.declared.Marked.{Marked}
-use Rattle.keeping.specs.Keeping.{kept_of, keeping, six_counts, kept_answer, StepsAtMost}
+use Rattle.keeping.specs.Keeping.{kept_of, keeping, six_counts, kept_answer, table_in, StepsAtMost}
 use Rattle.sheet.specs.Ordered.{ordered}
 use Rattle.keeping.specs.declared.KeptTable.{KeptTable}
 use Rattle.cue.specs.Sizes.{size_limit, six}
@@ -131,22 +133,22 @@ module _ (t : spec.Sheet) (few : t.triggers ≤ size_limit) where
 
 -- ---- the whole answer
 same_table : {D E : ℤ} {p q : ℕ} {b c x y : List ℕ} {k l i j : ℕ} → D ≡ E → p ≡ q → b ≡ c → x ≡ y → k ≡ l → i ≡ j →
-    ◌≡◌ {A = KeptTable} (record { refusal = 0; deviation = D; panels = p; kept = b; counts = x; steps = k; selections = i })
-    (record { refusal = 0; deviation = E; panels = q; kept = c; counts = y; steps = l; selections = j })
+    ◌≡◌ {A = KeptTable} (record { deviation = D; panels = p; kept = b; counts = x; steps = k; selections = i })
+    (record { deviation = E; panels = q; kept = c; counts = y; steps = l; selections = j })
 same_table d p b x k i = cc
 
 pub walked_answer : (t : spec.Sheet) (x : List ℕ) → t.triggers ≤ size_limit → {lags stars gains needs : List (List ℕ)} {r : Marked} →
     MarkedAs (cue_size t) (cue_of t) lags stars gains needs r → (D : ℤ) → D ≡ sheet_least t →
     (b : List ℕ) → b ≡ six (λ i. byte_of t.triggers (filled (used t) (λ j. false) (bit (get_or r.kept i 0)))) →
     (ns : List ℕ) → ns ≡ six_counts b → (k : Counts) → k ≡ counts_of r.marks.kept gains r.marks.levels →
-    ◌≡◌ {A = KeptTable}
-    (record { refusal = 0; deviation = D; panels = r.marks.panels; kept = b; counts = ns; steps = k.steps; selections = k.selections })
+    ◌≡◌ {A = Result KeptTable Refusal}
+    (Ok (record { deviation = D; panels = r.marks.panels; kept = b; counts = ns; steps = k.steps; selections = k.selections }))
     (kept_answer (kept_of (got t x)))
 walked_answer t x six-triggers {r} M D d b h ns e k f =
-    same_table d (M.prepared.panels ∙ sym (length_each t.panels (pair (sheet_byte t) (sheet_count t))))
+    ap Ok (same_table d (M.prepared.panels ∙ sym (length_each t.panels (pair (sheet_byte t) (sheet_count t))))
     (bytes_answer t.panels _ _ b few long here past (ones_laid t six-triggers))
     (e ∙ counts_answer t.panels _ _ b few long here past (ones_laid t six-triggers))
-    (ap (λ c. c.steps) counted) (ap (λ c. c.selections) counted)
+    (ap (λ c. c.steps) counted) (ap (λ c. c.selections) counted))
   where
     laid : ℕ → ℕ
     laid i = laid_byte t six-triggers (get_or r.kept i 0)
@@ -194,6 +196,6 @@ unfolding keeping
 steps_at_most s t r e = go (orderly? t) (ordered_by s t r e)
   where
     go : (d : Dec (Orderly t)) → ordered s ≡ elim d [ yes h ↦ got t r | no h ↦ spec.refused 8 ] →
-        (kept_answer (kept_of (ordered s))).steps ≤ most_steps t
+        (table_in (kept_answer (kept_of (ordered s)))).steps ≤ most_steps t
     go (yes o) q = rw q (all_fit s t r e).steps_most
     go (no o) q = rw q (omega arith)
