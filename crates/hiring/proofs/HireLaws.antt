@@ -8,6 +8,8 @@ use Rattle.writing.proofs.TextLaws.{counted}
 use Rattle.sheet_text.specs.SheetText.{sheet_text}
 use Rattle.sheet_text.proofs.ItemOnly.{both}
 use Rattle.hiring.specs.Hiring.{drawn, sheet_from, draws, HireOutcome, hired, refused, size?, hiring, bytes_after, hire_answer}
+use Rattle.std.specs.Prelude.{Result}
+use Rattle.refusals.specs.declared.Refusal.{Refusal}
 use Rattle.hiring.specs.declared.Hired.{Hired}
 
 pub size_there : (k : ℕ) → size? k ≡ true → (1 ≤ k) × (k ≤ size_limit)
@@ -34,7 +36,7 @@ module _ (m n s room : ℕ) where
       room_there h = rw (p, q, le-leb (length (sheet_text (sheet_from m n s))) room h)
 
   -- what is returned and left is what the outcome says
-  pub does : (lent : List ℕ) {o : HireOutcome} {r : Hired} {after : List ℕ} → hiring m n s room ≡ o → r ≡ hire_answer o →
+  pub does : (lent : List ℕ) {o : HireOutcome} {r : Result Hired Refusal} {after : List ℕ} → hiring m n s room ≡ o → r ≡ hire_answer o →
       after ≡ bytes_after o lent → (r ≡ hire_answer (hiring m n s room)) × (after ≡ bytes_after (hiring m n s room) lent)
   does lent e p q = (p ∙ sym (ap hire_answer e), q ∙ sym (ap (λ o. bytes_after o lent) e))
 
