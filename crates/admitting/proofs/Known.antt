@@ -13,7 +13,7 @@ use Rattle.sheet.specs.Times.{some_beyond}
 use Rattle.sheet.specs.Admitted.{admitted}
 use Rattle.sheet.proofs.OrderedLaws.{ordered_by}
 use Rattle.sheet.proofs.LineLaws.{not_got}
-use Rattle.reading.proofs.Refusals.{refusal_is}
+use Rattle.reading.proofs.Refusals.{refusal_is, ordered_is}
 use Rattle.refusals.specs.Numbers.{number}
 use Rattle.refusals.specs.declared.Refusal.{Refusal}
 use Rattle.refusals.specs.declared.Refusal.TheVariants as refusal
@@ -23,23 +23,10 @@ is : {j k : ℕ} → ◌≡◌ {A = Got Sheet} (refused j) (refused k) → Known
 is {j} {k} e (r, q) = let h : k ≡ j = cc in (r, h ∙ q)
 
 module _ (s : List ℕ) (count : ℕ) (X : Timing) (k : ℕ) where
-  by_order : (t : Sheet) (r : List ℕ) (d : Dec (Orderly t)) → ◌≡◌ {A = Got Sheet} (elim d [ yes h ↦ got t r | no h ↦ refused 8 ]) (refused k) →
-      Known k
-  by_order t r (yes h) e = absurd (not_got (sym e))
-  by_order t r (no h) e = is e (refusal.NoTimes, refl)
-
-  pub ordered_is : ordered s ≡ refused k → Known k
-  unfolding ordered
-  ordered_is e = go (read s) refl e
-    where
-      go : (g : Got Sheet) → read s ≡ g → (g >>= λ t r. elim (orderly? t) [ yes h ↦ got t r | no h ↦ refused 8 ]) ≡ refused k → Known k
-      go (refused j) q e = is e (refusal_is s j q)
-      go (got t r) q e = by_order t r (orderly? t) e
-
   by_tests : (x y : Bool) → cond x (refused 10) (cond y (refused 11) (ordered s)) ≡ refused k → Known k
   by_tests true y e = is e (refusal.WrongCount, refl)
   by_tests false true e = is e (refusal.TimeTooFar, refl)
-  by_tests false false e = ordered_is e
+  by_tests false false e = ordered_is s k e
 
   pub admitted_is : admitted s count X ≡ refused k → Known k
   unfolding admitted

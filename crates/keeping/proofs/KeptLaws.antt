@@ -1,5 +1,5 @@
 -- What the kept table's answer says: its bytes and counts are those of document 01's panels, 0 past the last.
-use mathlib.Core.Path.{◌≡◌, ap, sym, ◌∙◌}
+use mathlib.Core.Path.{◌≡◌, refl, ap, sym, subst, ◌∙◌}
 use mathlib.Core.Logic.{◌⊎◌, inl, inr}
 use mathlib.Core.Bool.{false, not}
 use mathlib.Core.List.{List, [], ◌∷◌}
@@ -28,6 +28,8 @@ use Rattle.sheet.specs.Cue.{most_steps}
 use Rattle.sheet.proofs.OrderedLaws.{ordered_by}
 use Rattle.sheet.proofs.Fits.{all_fit}
 use Rattle.preparing.proofs.Results.{kept_bit}
+use Rattle.reading.proofs.Refusals.{ordered_is}
+use Rattle.refusals.proofs.NumberLaws.{Known}
 use Rattle.trigger_sets.specs.Sets.{bit}
 use Rattle.trigger_sets.proofs.BitLaws.{bit_none}
 use Rattle.trigger_sets.proofs.ByteLaws.{byte_ext, byte_empty, byte_ones}
@@ -42,7 +44,7 @@ use Rattle.walk.proofs.Stepping.{Walked, step_remembers}
 use Rattle.walk.proofs.Follows.{counts_follow}
 use Rattle.preparing.specs.Prepared.{MarkedAs}
 use Rattle.preparing.specs.declared.Marked.{Marked}
-use Rattle.keeping.specs.Keeping.{kept_of, keeping, six_counts, kept_answer, table_in, StepsAtMost}
+use Rattle.keeping.specs.Keeping.{refused, kept_of, keeping, six_counts, kept_answer, table_in, StepsAtMost}
 use Rattle.sheet.specs.Ordered.{ordered}
 use Rattle.keeping.specs.declared.KeptTable.{KeptTable}
 use Rattle.cue.specs.Sizes.{size_limit, six}
@@ -189,6 +191,15 @@ module _ {n : ℕ} {P : Cue} {lags stars gains needs : List (List ℕ)} {m : Mar
 pub keeping_of : (s : List ℕ) {g : Got spec.Sheet} → ordered s ≡ g → kept_of g ≡ keeping s
 unfolding keeping
 keeping_of s e = sym (ap kept_of e)
+
+-- what is refused is one of `refusals`
+pub refused_known : (s : List ℕ) (k : ℕ) → keeping s ≡ refused k → Known k
+unfolding keeping
+refused_known s k = go (ordered s) refl
+  where
+    go : (g : Got spec.Sheet) → ordered s ≡ g → kept_of g ≡ refused k → Known k
+    go (spec.refused j) q e = let h : j ≡ k = cc in subst Known h (ordered_is s j q)
+    go (got t r) q e = let z : ◌≡◌ {A = ℕ} 0 1 = cc in let x : ⊥ = omega arith in absurd x
 
 -- ---- "steps is at most n + n² + ... + n to the power f"
 pub steps_at_most : StepsAtMost

@@ -20,6 +20,9 @@ use Rattle.sheet.specs.Ordered.{ordered}
 use Rattle.sheet.proofs.OrderedLaws.{ordered_refused, ordered_8, ordered_got}
 use Rattle.planning.specs.Planning.{PlanOutcome, planned, full, refused, plan_of, planning, space_after, plan_answer}
 use Rattle.planning.specs.Inner.{Does}
+use Rattle.reading.proofs.Refusals.{ordered_is}
+use Rattle.refusals.proofs.NumberLaws.{Known}
+use Rattle.planning.proofs.Demands.{plan}
 use Rattle.planning.specs.declared.CuePlan.{CuePlan}
 use Rattle.planning.specs.declared.Unplanned.{Unplanned}
 use Rattle.cue.specs.Written.{width}
@@ -75,6 +78,19 @@ module _ (s : List ℕ) (space : List ℤ) where
 
     pub planning_listed : Orderly t → plan_of (λ wide. length space / wide) (got t []) ≡ planning s space
     planning_listed np = planning_of (ordered_got s t r e np)
+
+  -- what planning refuses is one of `refusals`
+  pub refused_known : (k : ℕ) → planning s space ≡ refused k → Known k
+  unfolding planning
+  refused_known k = go (ordered s) refl
+    where
+      listed : (t : Sheet) (b : Bool) → ¬ (cond b (plan t) (full (width (sheet_caps t)) (length (sheet_lines t))) ≡ refused k)
+      listed t true e = let z : ◌≡◌ {A = ℕ} 0 1 = cc in let x : ⊥ = omega arith in x
+      listed t false e = let z : ◌≡◌ {A = ℕ} 0 1 = cc in let x : ⊥ = omega arith in x
+
+      go : (g : Got Sheet) → ordered s ≡ g → plan_of room_for g ≡ refused k → Known k
+      go (spec.refused j) q e = let h : j ≡ k = cc in subst Known h (ordered_is s j q)
+      go (got t r) q e = absurd (listed t (leb (length (sheet_lines t)) (room_for (width (sheet_caps t)))) e)
 
   -- ---- what a planning does
   does_same : {o : PlanOutcome} {after : List ℤ} {r : Result CuePlan Unplanned} → o ≡ planning s space → Does o space after r → Does (planning s space) space after r

@@ -17,6 +17,10 @@ use Rattle.sheet.specs.Meaning.{Timing}
 use Rattle.sheet.specs.Cue.{sheet_caps, sheet_lines}
 use Rattle.sheet.specs.Admitted.{admitted}
 use Rattle.sheet.proofs.Latest.{latest_on, latest_exists}
+use Rattle.admitting.proofs.Known.{admitted_is}
+use Rattle.refusals.proofs.NumberLaws.{Known}
+use mathlib.Core.Option.{Option}
+use Rattle.maxplus.specs.Line.{Line}
 use Rattle.timing.specs.Times.{timing_of}
 use Rattle.timing.specs.declared.Timing as words
 use Rattle.laying.specs.Laying.{Lists}
@@ -37,6 +41,20 @@ module _ (s : List ℕ) (count : ℕ) (G : Timing) (space : List ℤ) where
   pub reaching_of : {g : Got Sheet} (e : admitted s count G ≡ g) → reaching s count G space ≡ reach_of s count G room_for g e
   unfolding reaching
   reaching_of e = path_j (λ g e. reach_of s count G room_for (admitted s count G) refl ≡ reach_of s count G room_for g e) refl e
+
+  -- what reaching refuses is one of `refusals`
+  pub refused_known : (k : ℕ) → reaching s count G space ≡ refused k → Known k
+  refused_known k e = go (admitted s count G) refl
+    where
+      listed : (n : ℕ) (X : Timing) (o : Option (Line n → ℤ)) (L : List (Line n)) (b : Bool) →
+          ¬ (cond b (reached n X o L) (full (width o) (length L)) ≡ refused k)
+      listed n X o L true e = let z : ◌≡◌ {A = ℕ} 0 1 = cc in let x : ⊥ = omega arith in x
+      listed n X o L false e = let z : ◌≡◌ {A = ℕ} 0 1 = cc in let x : ⊥ = omega arith in x
+
+      go : (g : Got Sheet) → admitted s count G ≡ g → Known k
+      go (sheet.refused j) q = let f = sym (reaching_of q) ∙ e in let h : j ≡ k = cc in subst Known h (admitted_is s count G j q)
+      go (got t x) q = absurd (listed _ _ (sheet_caps t) (sheet_lines t) (leb (length (sheet_lines t)) (room_for (width (sheet_caps t))))
+          (sym (reaching_of q) ∙ e))
 
   does_same : {o : ReachOutcome} {after : List ℤ} {r : Result Reached Unplanned} → reaching s count G space ≡ o → Does o space after r →
       Does (reaching s count G space) space after r

@@ -13,7 +13,9 @@ use Rattle.maxplus.specs.Whole.{neg}
 use Rattle.maxplus.specs.Entry.{E, absent, num}
 use Rattle.maxplus.specs.Tables.{Mat}
 use Rattle.sheet.specs.Text.{bytes}
-use Rattle.sheet.specs.Sheet.{Got, got, refused, got?, ◌>>=◌, literal, leading, value, behind, signed, item}
+use Rattle.sheet.specs.Cue.{Orderly, orderly?}
+use Rattle.sheet.specs.Ordered.{ordered}
+use Rattle.sheet.specs.Sheet.{Got, got, refused, Sheet, got?, ◌>>=◌, literal, leading, value, behind, signed, item}
 use Rattle.sheet.specs.Sheet.{ending, ended, items, Content, size, entry, mark, out_of_range, no_size, absent?, any, all, checked}
 use Rattle.sheet.specs.Sheet.{line, rows, Section, section, sections, sizes, tables, part, count, panels_line, triggers_line, lag_lines, floor_line}
 use Rattle.sheet.specs.Sheet.{optional, land_kind, last_kind, sheet_of, some_lag_missing, finished, ruled, headed, lines, read}
@@ -119,6 +121,19 @@ lines_numbered s = then_numbered (ruled s) _ (ruled_numbered s) headed_numbered
 pub refusal_is : (s : List ℕ) (k : ℕ) → read s ≡ refused k → Known k
 unfolding read
 refusal_is s k e = subst Numbered e (if_numbered (ltb 2048 (length s)) (refused 1) (lines s) (refusal.SheetTooLong, refl) (lines_numbered s))
+
+-- and so is 8, of a sheet whose order cannot be kept
+pub ordered_is : (s : List ℕ) (k : ℕ) → ordered s ≡ refused k → Known k
+unfolding ordered
+ordered_is s k e = go (read s) refl e
+  where
+    by_order : (t : Sheet) (r : List ℕ) (d : Dec (Orderly t)) → Numbered (elim d [ yes h ↦ got t r | no h ↦ refused 8 ])
+    by_order t r (yes h) = tt
+    by_order t r (no h) = (refusal.NoTimes, refl)
+
+    go : (g : Got Sheet) → read s ≡ g → (g >>= λ t r. elim (orderly? t) [ yes h ↦ got t r | no h ↦ refused 8 ]) ≡ refused k → Known k
+    go (refused j) q e = subst Numbered e (refusal_is s j q)
+    go (got t r) q e = subst Numbered e (by_order t r (orderly? t))
 
 pub refusal_known : (s : List ℕ) (k : ℕ) → read s ≡ refused k → (1 ≤ k) × (k ≤ 14)
 refusal_known s k e = known_within k (refusal_is s k e)

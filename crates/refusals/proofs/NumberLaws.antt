@@ -20,6 +20,11 @@ of_number refusal.NoLoadSize = refl
 of_number refusal.SpaceTooShort = refl
 of_number refusal.TriggerWithoutLag = refl
 
+-- 9 is none of these
+pub not_nine : (r : Refusal) → ¬ (number r ≡ 9)
+unfolding refusal_of
+not_nine r e = let q = ap number (sym (of_number r) ∙ ap refusal_of e) in let x : ⊥ = omega (arith, q, e) in x
+
 -- a number that a refusal has
 abbrev pub Known : ℕ → Type 0
 Known k = (r : Refusal) × (k ≡ number r)

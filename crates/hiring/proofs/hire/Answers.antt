@@ -5,23 +5,26 @@ use Rattle.refusals.specs.declared.Refusal.TheVariants.{NoLoadSize, SpaceTooShor
 use Rattle.refusals.proofs.NumberLaws.{of_number}
 use Rattle.hiring.specs.Hiring.{hiring, refused}
 use Rattle.hiring.proofs.HireLaws.{size_there, no_panels, no_triggers, no_room, room_there, does, made_length, delivered}
-use Rattle.hiring.proofs.hire.Goals.{Joined-then-not-is_size, then-not-is_size-via-then-not-is_size, then-not-is_size-via-else-not-is_size+then-not-is_size-2}
+use Rattle.hiring.proofs.hire.Goals.{then-not-is_size-via-then-not-is_size, then-not-is_size-via-else-not-is_size+then-not-is_size-2}
 use Rattle.hiring.proofs.hire.Goals as goal
-
-no_size : (c : goal.Joined-then-not-is_size) → hiring c.args.panels c.args.triggers c.args.state (length c.args.out.now) ≡ refused 12
-no_size c = elim c.then-not-is_size.branch [
-  | then-not-is_size-via-then-not-is_size w ↦ no_panels _ _ _ _ (sym c.is_size.ensures ∙ w.if-not-is_size.true)
-  | then-not-is_size-via-else-not-is_size+then-not-is_size-2 w ↦
-      no_triggers _ _ _ _ (sym c.is_size.ensures ∙ w.if-not-is_size.false) (sym w.is_size-else-not-is_size.ensures ∙ w.if-not-is_size-2.true)
-]
 
 pub returns-then-not-is_size-clause-returned : goal.returns-then-not-is_size-clause-returned
 returns-then-not-is_size-clause-returned c =
-    (does _ _ _ _ c.args.out.now (no_size c) (ap Err (sym (of_number NoLoadSize))) refl).0
+    let none : hiring c.args.panels c.args.triggers c.args.state (length c.args.out.now) ≡ refused 12 = (elim c.then-not-is_size.branch [
+      | then-not-is_size-via-then-not-is_size w ↦ no_panels _ _ _ _ (sym c.is_size.ensures ∙ w.if-not-is_size.true)
+      | then-not-is_size-via-else-not-is_size+then-not-is_size-2 w ↦
+          no_triggers _ _ _ _ (sym c.is_size.ensures ∙ w.if-not-is_size.false) (sym w.is_size-else-not-is_size.ensures ∙ w.if-not-is_size-2.true)
+    ]) in
+    (does _ _ _ _ c.args.out.now none (ap Err (sym (of_number NoLoadSize))) refl).0
 
 pub returns-then-not-is_size-clause-written : goal.returns-then-not-is_size-clause-written
 returns-then-not-is_size-clause-written c =
-    (does _ _ _ _ c.args.out.now (no_size c) (ap Err (sym (of_number NoLoadSize))) refl).1
+    let none : hiring c.args.panels c.args.triggers c.args.state (length c.args.out.now) ≡ refused 12 = (elim c.then-not-is_size.branch [
+      | then-not-is_size-via-then-not-is_size w ↦ no_panels _ _ _ _ (sym c.is_size.ensures ∙ w.if-not-is_size.true)
+      | then-not-is_size-via-else-not-is_size+then-not-is_size-2 w ↦
+          no_triggers _ _ _ _ (sym c.is_size.ensures ∙ w.if-not-is_size.false) (sym w.is_size-else-not-is_size.ensures ∙ w.if-not-is_size-2.true)
+    ]) in
+    (does _ _ _ _ c.args.out.now none (ap Err (sym (of_number NoLoadSize))) refl).1
 
 pub put_sheet-sheet-requires : goal.put_sheet-sheet-requires
 put_sheet-sheet-requires c =
