@@ -1,15 +1,21 @@
 -- A refusal is one of `refusals`, so that its number is one of document 01's.
-use mathlib.Core.Path.{◌≡◌, refl, ◌∙◌}
+use mathlib.Core.Path.{◌≡◌, refl, sym, ◌∙◌}
 use mathlib.Core.Bool.{Bool, true, false, cond, not}
 use mathlib.Core.List.{List}
 use Prim.Native.Nat.{ℕ, ◌≤◌}
+use native.Mathlib.Omega.{arith}
 use lib.Dec.{eqb}
 use Rattle.sheet.specs.Sheet.{Got, got, refused, Sheet, ◌>>=◌, read}
 use Rattle.sheet.specs.Meaning.{Timing}
+use Rattle.sheet.specs.Cue.{Orderly, orderly?}
 use Rattle.sheet.specs.Ordered.{ordered}
 use Rattle.sheet.specs.Times.{some_beyond}
 use Rattle.sheet.specs.Admitted.{admitted}
+use Rattle.sheet.proofs.OrderedLaws.{ordered_by}
+use Rattle.sheet.proofs.LineLaws.{not_got}
 use Rattle.reading.proofs.Refusals.{refusal_is, ordered_is}
+use Rattle.refusals.specs.Numbers.{number}
+use Rattle.refusals.specs.declared.Refusal.{Refusal}
 use Rattle.refusals.specs.declared.Refusal.TheVariants as refusal
 use Rattle.refusals.proofs.NumberLaws.{Known, known_within}
 

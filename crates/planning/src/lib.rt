@@ -7,19 +7,52 @@ ghost use Rattle.preparing.specs.Prepared.{Made};
 ghost use Rattle.laying.specs.Laying.{Lists};
 ghost use Rattle.cue.specs.Written.{width};
 ghost use Rattle.sheet.specs.Cue.{sheet_caps};
-ghost use Rattle.planning.specs.Planning as outcome;
-ghost use Rattle.planning.specs.Planning.{planning, space_after, plan_answer};
+ghost use Rattle.planning.specs.Planning.{planning, space_after, plan_answer, unplanned_number};
+ghost use Rattle.planning.specs.declared.Unplanned.TheVariants.{Refused};
 
 use laying::{finish, width};
 use lines::Listed;
 use preparing::Prepared;
+use refusals::{Refusal, of_number};
 
-// Document 01's refusal, 1 to 8, and nothing else; 9 and the count needed; or 0, the sheet's number of triggers, those of them that are spare
-// (bit 0 for trigger 1), Δ, the walk's fixings, its selections, how many words a line takes and the number of lines. These two go with 9 as
-// well.
-#[derive(Clone, Copy)]
+// How many lines, and how many words each takes.
+#[derive(Clone, Copy, PartialEq, Eq, Debug)]
+pub struct Extent {
+    pub count: usize,
+    pub width: usize,
+}
+
+// Why there is no plan: the sheet's refusal, 1 to 8 or 14; or 9, with as much as the list needs.
+#[derive(Clone, Copy, PartialEq, Eq, Debug)]
+pub enum Unplanned {
+    Refused(Refusal),
+    NoRoom(Extent),
+}
+
+impl Unplanned {
+    // The number by which it goes outside.
+    pub fn number(self) -> u8
+        ensures { result ≡ unplanned_number self }
+    {
+        match self {
+            Unplanned::Refused(refusal) => refusal.number(),
+            Unplanned::NoRoom(_) => 9,
+        }
+    }
+}
+
+impl From<Refusal> for Unplanned {
+    ghost from_gives = { λ r e. e ≡ Refused r };
+
+    fn from(reason: Refusal) -> Unplanned {
+        Unplanned::Refused(reason)
+    }
+}
+
+// The sheet's number of triggers, those of them that are spare (bit 0 for trigger 1), Δ, the walk's fixings, its selections, how many words a
+// line takes and the number of lines.
+#[derive(Clone, Copy, PartialEq, Eq, Debug)]
 pub struct CuePlan {
-    pub refusal: u8,
     pub triggers: usize,
     pub spares: u8,
     pub deviation: i64,
@@ -30,7 +63,7 @@ pub struct CuePlan {
 }
 
 // The plan of a sheet, its lines at the front of the lent space.
-pub fn plan(bytes: &[u8], space: &mut [i32]) -> CuePlan
+pub fn plan(bytes: &[u8], space: &mut [i32]) -> Result<CuePlan, Unplanned>
     ensures answer { result ≡ plan_answer (planning bytes.now space.old) }
     ensures written { space.new ≡ space_after (planning bytes.now space.old) space.old }
 {
@@ -48,7 +81,7 @@ pub fn plan(bytes: &[u8], space: &mut [i32]) -> CuePlan
         &mut needs,
     );
     if prepared.refusal != 0 {
-        return no_plan(prepared.refusal);
+        return Err(Unplanned::Refused(of_number(prepared.refusal)));
     }
     let marks = prepared.marked.marks;
     let masks = marks.kept;
@@ -56,9 +89,11 @@ pub fn plan(bytes: &[u8], space: &mut [i32]) -> CuePlan
     let deviation = words::number(prepared.marked.least);
     let words = width(prepared.moments.given);
     match list_sheet(space, prepared, words, &star, &lag, &needs) {
-        Listed::NoRoom(k) => no_room(words, k),
-        Listed::Lines(k) => CuePlan {
-            refusal: 0,
+        Listed::NoRoom(count) => Err(Unplanned::NoRoom(Extent {
+            count: count,
+            width: words,
+        })),
+        Listed::Lines(k) => Ok(CuePlan {
             triggers: prepared.cue.places.triggers,
             spares: prepared.cue.places.spares,
             deviation: deviation,
@@ -66,7 +101,7 @@ pub fn plan(bytes: &[u8], space: &mut [i32]) -> CuePlan
             selections: counts.selections,
             width: words,
             count: k,
-        },
+        }),
     }
 }
 
@@ -95,37 +130,5 @@ fn list_sheet(
             finish(space, k, places, moments);
             Listed::Lines(k)
         }
-    }
-}
-
-// The answer of a refusal: its number and nothing else.
-fn no_plan(refusal: u8) -> CuePlan
-    ensures { result ≡ plan_answer (outcome.refused refusal) }
-{
-    CuePlan {
-        refusal: refusal,
-        triggers: 0,
-        spares: 0,
-        deviation: 0,
-        steps: 0,
-        selections: 0,
-        width: 0,
-        count: 0,
-    }
-}
-
-// "it also returns the count needed", and how many words a line takes.
-fn no_room(words: usize, count: usize) -> CuePlan
-    ensures { result ≡ plan_answer (outcome.full words count) }
-{
-    CuePlan {
-        refusal: 9,
-        triggers: 0,
-        spares: 0,
-        deviation: 0,
-        steps: 0,
-        selections: 0,
-        width: words,
-        count: count,
     }
 }

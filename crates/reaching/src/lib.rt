@@ -12,15 +12,15 @@ ghost use Rattle.sheet.proofs.Seam.{at_used};
 ghost use Rattle.timing.specs.Times.{component, timing_of, TimingWords};
 ghost use Rattle.moments.specs.Moments.{MomentsOf};
 ghost use Rattle.spares.specs.Using.{PlacesOf};
-ghost use Rattle.reaching.specs.Reaching as outcome;
 ghost use Rattle.reaching.specs.Reaching.{reaching, reached_space, reach_answer};
-ghost use Rattle.reaching.specs.Inner.{answered};
 
 use crate::weighed::latest;
 use admitting::times_in_use;
 use laying::{finish, width};
 use lines::Listed;
 use moments::{Moments, lowered};
+use planning::{Extent, Unplanned};
+use refusals::of_number;
 use spares::Places;
 use timing::Timing;
 use timing::times::words_of;
@@ -29,19 +29,17 @@ use words::LineWords;
 
 mod weighed;
 
-// A refusal, 1 to 8, 10 or 11, and nothing else; 9, how many words a line takes and the count needed; or 0, these words, the number of lines
-// and the timing.
+// How many words a line takes, the number of lines, and the timing.
 #[derive(Clone, Copy)]
 pub struct Reached {
-    pub refusal: u8,
     pub width: usize,
     pub count: usize,
     pub timing: Timing,
 }
 
-// The latest tightest timing none of whose components exceeds the wish's, and the sheet's lines at the front of the lent space. Only the
-// first n of the wish's six components are looked at.
-pub fn latest_timing(bytes: &[u8], wish: Timing, space: &mut [i32]) -> Reached
+// The latest tightest timing none of whose components exceeds the wish's, and the sheet's lines at the front of the lent space; or testing's
+// refusal, or 9. Only the first n of the wish's six components are looked at.
+pub fn latest_timing(bytes: &[u8], wish: Timing, space: &mut [i32]) -> Result<Reached, Unplanned>
     ensures answer { result ≡ reach_answer (reaching bytes.now wish.count (component wish.at) space.old) }
     ensures written { space.new ≡
         reached_space (reaching bytes.now wish.count (component wish.at) space.old) space.old }
@@ -56,7 +54,7 @@ pub fn latest_timing(bytes: &[u8], wish: Timing, space: &mut [i32]) -> Reached
         bytes, wish, &mut order, &mut lag, &mut star, &mut gains, &mut needs,
     );
     if prepared.refusal != 0 {
-        return not_reached(prepared.refusal, 0, 0);
+        return Err(Unplanned::Refused(of_number(prepared.refusal)));
     }
     let marks = prepared.marked.marks;
     let places = prepared.cue.places;
@@ -65,11 +63,18 @@ pub fn latest_timing(bytes: &[u8], wish: Timing, space: &mut [i32]) -> Reached
     let words = width(moments.given);
     let room = space.len() / words;
     match lines::list(space, room, marks, &star, &lag, &needs) {
-        Listed::NoRoom(k) => not_reached(9, words, k),
+        Listed::NoRoom(count) => Err(Unplanned::NoRoom(Extent {
+            count: count,
+            width: words,
+        })),
         Listed::Lines(k) => {
             let times = latest(space, k, within);
             finish(space, k, places, moments);
-            found(words, k, handed_back(wish, times, places))
+            Ok(Reached {
+                width: words,
+                count: k,
+                timing: handed_back(wish, times, places),
+            })
         }
     }
 }
@@ -97,47 +102,16 @@ fn handed_back(wish: Timing, times: Timing, p: Places) -> Timing
     let made = times.at;
     let mut at = [0i64; 6];
     let mut k: usize = 0;
-    let mut j: usize = 0;
-    while j < p.triggers {
+    for j in 0..p.triggers {
         if has(p.used, j) {
             at[j] = made[k];
             k += 1;
         } else {
             at[j] = wished[j];
         }
-        j += 1;
     }
     Timing {
         count: p.triggers,
         at: at,
-    }
-}
-
-// The answer with a timing.
-fn found(words: usize, count: usize, timing: Timing) -> Reached
-    ensures { result ≡ answered words count timing }
-{
-    Reached {
-        refusal: 0,
-        width: words,
-        count: count,
-        timing: timing,
-    }
-}
-
-// The answer of a refusal: its number, and with 9 how many words a line takes and the count needed.
-fn not_reached(refusal: u8, words: usize, count: usize) -> Reached
-    ensures full { refusal ≡ 9 → result ≡ reach_answer (outcome.full words count) }
-    ensures refused { words ≡ 0 → count ≡ 0 → result ≡ reach_answer (outcome.refused refusal) }
-{
-    let none = Timing {
-        count: 0,
-        at: [0i64; 6],
-    };
-    Reached {
-        refusal: refusal,
-        width: words,
-        count: count,
-        timing: none,
     }
 }

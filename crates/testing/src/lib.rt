@@ -7,19 +7,13 @@ ghost use Rattle.testing.specs.Testing.{testing, test_answer};
 
 use admitting::times_in_use;
 use moments::in_time;
+use refusals::{Refusal, of_number};
 use timing::Timing;
 use timing::times::words_of;
 
-// Yes or no, or document 01's refusal, and nothing else.
-#[derive(Clone, Copy)]
-pub enum Tested {
-    Yes,
-    No,
-    Refused(u8),
-}
-
-// Whether a timing is tightest on a sheet and meets every last moment. Only the first n of its six components are looked at.
-pub fn test_timing(bytes: &[u8], timing: Timing) -> Tested
+// Whether a timing is tightest on a sheet and meets every last moment; or document 01's refusal. Only the first n of its six components are
+// looked at.
+pub fn test_timing(bytes: &[u8], timing: Timing) -> Result<bool, Refusal>
     ensures { test_answer result ≡ testing bytes.now timing.count (component timing.at) }
 {
     let blank = [0u64; 6];
@@ -32,7 +26,7 @@ pub fn test_timing(bytes: &[u8], timing: Timing) -> Tested
         bytes, timing, &mut order, &mut lag, &mut star, &mut gains, &mut needs,
     );
     if prepared.refusal != 0 {
-        return Tested::Refused(prepared.refusal);
+        return Err(of_number(prepared.refusal));
     }
     let cue = prepared.cue;
     let marked = prepared.marked;
@@ -43,11 +37,8 @@ pub fn test_timing(bytes: &[u8], timing: Timing) -> Tested
     let overruns = moments.overruns;
     let times = words_of(timing, places.triggers);
     if !in_time(times, overruns) {
-        return Tested::No;
+        return Ok(false);
     }
     let x = times_in_use(times, places);
-    if timing::test::tested(&order, &lag, floor, due, marked.least, x, cue.panels) {
-        return Tested::Yes;
-    }
-    Tested::No
+    Ok(timing::test::tested(&order, &lag, floor, due, marked.least, x, cue.panels))
 }

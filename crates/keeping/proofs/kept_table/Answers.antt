@@ -1,5 +1,6 @@
 -- `keeping::kept_table` meets its contract: the walk over the levels is document 01's. Assumes nothing.
 use mathlib.Core.Path.{◌≡◌, ap, sym, ◌∙◌}
+use Rattle.std.specs.Prelude.{Err}
 use mir.Syntax.{w64}
 use mir.Val.{to_z, of_z}
 use mir.Facts.{to_z-of_z}
@@ -10,7 +11,7 @@ use Rattle.keeping.proofs.kept_table.Goals as goal
 
 pub returns-then-prepared-ne0 : goal.returns-then-prepared-ne0
 returns-then-prepared-ne0 c =
-    c.no_table.ensures ∙
+    ap Err c.of_number.ensures ∙
     ap kept_answer (keeping_of _ ((c.prepare-prepared.ensures _ c.read_sheet-reading.ensures).refusal c.if-prepared-ne0.true))
 
 pub returns : goal.returns

@@ -1,5 +1,7 @@
 -- `planning::plan` meets its contract: the list is drawn from the sheet's tables. Assumes nothing.
-use mathlib.Core.Path.{◌≡◌, sym, subst, ◌∙◌}
+use mathlib.Core.Path.{◌≡◌, refl, ap, sym, subst, ◌∙◌}
+use Rattle.std.specs.Prelude.{Err}
+use Rattle.planning.specs.declared.Unplanned.TheVariants.{Refused}
 use borrow.Author.Rules.{rules}
 use mir.Syntax.{w64}
 use mir.Val.{to_z, of_z}
@@ -13,26 +15,26 @@ use Rattle.planning.proofs.plan.Goals as goal
 
 pub returns-then-prepared-ne0-clause-answer : goal.returns-then-prepared-ne0-clause-answer
 returns-then-prepared-ne0-clause-answer c =
-    let d = does_refused _ _ _ ((c.prepare-prepared.ensures _ c.read_sheet.ensures).refusal c.if-prepared-ne0.true) c.no_plan.ensures in
+    let d = does_refused _ _ _ ((c.prepare-prepared.ensures _ c.read_sheet.ensures).refusal c.if-prepared-ne0.true) (ap (λ r. Err (Refused r)) c.of_number.ensures) in
     d.answer
 
 pub returns-then-prepared-ne0-clause-written : goal.returns-then-prepared-ne0-clause-written
 returns-then-prepared-ne0-clause-written c =
-    let d = does_refused _ _ _ ((c.prepare-prepared.ensures _ c.read_sheet.ensures).refusal c.if-prepared-ne0.true) c.no_plan.ensures in
+    let d = does_refused _ _ _ ((c.prepare-prepared.ensures _ c.read_sheet.ensures).refusal c.if-prepared-ne0.true) (ap (λ r. Err (Refused r)) c.of_number.ensures) in
     d.written
 
 pub returns-in-NoRoom-clause-answer : goal.returns-in-NoRoom-clause-answer
 returns-in-NoRoom-clause-answer c =
     let (s, x, q, Q) = ((c.prepare-prepared.ensures _ c.read_sheet.ensures).made c.if-prepared-ne0.false) in
     let e = c.width-words.ensures s Q.moments.given_is in
-    let d = does_full _ _ s x q _ _ c.no_room.ensures e (subst (Lists s _ _) c.in-NoRoom.is (c.list_sheet.ensures s _ _ Q e)) in
+    let d = does_full _ _ s x q _ _ refl e (subst (Lists s _ _) c.in-NoRoom.is (c.list_sheet.ensures s _ _ Q e)) in
     d.answer
 
 pub returns-in-NoRoom-clause-written : goal.returns-in-NoRoom-clause-written
 returns-in-NoRoom-clause-written c =
     let (s, x, q, Q) = ((c.prepare-prepared.ensures _ c.read_sheet.ensures).made c.if-prepared-ne0.false) in
     let e = c.width-words.ensures s Q.moments.given_is in
-    let d = does_full _ _ s x q _ _ c.no_room.ensures e (subst (Lists s _ _) c.in-NoRoom.is (c.list_sheet.ensures s _ _ Q e)) in
+    let d = does_full _ _ s x q _ _ refl e (subst (Lists s _ _) c.in-NoRoom.is (c.list_sheet.ensures s _ _ Q e)) in
     d.written
 
 pub returns-in-Lines-clause-answer : goal.returns-in-Lines-clause-answer

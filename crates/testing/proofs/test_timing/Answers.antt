@@ -13,7 +13,7 @@ use Rattle.timing.specs.Times.{component}
 use Rattle.testing.specs.Testing as outcome
 use Rattle.testing.specs.Testing.{testing}
 use Rattle.testing.proofs.SheetLaws.{tested_asks, answer_says, is_early, not_early}
-use Rattle.testing.proofs.TestLaws.{testing_refused, testing_says}
+use Rattle.testing.proofs.TestLaws.{refused_as, testing_says}
 use Rattle.testing.proofs.test_timing.Goals as goal
 
 -- the answer, as the test has it
@@ -22,7 +22,7 @@ says : (s : List ℕ) (count : ℕ) (X : Timing) (t : spec.Sheet) (x : List ℕ)
 says s count X t x q v h T = testing_says s count X t x q v (subst (Says (TightestInTime t X)) h T)
 
 pub returns-then-prepared-ne0 : goal.returns-then-prepared-ne0
-returns-then-prepared-ne0 c = testing_refused _ _ _ _ (c.admit-prepared.ensures.refusal c.if-prepared-ne0.true)
+returns-then-prepared-ne0 c = refused_as _ _ _ _ c.of_number.ensures (c.admit-prepared.ensures.refusal c.if-prepared-ne0.true)
 
 pub words_of-times-requires : goal.words_of-times-requires
 words_of-times-requires c =
@@ -40,16 +40,9 @@ tested-requires c =
     let (t, x, q, M) = c.admit-prepared.ensures.made c.if-prepared-ne0.false in
     tested_asks M (component c.args.timing.at) (c.times_in_use-x.ensures _ _ _ M.placed (rw M.placed.triggers_are at c.words_of-times.ensures))
 
-pub returns-then-tested : goal.returns-then-tested
-returns-then-tested c =
-    let (t, x, q, M) = c.admit-prepared.ensures.made c.if-prepared-ne0.false in
-    let v = rw M.placed.triggers_are at c.words_of-times.ensures in
-    let early = is_early M _ v (says_true c.in_time.result c.if-not-in_time.false c.in_time.ensures) in
-    says _ _ _ t x q true c.if-tested.true (answer_says M _ (c.times_in_use-x.ensures _ _ _ M.placed v) early _ c.tested.ensures)
-
 pub returns : goal.returns
 returns c =
     let (t, x, q, M) = c.admit-prepared.ensures.made c.if-prepared-ne0.false in
     let v = rw M.placed.triggers_are at c.words_of-times.ensures in
     let early = is_early M _ v (says_true c.in_time.result c.if-not-in_time.false c.in_time.ensures) in
-    says _ _ _ t x q false c.if-tested.false (answer_says M _ (c.times_in_use-x.ensures _ _ _ M.placed v) early _ c.tested.ensures)
+    testing_says _ _ _ t x q _ (answer_says M _ (c.times_in_use-x.ensures _ _ _ M.placed v) early _ c.tested.ensures)
