@@ -16,22 +16,8 @@ pub fn place(buf: &[[u64; 6]; ROOM], len: usize, line: LineWords) -> usize
     requires { (len ≤ room) × Ordered len buf.now }
     ensures { Placed buf.now len line.at result }
 {
-    let mut low: usize = 0;
-    let mut high = len;
-    while low < high {
-        let mid = low + (high - low) / 2;
-        let at = buf[mid];
-        let middle = LineWords {
-            count: line.count,
-            at,
-        };
-        if below(middle, line) {
-            low = mid + 1;
-        } else {
-            high = mid;
-        }
-    }
-    low
+    let count = line.count;
+    buf[..len].partition_point(|there| below(LineWords { count, at: *there }, line))
 }
 
 // At its place the line is not there yet, nor past the end of a full buffer.
@@ -58,7 +44,7 @@ fn grown(len: usize) -> usize
     requires { len ≤ room }
     ensures { result ≡ min room (len + 1) }
 {
-    if len < ROOM { len + 1 } else { len }
+    (len + 1).min(ROOM)
 }
 
 // The line at a place, those from there on one place further.
@@ -67,11 +53,7 @@ pub fn insert(buf: &mut [[u64; 6]; ROOM], len: usize, at: usize, line: LineWords
     ensures { Inserted buf.old len at line.at buf.new result }
 {
     let more = grown(len);
-    let mut k = more - 1;
-    while at < k {
-        buf[k] = buf[k - 1];
-        k -= 1;
-    }
+    buf.copy_within(at..more - 1, at + 1);
     let words = line.at;
     buf[at] = words;
     more

@@ -1,5 +1,4 @@
 // Step 6's candidates of a selection, and the order of lines.
-// A loop over n triggers, n at most 6, often names the constant end too, as in `j < n && j < 6`: the compiler then unrolls it.
 #![tactic(auto)]
 
 pub mod drawing;

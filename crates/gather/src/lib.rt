@@ -92,8 +92,7 @@ fn consider_rays(
         (C ++ map_l (drawn marks.triggers) (take many set.now)) result buf.new }
 {
     let mut held = len;
-    let mut k: usize = 0;
-    while k < many {
+    for k in 0..many {
         let at = set[k];
         let ray = LineWords {
             count: marks.triggers,
@@ -101,7 +100,6 @@ fn consider_rays(
         };
         let line = normal(ray);
         held = consider(buf, held, last, line, known, marks, star, lag);
-        k += 1;
     }
     held
 }
@@ -197,21 +195,15 @@ fn carry(
     let kept = marks.kept;
     let n = marks.triggers;
     let mut many: usize = 1;
-    let mut level: usize = 0;
-    while level < marks.levels {
-        let added = add_panel(set, next, many, kept[level], needs[level], star, n);
-        if !added.done {
-            return Carried {
-                level: level,
-                many: many,
-            };
+    for level in 0..marks.levels {
+        match add_panel(set, next, many, kept[level], needs[level], star, n) {
+            Some(more) => many = more,
+            None => return Carried { level, many },
         }
-        many = added.many;
-        level += 1;
     }
     Carried {
-        level: level,
-        many: many,
+        level: marks.levels,
+        many,
     }
 }
 
@@ -264,14 +256,12 @@ pub fn gather(
     let mut set = [[0u64; 6]; PLACES];
     let mut next = [[0u64; 6]; PLACES];
     let mut len: usize = 0;
-    let mut t: usize = 0;
-    while t < n {
+    for t in 0..n {
         let first = first_ray(star, pulls[t], t, n);
         let words = first.at;
         set[0] = words;
         let carried = carry(&mut set, &mut next, marks, star, needs);
         len = conclude(buf, len, last, &set, carried, marks, star, lag, needs);
-        t += 1;
     }
     len
 }

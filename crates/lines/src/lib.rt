@@ -18,14 +18,13 @@ use words::LineWords;
 mod count;
 mod write;
 
-// The count of lines written, or of those that do not fit.
-#[derive(Clone, Copy)]
-pub enum Listed {
-    Lines(usize),
-    NoRoom(usize),
+// The lines do not fit: how many there are.
+#[derive(Clone, Copy, Debug, PartialEq, Eq)]
+pub struct NoRoom {
+    pub count: usize,
 }
 
-// The list at the front of the lent space, seven words a line, or its count and no change, where there is room for so many lines.
+// The list at the front of the lent space, seven words a line, and how many lines it has, where there is room for so many; else no change.
 pub fn list(
     out: &mut [i32],
     room: usize,
@@ -33,7 +32,7 @@ pub fn list(
     star: &[[u64; 6]; 6],
     lag: &[[u64; 6]; 6],
     needs: &[[u64; 6]; 6],
-) -> Listed
+) -> Result<usize, NoRoom>
     requires { (line_size * room ≤ length out.old) ×
         ((P : Cue) × Drawable marks.triggers P marks star.now lag.now needs.now) }
     ensures { (P : Cue) → Drawable marks.triggers P marks star.now lag.now needs.now →
@@ -49,15 +48,15 @@ pub fn list(
     // A buffer that was not filled holds the whole list.
     if len < ROOM {
         if room < len {
-            return Listed::NoRoom(len);
+            return Err(NoRoom { count: len });
         }
         write_held(out, 0, &buf, len, n);
-        return Listed::Lines(len);
+        return Ok(len);
     }
     let count = count_lines(marks, star, lag, needs);
     if room < count {
-        return Listed::NoRoom(count);
+        return Err(NoRoom { count });
     }
     write_lines(out, marks, star, lag, needs);
-    Listed::Lines(count)
+    Ok(count)
 }

@@ -25,10 +25,8 @@ fn write_line(out: &mut [i32], at: usize, line: LineWords)
 {
     let count = line.count;
     out[at] = count as i32;
-    let mut j: usize = 0;
-    while j < 6 {
+    for j in 0..6 {
         out[at + 1 + j] = words::signed(line.at[j]);
-        j += 1;
     }
 }
 
@@ -38,15 +36,13 @@ pub fn write_held(out: &mut [i32], at: usize, buf: &[[u64; 6]; ROOM], len: usize
         × ((w : List ℕ) → In w (take len buf.now) → Sized n w × CloselyV n line_down w) }
     ensures { out.new ≡ laid out.old at (list_words n (held n len buf.now)) }
 {
-    let mut k: usize = 0;
-    while k < len {
+    for k in 0..len {
         let words = buf[k];
         let line = LineWords {
             count: n,
             at: words,
         };
         write_line(out, at + LINE_SIZE * k, line);
-        k += 1;
     }
 }
 

@@ -23,25 +23,11 @@ pub struct Part {
     pub found: usize,
 }
 
-// Whether a panel was added, and how many rays the set then has.
-#[derive(Clone, Copy)]
-pub struct Addition {
-    pub done: bool,
-    pub many: usize,
-}
-
 // a lies below b in every component.
-fn under(a: LineWords, b: LineWords) -> bool
-    ensures { Says (Under a.at b.at) result }
+fn under(a: &[u64; 6], b: &[u64; 6]) -> bool
+    ensures { Says (Under a.now b.now) result }
 {
-    let mut j: usize = 0;
-    while j < 6 {
-        if b.at[j] < a.at[j] {
-            return false;
-        }
-        j += 1;
-    }
-    true
+    a.iter().zip(b.iter()).all(|(x, y)| *x <= *y)
 }
 
 // Some ray of the set lies below w.
@@ -49,16 +35,8 @@ fn covered(set: &[[u64; 6]; PLACES], many: usize, w: LineWords) -> bool
     requires { many ≤ places }
     ensures { Says (Covered set.now many w.at) result }
 {
-    let mut k: usize = 0;
-    while k < many {
-        let at = set[k];
-        let ray = LineWords { count: w.count, at };
-        if under(ray, w) {
-            return true;
-        }
-        k += 1;
-    }
-    false
+    let words = w.at;
+    set[..many].iter().any(|ray| under(ray, &words))
 }
 
 // Takes the rays that lie above w out of the set.
@@ -66,16 +44,14 @@ fn thin(set: &mut [[u64; 6]; PLACES], many: usize, w: LineWords) -> usize
     requires { (many ≤ places) × (length set.old ≡ places) }
     ensures { Thinned set.old many w.at set.new result }
 {
+    let words = w.at;
     let mut left: usize = 0;
-    let mut k: usize = 0;
-    while k < many {
-        let at = set[k];
-        let ray = LineWords { count: w.count, at };
-        if !under(w, ray) {
-            set[left] = at;
+    for k in 0..many {
+        let ray = set[k];
+        if !under(&words, &ray) {
+            set[left] = ray;
             left += 1;
         }
-        k += 1;
     }
     left
 }
@@ -99,15 +75,10 @@ fn meets(x: LineWords, mask: u8, wants: [u64; 6]) -> bool
     requires { x.count ≤ size_limit }
     ensures { Says (Meets x.count x.at mask wants) result }
 {
-    let n = x.count;
-    let mut j: usize = 0;
-    while j < n {
-        let want = wants[j];
-        let there = x.at[j];
-        if has(mask, j) && want <= there {
+    for j in 0..x.count {
+        if has(mask, j) && wants[j] <= x.at[j] {
             return true;
         }
-        j += 1;
     }
     false
 }
@@ -120,10 +91,8 @@ fn raised(x: LineWords, star: &[[u64; 6]; 6], s: usize, want: u64) -> LineWords
 {
     let n = x.count;
     let mut r = [0u64; 6];
-    let mut j: usize = 0;
-    while j < n && j < 6 {
+    for j in 0..n {
         r[j] = words::larger(x.at[j], words::plus(want, star[j][s]));
-        j += 1;
     }
     LineWords { count: n, at: r }
 }
@@ -141,14 +110,11 @@ fn raise(
         × Closely x.count x.count star_size star.now × CloselyV x.count need_down wants }
     ensures { RaisedAll x.count x.at mask wants star.now x.count set.old many set.new result }
 {
-    let n = x.count;
     let mut held = many;
-    let mut s: usize = 0;
-    while s < n {
+    for s in 0..x.count {
         if has(mask, s) {
             held = join(set, held, raised(x, star, s, wants[s]));
         }
-        s += 1;
     }
     held
 }
@@ -189,17 +155,21 @@ pub fn expand(
         × Expanded set.now from result.to mask wants star.now n next.new result.found }
 {
     let mut held: usize = 0;
-    let mut k = from;
-    while k < many && held + n <= PLACES {
+    for k in from..many {
+        if held + n > PLACES {
+            return Part { to: k, found: held };
+        }
         let words = set[k];
         let x = LineWords {
             count: n,
             at: words,
         };
         held = branch(next, held, x, mask, wants, star);
-        k += 1;
     }
-    Part { to: k, found: held }
+    Part {
+        to: many,
+        found: held,
+    }
 }
 
 // Whether every ray of a set meets a panel.
@@ -207,19 +177,9 @@ pub fn all_meet(set: &[[u64; 6]; PLACES], many: usize, mask: u8, wants: [u64; 6]
     requires { (n ≤ size_limit) × (many ≤ places) }
     ensures { Says ((k : ℕ) → k < many → Meets n (row set.now k) mask wants) result }
 {
-    let mut k: usize = 0;
-    while k < many {
-        let words = set[k];
-        let x = LineWords {
-            count: n,
-            at: words,
-        };
-        if !meets(x, mask, wants) {
-            return false;
-        }
-        k += 1;
-    }
-    true
+    set[..many]
+        .iter()
+        .all(|ray| meets(LineWords { count: n, at: *ray }, mask, wants))
 }
 
 // The first rays of one set in the place of those of another.
@@ -227,15 +187,10 @@ fn keep(set: &mut [[u64; 6]; PLACES], next: &[[u64; 6]; PLACES], many: usize)
     requires { (many ≤ places) × (length set.old ≡ places) }
     ensures { Kept next.now many set.new }
 {
-    let mut k: usize = 0;
-    while k < many {
-        let at = next[k];
-        set[k] = at;
-        k += 1;
-    }
+    set[..many].copy_from_slice(&next[..many]);
 }
 
-// One panel more for a whole set, if what comes of all its rays has room. Rays that all meet the panel are carried on as they are.
+// One panel more for a whole set, and how many rays it then has, if what comes of all its rays has room. Rays that all meet the panel are carried on as they are.
 pub fn add_panel(
     set: &mut [[u64; 6]; PLACES],
     next: &mut [[u64; 6]; PLACES],
@@ -244,28 +199,19 @@ pub fn add_panel(
     wants: [u64; 6],
     star: &[[u64; 6]; 6],
     n: usize,
-) -> Addition
+) -> Option<usize>
     requires { (0 < n) × (n ≤ size_limit) × (many ≤ places) × (length set.old ≡ places) × (length next.old ≡ places)
         × Rows n many set.old × Closely n n star_size star.now × CloselyV n need_down wants }
     ensures { (length next.new ≡ places) ×
-        Added set.old many mask wants star.now n set.new result.done result.many }
+        Added set.old many mask wants star.now n set.new result }
 {
     if all_meet(set, many, mask, wants, n) {
-        return Addition {
-            done: true,
-            many: many,
-        };
+        return Some(many);
     }
     let part = expand(next, set, 0, many, mask, wants, star, n);
     if part.to < many {
-        return Addition {
-            done: false,
-            many: many,
-        };
+        return None;
     }
     keep(set, next, part.found);
-    Addition {
-        done: true,
-        many: part.found,
-    }
+    Some(part.found)
 }
