@@ -10,7 +10,7 @@ use Rattle.sheet.specs.Sheet.{Sheet}
 use Rattle.sheet.specs.Cue.{used, cue_size, cue_of, Orderly, sheet_lines, sheet_caps}
 use Rattle.sheet.specs.Good.{Good}
 use Rattle.sheet.proofs.ListLaws.{lines_many}
-use Rattle.moments.specs.declared.Moments.{Moments}
+use Rattle.std.specs.Prelude.{Option}
 use Rattle.moments.specs.Moments.{MomentsOf}
 use Rattle.spares.specs.declared.Places.{Places}
 use Rattle.spares.specs.Using.{PlacesOf}
@@ -28,7 +28,7 @@ module _ (t : Sheet) {m : ℕ} (same : m ≡ cue_size t) (before : List ℤ) {ro
   found after r a = rw wide at (subst (λ n. Answers n (lines n (cue_of t)) room before after r) same a)
 
   -- what the sheet's list is made from
-  pub listing : {p : Places} {r : Moments} {k : ℕ} {between : List ℤ} → Good t → Orderly t → PlacesOf (used t) t.triggers p → MomentsOf t r →
+  pub listing : {p : Places} {r : Option (List ℕ)} {k : ℕ} {between : List ℤ} → Good t → Orderly t → PlacesOf (used t) t.triggers p → MomentsOf t r →
       Answers m (lines m (cue_of t)) room before between (Ok k) → Listing t before k between p r
   listing {k = k} {between} G o u v a =
       let (c, fits, w) = found between (Ok k) a in
