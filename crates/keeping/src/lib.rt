@@ -45,7 +45,13 @@ pub fn kept_table(bytes: &[u8]) -> Result<KeptTable, Refusal>
     let marks = marked.marks;
     let f = marks.levels;
     let masks = marks.kept;
-    let counts = walk::count(f, &masks, &gains, &needs, marks.triggers);
+    let levels = walk::Levels {
+        count: f,
+        kept: &masks,
+        gains: &gains,
+        needs: &needs,
+    };
+    let counts = walk::count(&levels, marks.triggers);
     let places = prepared.cue.places;
     let sets = marked.kept;
     let kept = laid_sets(sets, places);
