@@ -9,8 +9,11 @@ ghost use Rattle.trigger_sets.specs.Sets.{bit};
 ghost use Rattle.spares.specs.Using.{PlacesOf};
 ghost use Rattle.keeping.specs.Keeping.{keeping, kept_answer, six_counts};
 
-use refusals::{Refusal, of_number};
+use preparing::{Tables, prepare};
+use reading::read_sheet;
+use refusals::Refusal;
 use spares::{Places, laid_set};
+use walk::Levels;
 
 // Δ, for each panel the byte of its kept triggers and their number (0 and 0 without a floor and past the last panel), the walk's fixings and
 // its selections.
@@ -28,37 +31,24 @@ pub struct KeptTable {
 pub fn kept_table(bytes: &[u8]) -> Result<KeptTable, Refusal>
     ensures { result ≡ kept_answer (keeping bytes.now) }
 {
-    let blank = [0u64; 6];
-    let mut order = [blank; 6];
-    let mut lag = [blank; 6];
-    let mut star = [blank; 6];
-    let mut gains = [blank; 6];
-    let mut needs = [blank; 6];
-    let reading = reading::read_sheet(bytes);
-    let prepared = preparing::prepare(
-        reading, &mut order, &mut lag, &mut star, &mut gains, &mut needs,
-    );
-    if prepared.refusal != 0 {
-        return Err(of_number(prepared.refusal));
-    }
+    let sheet = read_sheet(bytes)?;
+    let mut tables = Tables::blank();
+    let prepared = prepare(&sheet, &mut tables)?;
     let marked = prepared.marked;
-    let marks = marked.marks;
-    let f = marks.levels;
-    let masks = marks.kept;
-    let levels = walk::Levels {
-        count: f,
+    let masks = marked.marks.kept;
+    let levels = Levels {
+        count: marked.marks.levels,
         kept: &masks,
-        gains: &gains,
-        needs: &needs,
+        gains: &tables.gains,
+        needs: &tables.needs,
     };
-    let counts = walk::count(&levels, marks.triggers);
-    let places = prepared.cue.places;
+    let counts = walk::count(&levels, marked.marks.triggers);
     let sets = marked.kept;
-    let kept = laid_sets(sets, places);
+    let kept = laid_sets(sets, prepared.cue.places);
     Ok(KeptTable {
         deviation: words::number(marked.least),
-        panels: marks.panels,
-        kept: kept,
+        panels: marked.marks.panels,
+        kept,
         counts: ones_of(kept),
         steps: counts.steps,
         selections: counts.selections,

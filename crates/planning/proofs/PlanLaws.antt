@@ -8,14 +8,13 @@ use borrow.Author.Tests.{leb-true, leb-false}
 use lib.Dec.{leb}
 use lib.IntN.{ℤ}
 use lib.ListN.{length}
-use Rattle.std.specs.Prelude.{Result, Ok}
+use Rattle.std.specs.Prelude.{Result, Ok, Err}
 use Rattle.maxplus.specs.Finite.{byte_of}
 use Rattle.sheet.specs.Sheet.{Got, got, Sheet, read, spare}
 use Rattle.sheet.specs.Sheet as spec
 use Rattle.sheet.specs.Cue.{Orderly, sheet_least, sheet_steps, sheet_selections, sheet_caps, sheet_lines}
 use Rattle.walk.specs.declared.Counts.{Counts}
 use Rattle.laying.specs.Laying.{Lists}
-use Rattle.lines.specs.declared.Listed.TheVariants.{Lines, NoRoom}
 use Rattle.sheet.specs.Ordered.{ordered}
 use Rattle.sheet.proofs.OrderedLaws.{ordered_refused, ordered_8, ordered_got}
 use Rattle.planning.specs.Planning.{PlanOutcome, planned, full, refused, plan_of, planning, space_after, plan_answer}
@@ -44,7 +43,7 @@ module _ (t : Sheet) (before after : List ℤ) where
   abbrev plan_at : PlanOutcome
   plan_at = cond (leb count room) whole (full wide count)
 
-  lines_at : (r : CuePlan) → r.count ≡ count → Lists t before after (Lines r.count) → Ok r ≡ plan_answer whole → Does plan_at before after (Ok r)
+  lines_at : (r : CuePlan) → r.count ≡ count → Lists t before after (Ok r.count) → Ok r ≡ plan_answer whole → Does plan_at before after (Ok r)
   unfolding space_after
   lines_at r c (e, fits, w) q = go (leb count room) (leb-false count room)
     where
@@ -52,7 +51,7 @@ module _ (t : Sheet) (before after : List ℤ) where
       go true f = record { answer = q; written = w }
       go false f = let q = f refl in let x : ⊥ = omega arith in absurd x
 
-  full_at : (k : ℕ) → Lists t before after (NoRoom k) → Does plan_at before after (plan_answer (full wide k))
+  full_at : (k : ℕ) → Lists t before after (Err (record { count = k })) → Does plan_at before after (plan_answer (full wide k))
   unfolding space_after
   full_at k (e, small, w) = go (leb count room) (leb-true count room)
     where
@@ -104,11 +103,11 @@ module _ (s : List ℕ) (space : List ℤ) where
     -- the numbers returned, by what was found of them
     pub does_lines : (n b : ℕ) (D : ℤ) (C : Counts) (w : ℕ) → n ≡ t.triggers → b ≡ byte_of t.triggers (spare t) → D ≡ sheet_least t →
         ◌≡◌ {A = Counts} C (record { steps = sheet_steps t; selections = sheet_selections t }) → w ≡ width (sheet_caps t) →
-        Lists t space after (Lines k) → Does (planning s space) space after
+        Lists t space after (Ok k) → Does (planning s space) space after
         (Ok (record { triggers = n; spares = b; deviation = D; steps = C.steps; selections = C.selections; width = w; count = k }))
     does_lines n b D C w h u d c v a = does_same (planning_of q) (lines_at t space after _ a.0 a (let e = a.0 in cc))
 
-    pub does_full : {w : ℕ} {r : Result CuePlan Unplanned} → r ≡ plan_answer (full w k) → w ≡ width (sheet_caps t) → Lists t space after (NoRoom k) →
+    pub does_full : {w : ℕ} {r : Result CuePlan Unplanned} → r ≡ plan_answer (full w k) → w ≡ width (sheet_caps t) → Lists t space after (Err (record { count = k })) →
         Does (planning s space) space after r
     does_full e v a = does_same (planning_of q)
         (subst (Does _ space after) (sym (e ∙ ap (λ w. plan_answer (full w k)) v)) (full_at t space after k a))

@@ -11,9 +11,10 @@ ghost use Rattle.planning.specs.Planning.{planning, space_after, plan_answer, un
 ghost use Rattle.planning.specs.declared.Unplanned.TheVariants.{Refused};
 
 use laying::{finish, width};
-use lines::Listed;
-use preparing::Prepared;
-use refusals::{Refusal, of_number};
+use lines::NoRoom;
+use preparing::{Prepared, Tables, prepare};
+use reading::read_sheet;
+use refusals::Refusal;
 
 // How many lines, and how many words each takes.
 #[derive(Clone, Copy, PartialEq, Eq, Debug)]
@@ -67,36 +68,23 @@ pub fn plan(bytes: &[u8], space: &mut [i32]) -> Result<CuePlan, Unplanned>
     ensures answer { result ≡ plan_answer (planning bytes.now space.old) }
     ensures written { space.new ≡ space_after (planning bytes.now space.old) space.old }
 {
-    let mut order = [[0u64; 6]; 6];
-    let mut lag = [[0u64; 6]; 6];
-    let mut star = [[0u64; 6]; 6];
-    let mut gains = [[0u64; 6]; 6];
-    let mut needs = [[0u64; 6]; 6];
-    let prepared = preparing::prepare(
-        reading::read_sheet(bytes),
-        &mut order,
-        &mut lag,
-        &mut star,
-        &mut gains,
-        &mut needs,
-    );
-    if prepared.refusal != 0 {
-        return Err(Unplanned::Refused(of_number(prepared.refusal)));
-    }
+    let sheet = read_sheet(bytes)?;
+    let mut tables = Tables::blank();
+    let prepared = prepare(&sheet, &mut tables)?;
     let marks = prepared.marked.marks;
     let masks = marks.kept;
-    let counts = tally::tally(marks.levels, &masks, &gains);
+    let counts = tally::tally(marks.levels, &masks, &tables.gains);
     let deviation = words::number(prepared.marked.least);
-    let words = width(prepared.moments.given);
-    match list_sheet(space, prepared, words, &star, &lag, &needs) {
-        Listed::NoRoom(count) => Err(Unplanned::NoRoom(Extent {
-            count: count,
+    let words = width(prepared.moments.is_some());
+    match list_sheet(space, prepared, words, &tables) {
+        Err(needed) => Err(Unplanned::NoRoom(Extent {
+            count: needed.count,
             width: words,
         })),
-        Listed::Lines(k) => Ok(CuePlan {
+        Ok(k) => Ok(CuePlan {
             triggers: prepared.cue.places.triggers,
             spares: prepared.cue.places.spares,
-            deviation: deviation,
+            deviation,
             steps: counts.steps,
             selections: counts.selections,
             width: words,
@@ -110,25 +98,14 @@ fn list_sheet(
     space: &mut [i32],
     prepared: Prepared,
     words: usize,
-    star: &[[u64; 6]; 6],
-    lag: &[[u64; 6]; 6],
-    needs: &[[u64; 6]; 6],
-) -> Listed
-    requires { (s : Sheet) × (orders : List (List ℕ)) × (gains : List (List ℕ)) ×
-        Made s orders lag.now star.now gains needs.now prepared × (words ≡ width (sheet_caps s)) }
-    ensures { (s : Sheet) (orders gains : List (List ℕ)) →
-        Made s orders lag.now star.now gains needs.now prepared → words ≡ width (sheet_caps s) →
-        Lists s space.old space.new result }
+    tables: &Tables,
+) -> Result<usize, NoRoom>
+    requires { (s : Sheet) × Made s tables.now prepared × (words ≡ width (sheet_caps s)) }
+    ensures { (s : Sheet) → Made s tables.now prepared → words ≡ width (sheet_caps s) → Lists s space.old space.new result }
 {
     let marks = prepared.marked.marks;
-    let places = prepared.cue.places;
-    let moments = prepared.moments;
     let room = space.len() / words;
-    match lines::list(space, room, marks, star, lag, needs) {
-        Listed::NoRoom(k) => Listed::NoRoom(k),
-        Listed::Lines(k) => {
-            finish(space, k, places, moments);
-            Listed::Lines(k)
-        }
-    }
+    let count = lines::list(space, room, marks, &tables.star, &tables.lag, &tables.needs)?;
+    finish(space, count, prepared.cue.places, prepared.moments);
+    Ok(count)
 }
