@@ -8,7 +8,7 @@ use borrow.Author.Tests.{leb-true, leb-false}
 use lib.Dec.{leb}
 use lib.IntN.{ℤ}
 use lib.ListN.{length}
-use Rattle.std.specs.Prelude.{Result, Ok}
+use Rattle.std.specs.Prelude.{Result, Ok, Err}
 use Rattle.planning.specs.declared.Unplanned.{Unplanned}
 use Rattle.cue.specs.Written.{width}
 use Rattle.sheet.specs.Sheet.{Got, got, Sheet}
@@ -24,7 +24,6 @@ use Rattle.maxplus.specs.Line.{Line}
 use Rattle.timing.specs.Times.{timing_of}
 use Rattle.timing.specs.declared.Timing as words
 use Rattle.laying.specs.Laying.{Lists}
-use Rattle.lines.specs.declared.Listed.TheVariants.{Lines, NoRoom}
 use Rattle.reaching.specs.Reaching.{ReachOutcome, reached, full, refused, reach_of, reaching, reached_space, reach_answer}
 use Rattle.reaching.specs.declared.Reached.{Reached}
 
@@ -80,7 +79,7 @@ module _ (s : List ℕ) (count : ℕ) (G : Timing) (space : List ℤ) where
     by_room b = cond b whole (full wide many)
 
     lines_at : (k v : ℕ) (T : words.Timing) → v ≡ wide → T ≡ timing_of t.triggers (latest_exists s count G t x e).0 →
-        Lists t space after (Lines k) →
+        Lists t space after (Ok k) →
         Does (by_room (leb many (room_for wide))) space after (Ok (record { width = v; count = k; timing = T }))
     unfolding reached_space
     lines_at k v T u q (c, fits, w) = go (leb many (room_for wide)) (leb-false many (room_for wide))
@@ -90,7 +89,7 @@ module _ (s : List ℕ) (count : ℕ) (G : Timing) (space : List ℤ) where
         go true f = record { answer = cc; written = w }
         go false f = let h = f refl in let y : ⊥ = omega arith in absurd y
 
-    full_at : (k : ℕ) → Lists t space after (NoRoom k) → Does (by_room (leb many (room_for wide))) space after (reach_answer (full wide k))
+    full_at : (k : ℕ) → Lists t space after (Err (record { count = k })) → Does (by_room (leb many (room_for wide))) space after (reach_answer (full wide k))
     unfolding reached_space
     full_at k (c, small, w) = go (leb many (room_for wide)) (leb-true many (room_for wide))
       where
@@ -99,10 +98,10 @@ module _ (s : List ℕ) (count : ℕ) (G : Timing) (space : List ℤ) where
         go false f = record { answer = ap (λ k. reach_answer (full wide k)) c; written = w }
 
     module _ (k : ℕ) {v : ℕ} (u : v ≡ wide) where
-      pub does_lines : (T : words.Timing) → T ≡ timing_of t.triggers (latest_on t G) → Lists t space after (Lines k) →
+      pub does_lines : (T : words.Timing) → T ≡ timing_of t.triggers (latest_on t G) → Lists t space after (Ok k) →
           Does (reaching s count G space) space after (Ok (record { width = v; count = k; timing = T }))
       unfolding latest_exists
       does_lines T q a = does_same (reaching_of e) (lines_at k v T u q a)
 
-      pub does_full : {r : Result Reached Unplanned} → r ≡ reach_answer (full v k) → Lists t space after (NoRoom k) → Does (reaching s count G space) space after r
+      pub does_full : {r : Result Reached Unplanned} → r ≡ reach_answer (full v k) → Lists t space after (Err (record { count = k })) → Does (reaching s count G space) space after r
       does_full q a = does_same (reaching_of e) (subst (Does _ space after) (sym (q ∙ ap (λ v. reach_answer (full v k)) u)) (full_at k a))

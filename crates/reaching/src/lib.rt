@@ -15,12 +15,11 @@ ghost use Rattle.spares.specs.Using.{PlacesOf};
 ghost use Rattle.reaching.specs.Reaching.{reaching, reached_space, reach_answer};
 
 use crate::weighed::latest;
-use admitting::times_in_use;
+use admitting::{admit, times_in_use};
 use laying::{finish, width};
-use lines::Listed;
-use moments::{Moments, lowered};
+use moments::lowered;
 use planning::{Extent, Unplanned};
-use refusals::of_number;
+use preparing::Tables;
 use spares::Places;
 use timing::Timing;
 use timing::times::words_of;
@@ -44,32 +43,21 @@ pub fn latest_timing(bytes: &[u8], wish: Timing, space: &mut [i32]) -> Result<Re
     ensures written { space.new ≡
         reached_space (reaching bytes.now wish.count (component wish.at) space.old) space.old }
 {
-    let blank = [0u64; 6];
-    let mut order = [blank; 6];
-    let mut lag = [blank; 6];
-    let mut star = [blank; 6];
-    let mut gains = [blank; 6];
-    let mut needs = [blank; 6];
-    let prepared = admitting::admit(
-        bytes, wish, &mut order, &mut lag, &mut star, &mut gains, &mut needs,
-    );
-    if prepared.refusal != 0 {
-        return Err(Unplanned::Refused(of_number(prepared.refusal)));
-    }
+    let mut tables = Tables::blank();
+    let prepared = admit(bytes, wish, &mut tables)?;
     let marks = prepared.marked.marks;
     let places = prepared.cue.places;
-    let moments = prepared.moments;
-    let within = early_enough(wish, places, moments);
-    let words = width(moments.given);
+    let within = early_enough(wish, places, prepared.moments);
+    let words = width(prepared.moments.is_some());
     let room = space.len() / words;
-    match lines::list(space, room, marks, &star, &lag, &needs) {
-        Listed::NoRoom(count) => Err(Unplanned::NoRoom(Extent {
-            count: count,
+    match lines::list(space, room, marks, &tables.star, &tables.lag, &tables.needs) {
+        Err(needed) => Err(Unplanned::NoRoom(Extent {
+            count: needed.count,
             width: words,
         })),
-        Listed::Lines(k) => {
+        Ok(k) => {
             let times = latest(space, k, within);
-            finish(space, k, places, moments);
+            finish(space, k, places, prepared.moments);
             Ok(Reached {
                 width: words,
                 count: k,
@@ -80,7 +68,7 @@ pub fn latest_timing(bytes: &[u8], wish: Timing, space: &mut [i32]) -> Result<Re
 }
 
 // The wish's times at the triggers in use, lowered until none lands too late.
-fn early_enough(wish: Timing, p: Places, moments: Moments) -> LineWords
+fn early_enough(wish: Timing, p: Places, moments: Option<[u64; 6]>) -> LineWords
     requires { (t : Sheet) × PlacesOf (used t) t.triggers p × MomentsOf t moments × Good t ×
         (some_beyond t.triggers (component wish.at) ≡ false) }
     ensures { (t : Sheet) → PlacesOf (used t) t.triggers p → MomentsOf t moments → Good t →
@@ -88,8 +76,10 @@ fn early_enough(wish: Timing, p: Places, moments: Moments) -> LineWords
         TimingWords (cue_size t) (at_used t (lowered t (component wish.at))) result }
 {
     let x = words_of(wish, p.triggers);
-    let overruns = moments.overruns;
-    times_in_use(lowered(x, overruns), p)
+    match moments {
+        Some(overruns) => times_in_use(lowered(x, overruns), p),
+        None => times_in_use(x, p),
+    }
 }
 
 // The times of the triggers in use, each at its own trigger, and the wish's at the spare ones: "No. 1 hands that number back."

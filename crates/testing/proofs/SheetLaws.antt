@@ -113,6 +113,7 @@ module _ {s : Sheet} (G : Good s) (X : Timing) {x : LineWords} (w : TimingWords 
 
   -- a sheet without last moments
   pub always_early : MomentsOf s None → InTime s X
+  unfolding ◌⊗◌
   always_early e = (in_time_early s X).1 (λ j h. go j s.last e)
     where
       go : (j : ℕ) (last : maybe.Option (ℕ → ℤ)) → given last ≡ false → overruns_by s last j ⊗ num (X j) ≼ unit

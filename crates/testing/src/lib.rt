@@ -3,7 +3,8 @@
 
 ghost use Rattle.std.specs.Prelude.{◌≡◌};
 ghost use Rattle.sheet.specs.Sheet.{Sheet};
-ghost use Rattle.sheet.specs.Meaning.{Timing, InTime};
+ghost use Rattle.sheet.specs.Meaning as meaning;
+ghost use Rattle.sheet.specs.Meaning.{InTime};
 ghost use Rattle.sheet.specs.Good.{Good};
 ghost use Rattle.tables.specs.Held.{Says};
 ghost use Rattle.timing.specs.Times.{component, TimingWords};
@@ -45,8 +46,8 @@ pub fn test_timing(bytes: &[u8], timing: Timing) -> Result<bool, Refusal>
 
 // Whether no trigger lands too late, where the sheet has last moments.
 fn early(x: LineWords, moments: Option<[u64; 6]>) -> bool
-    requires { (t : Sheet) × (X : Timing) × MomentsOf t moments × Good t × TimingWords t.triggers X x }
-    ensures { (t : Sheet) (X : Timing) → MomentsOf t moments → Good t → TimingWords t.triggers X x → Says (InTime t X) result }
+    requires { (t : Sheet) × (X : meaning.Timing) × MomentsOf t moments × Good t × TimingWords t.triggers X x }
+    ensures { (t : Sheet) (X : meaning.Timing) → MomentsOf t moments → Good t → TimingWords t.triggers X x → Says (InTime t X) result }
 {
     match moments {
         Some(overruns) => in_time(x, overruns),
