@@ -31,13 +31,19 @@ pub count-counts-requires : goal.count-counts-requires
 count-counts-requires c =
     let (t, y, e, W) = reading_good _ c.in_ok-sheet.ensures in
     let (s, x, q, Q) = c.in_ok-prepared.ensures _ t y e W in
-    ?
+    (Q.marked.some_levels, Q.marked.few_levels, Q.marked.follows.small)
 
 pub laid_sets-kept-requires : goal.laid_sets-kept-requires
 laid_sets-kept-requires c =
     let (t, y, e, W) = reading_good _ c.in_ok-sheet.ensures in
     let (s, x, q, Q) = c.in_ok-prepared.ensures _ t y e W in
     (_, _, Q.placed)
+
+pub number-requires : goal.number-requires
+number-requires c =
+    let (t, y, e, W) = reading_good _ c.in_ok-sheet.ensures in
+    let (s, x, q, Q) = c.in_ok-prepared.ensures _ t y e W in
+    Q.marked.word
 
 pub returns : goal.returns
 returns c =

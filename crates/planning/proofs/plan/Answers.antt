@@ -59,6 +59,18 @@ returns-in_err-prepared-clause-written c =
     let p = err_from_is_err_and c.from_residual-in_err-prepared.result c.from_residual-in_err-prepared.ensures.1 in
     (passed _ _ _ (c.in_err-prepared.ensures _ s x e W) p.1 p.2).written
 
+pub tally-counts-requires : goal.tally-counts-requires
+tally-counts-requires c =
+    let (t, y, e, W) = reading_good _ c.in_ok-sheet.ensures in
+    let (s, x, q, Q) = c.in_ok-prepared.ensures _ t y e W in
+    (Q.marked.few_levels, Q.marked.follows.small, Q.marked.masks_size)
+
+pub number-deviation-requires : goal.number-deviation-requires
+number-deviation-requires c =
+    let (t, y, e, W) = reading_good _ c.in_ok-sheet.ensures in
+    let (s, x, q, Q) = c.in_ok-prepared.ensures _ t y e W in
+    Q.marked.word
+
 pub list_sheet-requires : goal.list_sheet-requires
 list_sheet-requires c =
     let (t, y, e, W) = reading_good _ c.in_ok-sheet.ensures in

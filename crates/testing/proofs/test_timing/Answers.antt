@@ -1,17 +1,8 @@
 -- `testing::test_timing` meets its contract. Assumes nothing.
-use mathlib.Core.Path.{◌≡◌, subst}
-use mathlib.Core.Bool.{Bool, true, false}
-use mathlib.Core.List.{List}
-use Prim.Native.Nat.{ℕ}
-use Rattle.sheet.specs.Sheet as spec
-use Rattle.sheet.specs.Meaning.{Timing, TightestInTime}
-use Rattle.sheet.specs.Admitted.{admitted}
+use mathlib.Core.Bool.{false}
 use Rattle.sheet.proofs.AdmittedLaws.{admitted_as}
-use Rattle.tables.specs.Held.{Says}
 use Rattle.tables.proofs.Loops.{says_true, says_false}
 use Rattle.timing.specs.Times.{component}
-use Rattle.testing.specs.Testing as outcome
-use Rattle.testing.specs.Testing.{testing}
 use Rattle.std.proofs.lemmas.Result.{err_from_is_err_and}
 use Rattle.testing.proofs.SheetLaws.{tested_asks, answer_says}
 use Rattle.testing.proofs.TestLaws.{testing_refused, testing_says}
