@@ -16,3 +16,12 @@ pub struct Marks {
     pub asks: [u64; 6],
     pub kept: [u8; 6],
 }
+
+// What the lines of a sheet are drawn from: its marks, M*, the table of lags, and by level what is asked of each trigger.
+#[derive(Clone, Copy)]
+pub struct Sources<'a> {
+    pub marks: &'a Marks,
+    pub star: &'a [[u64; 6]; 6],
+    pub lag: &'a [[u64; 6]; 6],
+    pub needs: &'a [[u64; 6]; 6],
+}

@@ -17,7 +17,7 @@ ghost use Rattle.candidates.specs.Drawable.{Drawable, MarksNear};
 ghost use Rattle.cue.specs.Sizes.{size_limit};
 
 use crate::sums::{places, reached};
-use candidates::Marks;
+use candidates::Sources;
 use tables::largest::largest;
 use words::LineWords;
 
@@ -27,20 +27,22 @@ mod sums;
 const NEVER: u8 = 64;
 
 // Whether some trigger is in the closure of every trigger of the line.
-pub fn extreme(line: LineWords, marks: Marks, star: &[[u64; 6]; 6], lag: &[[u64; 6]; 6]) -> bool
-    requires { MarksNear line.count marks star.now lag.now × (line.count ≡ marks.triggers)
+pub fn extreme(line: LineWords, sources: Sources) -> bool
+    requires { MarksNear line.count sources.marks.now sources.star.now sources.lag.now × (line.count ≡ sources.marks.now.triggers)
         × CloselyV line.count shifted_size line.at }
-    ensures { (n : ℕ) (P : Cue) (needs : List (List ℕ)) → Drawable n P marks star.now lag.now needs →
+    ensures { (n : ℕ) (P : Cue) (needs : List (List ℕ)) →
+        Drawable n P sources.entry.marks.now sources.entry.star.now sources.entry.lag.now needs →
         Says (Common n P (least n P) (line_of n line.at)) result }
 {
-    let due = marks.due;
-    let asks = marks.asks;
+    let due = sources.marks.due;
+    let asks = sources.marks.asks;
+    let panels = sources.marks.panels;
     let late = lateness(line, due);
     let most = largest(late, line.count);
-    let held = held_sets(star, line);
+    let held = held_sets(sources.star, line);
     let front = joined(held, late, most, line.count);
-    let tight = tight_sets(lag, asks, line, most, marks.panels);
-    common(line, held, tight, front, marks.panels) != 0
+    let tight = tight_sets(sources.lag, asks, line, most, panels);
+    common(line, held, tight, front, panels) != 0
 }
 
 // c(j) − q(j)

@@ -1,6 +1,5 @@
 -- Laws of spreading over the levels: what comes of rays are rays of one level more, below each vector that keeps the order and meets the levels
 -- there is one, and so the lines of each trigger's rays generate the cone.
-use Rattle.std.specs.Prelude.{Some}
 use mathlib.Core.Path.{◌≡◌, refl, ap, ap₂, sym, subst, ◌∙◌}
 use mathlib.Core.Logic.{inl, inr}
 use mathlib.Core.Bool.{Bool, true, false}
@@ -211,7 +210,7 @@ module _ {M : Marks} {stars needs first : List (List ℕ)} where
 
   module _ {level many : ℕ} {s after : List (List ℕ)} where
     pub carried_more : {r : ℕ} → level < M.levels →
-        Added s many (get_or M.kept level 0) (get_or needs level []) stars M.triggers after (Some r) → CarriedTo M stars needs first s level many →
+        Added s many (get_or M.kept level 0) (get_or needs level []) stars M.triggers after r true → CarriedTo M stars needs first s level many →
         CarriedTo M stars needs first after (level + 1) r
     carried_more hl x v = record {
       so_far = omega arith;

@@ -1,5 +1,5 @@
 -- Sets of rays, each six words. Of the rays that come of a panel only the least matter.
-use Rattle.std.specs.Prelude.{◌≡◌, ◌⊎◌, List, Option, Some, None, ℕ, ◌+◌, ◌≤◌, ◌<◌, length, get_or}
+use Rattle.std.specs.Prelude.{◌≡◌, ◌⊎◌, List, Bool, true, false, ℕ, ◌+◌, ◌≤◌, ◌<◌, length, get_or}
 use Rattle.maxplus.specs.Entry.{E, ◌⊗◌, ◌⊕◌}
 use Rattle.maxplus.specs.Tables.{Vec, Mat}
 use Rattle.tables.specs.Held.{meant, meant_v, CloselyV}
@@ -110,7 +110,7 @@ pub record Kept (next : List (List ℕ)) (many : ℕ) (after : List (List ℕ)) 
   pub size : length after ≡ places
   pub rows : (k : ℕ) → k < many → row after k ≡ row next k
 
--- a panel was added, and there are r rays, or the set is as it was
-abbrev pub Added : List (List ℕ) → ℕ → ℕ → List ℕ → List (List ℕ) → ℕ → List (List ℕ) → Option ℕ → Type 0
-Added rays many mask wants stars n after (Some r) = Expanded rays 0 many mask wants stars n after r
-Added rays many mask wants stars n after None = after ≡ rays
+-- a panel was added, or the set is as it was
+abbrev pub Added : List (List ℕ) → ℕ → ℕ → List ℕ → List (List ℕ) → ℕ → List (List ℕ) → ℕ → Bool → Type 0
+Added rays many mask wants stars n after r true = Expanded rays 0 many mask wants stars n after r
+Added rays many mask wants stars n after r false = (after ≡ rays) × (r ≡ many)

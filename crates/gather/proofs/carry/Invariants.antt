@@ -6,4 +6,5 @@ use Rattle.gather.specs.Gathering.{CarriedTo}
 use Rattle.gather.proofs.carry.Given as goal
 
 abbrev pub invariant-loop-level : goal.invariant-loop-level
-invariant-loop-level l = (length l.next ≡ places) × CarriedTo l.marks l.star l.needs l.initial.set l.set l.level l.many
+invariant-loop-level l = (length l.next.rows ≡ places) ×
+    CarriedTo l.sources.marks.now l.sources.star.now l.sources.needs.now l.initial.set.rows l.set.rows l.level l.set.len

@@ -6,4 +6,5 @@ use Rattle.gather.specs.Gathering.{Turned}
 use Rattle.gather.proofs.gather.Given as goal
 
 abbrev pub invariant-loop-t : goal.invariant-loop-t
-invariant-loop-t l = (length l.set ≡ places) × (length l.next ≡ places) × Turned l.marks l.star l.lag l.needs l.last.at l.t l.len l.buf
+invariant-loop-t l = (length l.set.rows ≡ places) × (length l.next.rows ≡ places) ×
+    Turned l.sources.marks.now l.sources.star.now l.sources.lag.now l.sources.needs.now l.last.at l.t l.buffer.len l.buffer.rows

@@ -8,6 +8,7 @@ use Rattle.rays.proofs.all_meet.Goals as goal
 pub returns : goal.returns
 returns c =
     let a = c.args in
-    all_says (λ w. Meets a.n w a.mask a.wants) a.set.now a.many _ (omega arith)
-    (cases_from_all _ _ c.all.result (λ w. Meets a.n w a.mask a.wants) (λ w. ¬ (Meets a.n w a.mask a.wants)) c.all.ensures.ran
-    (YieldsList-from_slice (take a.many a.set.now) (search rules)) (λ x q k. search rules) (λ x q k. search rules))
+    all_says (λ w. Meets a.panel.count w a.panel.mask a.panel.wants.now) a.set.now.rows a.set.now.len _ (omega arith)
+    (cases_from_all _ _ c.all.result (λ w. Meets a.panel.count w a.panel.mask a.panel.wants.now)
+    (λ w. ¬ (Meets a.panel.count w a.panel.mask a.panel.wants.now)) c.all.ensures.ran
+    (YieldsList-from_slice (take a.set.now.len a.set.now.rows) (search rules)) (λ x q k. search rules) (λ x q k. search rules))

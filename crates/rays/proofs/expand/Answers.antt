@@ -7,7 +7,7 @@ pub loop-k-preserved : goal.loop-k-preserved
 loop-k-preserved c =
     let (f, e) = c.loop-k.invariant in (
       λ q. omega (arith, c.loop-k.auto.k),
-      expanded_more c.if-held-n-gt-PLACES.false c.loop-k.auto.k e c.branch-held.ensures,
+      expanded_more c.if-next-panel-gt-PLACES.false c.loop-k.auto.k e c.branch-next.ensures,
     )
 
 pub returns : goal.returns

@@ -5,4 +5,5 @@ use Rattle.rays.proofs.expand.Given as goal
 
 abbrev pub invariant-loop-k : goal.invariant-loop-k
 invariant-loop-k l =
-    (l.k ≡ l.from → l.held ≡ 0) × Expanded l.set l.from l.k l.mask l.wants l.star l.n l.next l.held
+    (l.k ≡ l.from → l.next.len ≡ 0) ×
+    Expanded l.set.rows l.from l.k l.panel.mask l.panel.wants.now l.panel.star.now l.panel.count l.next.rows l.next.len

@@ -3,4 +3,4 @@ use Rattle.rays.proofs.RayLaws.{MeetsNot}
 use Rattle.rays.proofs.meets.Given as goal
 
 abbrev pub invariant-loop-j : goal.invariant-loop-j
-invariant-loop-j l = MeetsNot l.x.at l.mask l.wants l.j
+invariant-loop-j l = MeetsNot l.x.at l.panel.mask l.panel.wants.now l.j

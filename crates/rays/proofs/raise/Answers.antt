@@ -12,6 +12,6 @@ unfolding meant_v
 loop-s-preserved c =
     let h = c.has.ensures in let i = c.loop-s.invariant in
     elim c.if-has.branch [
-      | then-has w ↦ rw (w.set-is, w.held-is) (raised_join i (has_yes h w.if-has.true) w.raised.ensures.words w.join-held.ensures)
-      | else-has w ↦ rw (w.set-is, w.held-is) (raised_skip i (has_no h w.if-has.false))
+      | then-has w ↦ rw w.set-is (raised_join i (has_yes h w.if-has.true) w.raised.ensures.words w.join.ensures)
+      | else-has w ↦ rw w.set-is (raised_skip i (has_no h w.if-has.false))
     ]

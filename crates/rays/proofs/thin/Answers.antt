@@ -7,7 +7,7 @@ use Rattle.rays.proofs.thin.Goals.{then-not-under, else-not-under}
 
 pub loop-k-preserved : goal.loop-k-preserved
 loop-k-preserved c = elim c.if-not-under.branch [
-  | then-not-under w ↦ rw (w.set-is, w.left-is) (thinning_keep c.loop-k.invariant (omega (arith, c.requires.0))
+  | then-not-under w ↦ rw (w.set-is, w.left-is) (thinning_keep c.loop-k.invariant (omega (arith, c.requires))
       (says_false c.under.result w.if-not-under.true c.under.ensures))
   | else-not-under w ↦ rw (w.set-is, w.left-is) (thinning_out c.loop-k.invariant
       (says_true c.under.result w.if-not-under.false c.under.ensures))

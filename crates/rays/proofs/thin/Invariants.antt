@@ -3,4 +3,4 @@ use Rattle.rays.proofs.RayLaws.{Thinning}
 use Rattle.rays.proofs.thin.Given as goal
 
 abbrev pub invariant-loop-k : goal.invariant-loop-k
-invariant-loop-k l = Thinning l.initial.set l.words l.set l.left l.k
+invariant-loop-k l = Thinning l.initial.set.rows l.words l.set.rows l.left l.k

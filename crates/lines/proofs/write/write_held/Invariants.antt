@@ -8,4 +8,4 @@ use Rattle.lines.proofs.write.write_held.Given as goal
 
 abbrev pub invariant-loop-k : goal.invariant-loop-k
 invariant-loop-k l =
-    (length l.out ≡ length l.initial.out) × (l.out ≡ laid l.initial.out l.at (list_words l.n (held l.n l.k l.buf)))
+    (length l.out ≡ length l.initial.out) × (l.out ≡ laid l.initial.out l.at (list_words l.n (held l.n l.k l.buffer.rows)))
