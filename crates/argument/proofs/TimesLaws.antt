@@ -30,7 +30,7 @@ use Rattle.items.proofs.ItemLaws.{stands}
 use Rattle.sheet.specs.Times.{far_limit, beyond}
 use Rattle.argument.specs.Times.{number, numbers, followed, far_beyond, clip}
 use Rattle.argument.specs.Inner.{six_of, put_at, times_of}
-use Rattle.argument.specs.declared.Components.{Components}
+use Rattle.timing.specs.declared.Timing.{Timing}
 
 -- no number is read yet
 pub six_none : pos 0 ∷ pos 0 ∷ pos 0 ∷ pos 0 ∷ pos 0 ∷ pos 0 ∷ [] ≡ six_of []
@@ -187,7 +187,7 @@ no_item s place e = rw e
 
 -- ---- reading on
 same_components : {i j : ℕ} {a b : List ℤ} → i ≡ j → a ≡ b →
-    ◌≡◌ {A = Option Components} (Some (record { count = i; at = a })) (Some (record { count = j; at = b }))
+    ◌≡◌ {A = Option Timing} (Some (record { count = i; at = a })) (Some (record { count = j; at = b }))
 same_components p q = cc
 
 bind_got : {A : Type 0} (g : Got A) → g ≡ (g >>= λ a s. got a s)
@@ -256,7 +256,7 @@ module _ {s : List ℕ} {at : List ℤ} {count place : ℕ} (r : ReadTo s at cou
           }
 
     pub times_last : next ≡ length s → {x : ℤ} → x ≡ clip z → {new : List ℤ} → new ≡ put_at at count x →
-        ◌≡◌ {A = Option Components} (Some (record { count = count + 1; at = new })) (times_of (numbers (suc (length s)) s))
+        ◌≡◌ {A = Option Timing} (Some (record { count = count + 1; at = new })) (times_of (numbers (suc (length s)) s))
     times_last e p f =
         let m = r.many in
         let l = length-append r.zs (z ∷ []) in

@@ -6,6 +6,7 @@ ghost use Rattle.argument.specs.Times.{numbers};
 ghost use Rattle.argument.specs.Inner.{times_of, put_at};
 
 use items::item_at;
+use timing::Timing;
 
 pub mod call;
 pub mod whole;
@@ -13,15 +14,8 @@ pub mod whole;
 // Components lie from -FAR_LIMIT to FAR_LIMIT; any number beyond is read as one past the end, which every operation on a timing refuses too.
 const FAR_LIMIT: u64 = 1_000_000_000;
 
-// How many numbers the argument has, and the first six.
-#[derive(Clone, Copy)]
-pub struct Components {
-    pub count: usize,
-    pub at: [i64; 6],
-}
-
-// Reads the argument, if it is a list of numerals: any bytes have one answer.
-pub fn times(s: &[u8]) -> Option<Components>
+// Reads the argument, if it is a list of numerals: how many there are, and the first six. Any bytes have one answer.
+pub fn times(s: &[u8]) -> Option<Timing>
     ensures { result ≡ times_of (numbers (suc (length s.now)) s.now) }
 {
     let mut at = [0i64; 6];
@@ -36,7 +30,7 @@ pub fn times(s: &[u8]) -> Option<Components>
         put(&mut at, count, words::number(item.word));
         count += 1;
         if item.next == s.len() {
-            return Some(Components { count, at });
+            return Some(Timing { count, at });
         }
         if s[item.next] != b',' {
             return None;

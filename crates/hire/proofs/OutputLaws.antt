@@ -1,6 +1,6 @@
 -- What is known of the outcome: a sheet, or 12, or 13. So the text of the answer in a program is the text of the outcome, and every refusal gets a
 -- sentence; with good sizes the program writes the sheet.
-use Rattle.std.proofs.Common.{◌≡◌, ℕ, ◌%◌, ◌^◌, ◌<◌, ◌≤◌, min, Bool, true, false, cond, ◌&&◌, leb, List, [], length, drop, sym, refl, ap, ◌∙◌, subst, ap₂, arith, length-append, take_at, le-leb}
+use Rattle.std.proofs.Common.{◌≡◌, ℕ, ◌%◌, ◌^◌, ◌<◌, ◌≤◌, min, Bool, true, false, cond, ◌&&◌, leb, List, [], Some, length, drop, sym, refl, ap, ◌∙◌, subst, ap₂, arith, length-append, take_at, le-leb}
 use native.Mathlib.Decide.{dec_le}
 use borrow.Author.Tests.{lt-leb}
 use Rattle.cue.specs.Sizes.{size_limit}
@@ -17,8 +17,9 @@ use Rattle.hiring.proofs.HireLaws.{size_there, no_panels, no_triggers}
 use Rattle.hiring.proofs.Loads.{room_enough}
 use Rattle.hire.specs.Call.{Wanted}
 use Rattle.hire.specs.Output.{hire_text, hire_complaint, program_hire}
-use Rattle.hire.specs.Inner.{held}
-use Rattle.hire.specs.declared.Call.{Call}
+use Rattle.hire.specs.Inner.{call, held}
+use Rattle.hire.specs.declared.asking.Call.{Call}
+use Rattle.hire.proofs.CallLaws.{some_same}
 
 -- ---- the outcome
 abbrev Known : HireOutcome → Type 0
@@ -108,10 +109,10 @@ abbrev Starts : Call → ℕ → Type 0
 Starts a x = (k : ℕ) → a.before ≡ k % 2 ^ 32 → a.panels ≤ size_limit → a.triggers ≤ size_limit →
     x ≡ chained a.panels a.triggers a.state k
 
-pub called : (w : Wanted) (x room : ℕ) (a : Call) → a ≡ held (got w []) → room ≡ 2048 → Starts a x →
+pub called : (w : Wanted) (x room : ℕ) (a : Call) → Some a ≡ held (got w []) → room ≡ 2048 → Starts a x →
     hiring a.panels a.triggers x room ≡ program_hire w
 called w x room a e r later =
-    subst (λ (a : Call). Starts a x → hiring a.panels a.triggers x room ≡ program_hire w) (sym e)
+    subst (λ (a : Call). Starts a x → hiring a.panels a.triggers x room ≡ program_hire w) (sym (some_same a (call w) e))
     (λ later. ap (hiring (min w.panels word_limit) (min w.triggers word_limit) x) r ∙ program_hired w x later) later
 
 -- ---- "a generator writes one sheet": with sizes 1 to 6 the program's space is enough

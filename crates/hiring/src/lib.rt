@@ -17,7 +17,7 @@ ghost use Rattle.hiring.specs.Inner.{kind_of, RowDrawn, RowsDrawn};
 
 use refusals::Refusal;
 use table_text::put_rows;
-use writing::{natural_field, put_bytes};
+use writing::{put_bytes, put_field};
 
 pub mod chain;
 
@@ -94,8 +94,8 @@ fn put_sizes(text: &mut [u8], panels: usize, triggers: usize) -> usize
         (field (bytes "panels=") (natural panels) ++ field (bytes "triggers=") (natural triggers)) }
     ensures short { result ≤ 58 }
 {
-    let end = natural_field(text, 0, b"panels=", panels as u64);
-    natural_field(text, end, b"triggers=", triggers as u64)
+    let end = put_field(text, 0, b"panels=", panels as u64);
+    put_field(text, end, b"triggers=", triggers as u64)
 }
 
 // The sheet, kind of line by kind of line: the sizes take at most 58 bytes, each other line at most 60.

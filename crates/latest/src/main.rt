@@ -61,33 +61,18 @@ fn reach_input(wish: Timing) {
     let mut out = [0u8; 200];
     let mut errors = [0u8; 400];
     let ends = answers(&sheet[..length], wish, &mut space, &mut out, &mut errors);
-    let text = ends.text;
-    io::write_all(1, &out[..text]);
-    let complaint = ends.complaint;
-    if complaint != 0 {
-        io::write_all(2, &errors[..complaint]);
-    }
+    ends.write(&out, &errors);
 }
 
-// The space is longer than any argument that the system hands over. A program has no exit status of its own to choose, so a wrong call shows in
-// standard output being empty.
+// A program has no exit status of its own to choose, so a wrong call shows in standard output being empty.
 fn main(rt: HostRuntime) {
-    if argument::call::count(&rt, 2) == 1 {
-        let mut argument = [0u8; 131072];
-        let length = argument::call::copied(&rt, 1, &mut argument);
-        let read = argument::times(&argument[..length]);
-        if read.numerals {
-            let at = read.at;
-            let wish = Timing {
-                count: read.count,
-                at: at,
-            };
-            reach_input(wish);
-            return;
+    match argument::call::times(&rt) {
+        Some(wish) => reach_input(wish),
+        None => {
+            io::write_all(
+                2,
+                b"usage: latest TIMES < SHEET, where TIMES are whole numbers of milliseconds split by commas, such as 0,1\n",
+            );
         }
     }
-    io::write_all(
-        2,
-        b"usage: latest TIMES < SHEET, where TIMES are whole numbers of milliseconds split by commas, such as 0,1\n",
-    );
 }

@@ -83,10 +83,5 @@ fn main() {
     let mut out = [0u8; 200200];
     let mut errors = [0u8; 400];
     let ends = answer(&sheet[..length], &mut space, &mut out, &mut errors);
-    let text = ends.text;
-    io::write_all(1, &out[..text]);
-    let complaint = ends.complaint;
-    if complaint != 0 {
-        io::write_all(2, &errors[..complaint]);
-    }
+    ends.write(&out, &errors);
 }

@@ -24,6 +24,18 @@ pub struct Ends {
     pub complaint: usize,
 }
 
+impl Ends {
+    // Writes the two texts, the first on standard output, the second, if there is one, on standard error.
+    pub fn write(self, out: &[u8], errors: &[u8])
+        requires { (self.text ≤ length out.now) × (self.complaint ≤ length errors.now) }
+    {
+        io::write_all(1, &out[..self.text]);
+        if self.complaint != 0 {
+            io::write_all(2, &errors[..self.complaint]);
+        }
+    }
+}
+
 // The text of a plan whose lines stand in `words`, `wide` words each, with its spare triggers as bits. The four fields take at most 117 bytes, a
 // line 78, a cap 16.
 pub fn plan_text(

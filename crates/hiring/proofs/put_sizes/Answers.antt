@@ -6,6 +6,6 @@ use Rattle.hiring.proofs.put_sizes.Goals as goal
 pub returns-clause-puts : goal.returns-clause-puts
 unfolding bytes
 returns-clause-puts c =
-    let p = c.natural_field-end.ensures in
-    let t = c.natural_field.ensures in
+    let p = c.put_field-end.ensures in
+    let t = c.put_field.ensures in
     then p.puts t.puts
