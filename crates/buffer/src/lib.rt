@@ -30,7 +30,7 @@ impl Buffer {
         self.rows[..self.len].partition_point(|there| below(LineWords { count, at: *there }, line))
     }
 
-    // At its place the line is not there yet, nor past the end of a full self.
+    // At its place the line is not there yet, nor past the end of a full buffer.
     pub fn fresh(&self, at: usize, line: LineWords) -> bool
         requires { (at ≤ self.now.len) × (self.now.len ≤ room) }
         ensures { Says (Fresh self.now.rows self.now.len at line.at) result }
@@ -49,7 +49,7 @@ impl Buffer {
         below(line, there)
     }
 
-    // The line at a place, those from there on one place further: the last one falls out of a full self.
+    // The line at a place, those from there on one place further: the last one falls out of a full buffer.
     pub fn insert(&mut self, at: usize, line: LineWords)
         requires { (at ≤ self.old.len) × (at < room) × (self.old.len ≤ room) }
         ensures { Inserted self.old.rows self.old.len at line.at self.new.rows self.new.len }

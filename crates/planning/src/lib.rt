@@ -10,6 +10,7 @@ ghost use Rattle.sheet.specs.Cue.{sheet_caps};
 ghost use Rattle.planning.specs.Planning.{planning, space_after, plan_answer, unplanned_number};
 ghost use Rattle.planning.specs.declared.Unplanned.TheVariants.{Refused};
 
+use candidates::Sources;
 use laying::{finish, width};
 use lines::NoRoom;
 use preparing::{Prepared, Tables, prepare};
@@ -105,7 +106,13 @@ fn list_sheet(
 {
     let marks = prepared.marked.marks;
     let room = space.len() / words;
-    let count = lines::list(space, room, marks, &tables.star, &tables.lag, &tables.needs)?;
+    let sources = Sources {
+        marks: &marks,
+        star: &tables.star,
+        lag: &tables.lag,
+        needs: &tables.needs,
+    };
+    let count = lines::list(space, room, sources)?;
     finish(space, count, prepared.cue.places, prepared.moments);
     Ok(count)
 }

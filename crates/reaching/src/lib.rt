@@ -16,6 +16,7 @@ ghost use Rattle.reaching.specs.Reaching.{reaching, reached_space, reach_answer}
 
 use crate::weighed::latest;
 use admitting::{admit, times_in_use};
+use candidates::Sources;
 use laying::{finish, width};
 use moments::lowered;
 use planning::{Extent, Unplanned};
@@ -50,7 +51,13 @@ pub fn latest_timing(bytes: &[u8], wish: Timing, space: &mut [i32]) -> Result<Re
     let within = early_enough(wish, places, prepared.moments);
     let words = width(prepared.moments.is_some());
     let room = space.len() / words;
-    match lines::list(space, room, marks, &tables.star, &tables.lag, &tables.needs) {
+    let sources = Sources {
+        marks: &marks,
+        star: &tables.star,
+        lag: &tables.lag,
+        needs: &tables.needs,
+    };
+    match lines::list(space, room, sources) {
         Err(needed) => Err(Unplanned::NoRoom(Extent {
             count: needed.count,
             width: words,
