@@ -44,6 +44,7 @@ pub fn overdue(due: [u64; 6], x: [u64; 6], n: usize) -> u64
 }
 
 // "the largest p(i) − y(i) over panels with a floor": without one the difference is absent, and adds nothing to a largest.
+// A loop of its own: how close a landing is follows from its value, and as a closure's contract it would take more lines than the loop.
 pub fn shortfall(table: &[[u64; 6]; 6], floor: [u64; 6], x: [u64; 6], m: usize, n: usize) -> u64
     requires { (m ≤ size_limit) × (n ≤ size_limit) × Closely m n third table.now × CloselyV m third floor × CloselyV n third x }
     ensures { entry result ≡ shortfall m n (meant table.now) (meant_v floor) (meant_v x) }

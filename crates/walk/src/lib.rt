@@ -69,6 +69,7 @@ pub struct Counts {
 
 // Trying the triggers of the panel below those fixed: the next one is fixed; where none is left, the panel above goes on, and what it had asked
 // is put back.
+// A remainder by 64 fits a byte and a place a word, so `as` loses nothing, where TryFrom would add an error.
 // Says whether there is a selection. The state is lent, and no struct or enum comes back: it would be copied at each call.
 #[cycle(descending_trying)]
 fn trying(walk: &mut Walk, levels: &Levels) -> bool
