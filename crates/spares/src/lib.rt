@@ -33,7 +33,7 @@ fn in_use(order: &[[u64; 6]; 6], lag: &[[u64; 6]; 6], j: usize, m: usize, n: usi
         || words::present(largest(column(order, j), n))
 }
 
-// The places of the triggers in use, for n triggers and m panels.
+// The places of the triggers in use, for n triggers and m panels. A place is below six, so `as` loses nothing, where TryFrom would add an error.
 pub fn places_of(order: &[[u64; 6]; 6], lag: &[[u64; 6]; 6], m: usize, n: usize) -> Places
     requires { (m ≤ size_limit) × (n ≤ size_limit) }
     ensures { (s : ℕ → Bool) → ((j : ℕ) → T (s j) → j < n) →
@@ -79,8 +79,7 @@ fn picked_columns(table: &[[u64; 6]; 6], rows: usize, p: Places) -> [[u64; 6]; 6
     requires { (rows ≤ size_limit) × Pickable p }
     ensures { (i : ℕ) → i < rows → Picked p (get_or table.now i []) (get_or result i []) }
 {
-    let blank = [0u64; 6];
-    let mut r = [blank; 6];
+    let mut r = [[0u64; 6]; 6];
     for i in 0..rows {
         r[i] = picked(table[i], p);
     }
@@ -92,8 +91,7 @@ fn picked_rows(table: &[[u64; 6]; 6], p: Places) -> [[u64; 6]; 6]
     requires { Pickable p }
     ensures { (k : ℕ) → k < p.count → get_or result k [] ≡ get_or table.now (get_or p.at k 0) [] }
 {
-    let blank = [0u64; 6];
-    let mut r = [blank; 6];
+    let mut r = [[0u64; 6]; 6];
     for k in 0..p.count {
         r[k] = table[usize::from(p.at[k])];
     }

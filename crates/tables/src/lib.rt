@@ -15,8 +15,7 @@ pub mod largest;
 pub fn identity() -> [[u64; 6]; 6]
     ensures { Holds 6 6 idm result }
 {
-    let blank = [0u64; 6];
-    let mut r = [blank; 6];
+    let mut r = [[0u64; 6]; 6];
     for i in 0..6 {
         for j in 0..6 {
             r[i][j] = unit_at(i, j);
@@ -36,8 +35,7 @@ pub fn joined(a: &[[u64; 6]; 6], b: &[[u64; 6]; 6], n: usize) -> [[u64; 6]; 6]
     requires { n ≤ size_limit }
     ensures { Square result × Holds n n (λ i j. meant a.now i j ⊕ meant b.now i j) result }
 {
-    let blank = [0u64; 6];
-    let mut r = [blank; 6];
+    let mut r = [[0u64; 6]; 6];
     for i in 0..n {
         for j in 0..n {
             r[i][j] = words::larger(a[i][j], b[i][j]);
@@ -51,8 +49,7 @@ pub fn product(a: &[[u64; 6]; 6], b: &[[u64; 6]; 6], m: usize, k: usize, n: usiz
     requires { (m ≤ size_limit) × (k ≤ size_limit) × (n ≤ size_limit) × Closely m k far a.now × Closely k n far b.now }
     ensures { Holds m n (mm k (meant a.now) (meant b.now)) result }
 {
-    let blank = [0u64; 6];
-    let mut r = [blank; 6];
+    let mut r = [[0u64; 6]; 6];
     for i in 0..m {
         r[i] = row_product(a[i], b, k, n);
     }

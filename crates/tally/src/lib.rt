@@ -20,7 +20,7 @@ pub struct Seen {
     pub counts: Counts,
 }
 
-// The triggers left to the i-th level from the first one that the word speaks of.
+// The triggers left to the i-th level from the first one that the word speaks of: six bits, so `as` loses nothing, where TryFrom would add an error.
 fn left_at(left: u64, i: usize) -> u8
     requires { i < 6 }
     ensures { result ≡ digit left i }

@@ -14,7 +14,7 @@ pub fn has(set: u8, j: usize) -> bool
     (set >> j) % 2 == 1
 }
 
-// The lowest trigger of a set that is not empty.
+// The lowest trigger of a set that is not empty. A count of eight bits fits a byte, so `as` loses nothing, where TryFrom would add an error.
 pub fn low(set: u8) -> u8
     requires { (0 < set) × (set < 64) }
     ensures { result ≡ count.count_trailing_zeros 8 set }

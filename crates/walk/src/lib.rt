@@ -69,7 +69,9 @@ pub struct Counts {
 
 // Trying the triggers of the panel below those fixed: the next one is fixed; where none is left, the panel above goes on, and what it had asked
 // is put back.
+// A remainder by 64 fits a byte and a place a word, so `as` loses nothing, where TryFrom would add an error.
 // Says whether there is a selection. The state is lent, and no struct or enum comes back: it would be copied at each call.
+// So are the levels: handed over by value each call has a copy of its own, the calls do not become a loop, and a walk takes five times as long.
 #[cycle(descending_trying)]
 fn trying(walk: &mut Walk, levels: &Levels) -> bool
     requires { TryReady levels.now.kept.now levels.now.gains.now levels.now.count walk.old.place }

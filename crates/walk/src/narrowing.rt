@@ -14,7 +14,7 @@ pub fn cut_by(j: usize, serves: bool, m: u8) -> u8
     if has(m, j) && serves { 1 << j } else { m }
 }
 
-// The pick of level i, one of k.
+// The pick of level i, one of k: below eight, so `as` loses nothing, where TryFrom would add an error.
 fn pick(picks: u64, k: usize, i: usize) -> usize
     requires { (i < k) × (k ≤ size_limit) × Triggers k picks }
     ensures is { result ≡ get_or (picked k picks) i 0 }

@@ -104,7 +104,7 @@ pub fn minus(a: u64, b: u64) -> u64
     BIAS + a - b
 }
 
-// The number that a word stands for.
+// The number that a word stands for. Both words are below 2^63, so `as` loses nothing, where TryFrom would add an error.
 pub fn number(a: u64) -> i64
     requires { (0 < a) × Near a }
     ensures { entry a ≡ num result }
