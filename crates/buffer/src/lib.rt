@@ -11,68 +11,52 @@ use words::LineWords;
 // How many lines the buffer has room for: more than there are on nearly every sheet.
 pub const ROOM: usize = 80;
 
-// The place of a line: the first whose line does not stand before it.
-pub fn place(buf: &[[u64; 6]; ROOM], len: usize, line: LineWords) -> usize
-    requires { (len ≤ room) × Ordered len buf.now }
-    ensures { Placed buf.now len line.at result }
-{
-    let mut low: usize = 0;
-    let mut high = len;
-    while low < high {
-        let mid = low + (high - low) / 2;
-        let at = buf[mid];
-        let middle = LineWords {
-            count: line.count,
-            at,
-        };
-        if below(middle, line) {
-            low = mid + 1;
-        } else {
-            high = mid;
+// Lines or rays, each by its six words: the first len rows hold them.
+#[derive(Clone, Copy)]
+pub struct Store<const N: usize> {
+    pub rows: [[u64; 6]; N],
+    pub len: usize,
+}
+
+pub type Buffer = Store<ROOM>;
+
+impl Buffer {
+    // The place of a line: the first whose line does not stand before it.
+    pub fn place(&self, line: LineWords) -> usize
+        requires { (self.now.len ≤ room) × Ordered self.now.len self.now.rows }
+        ensures { Placed self.now.rows self.now.len line.at result }
+    {
+        let count = line.count;
+        self.rows[..self.len].partition_point(|there| below(LineWords { count, at: *there }, line))
+    }
+
+    // At its place the line is not there yet, nor past the end of a full buffer.
+    pub fn fresh(&self, at: usize, line: LineWords) -> bool
+        requires { (at ≤ self.now.len) × (self.now.len ≤ room) }
+        ensures { Says (Fresh self.now.rows self.now.len at line.at) result }
+    {
+        if at == ROOM {
+            return false;
         }
+        if at == self.len {
+            return true;
+        }
+        let words = self.rows[at];
+        let there = LineWords {
+            count: line.count,
+            at: words,
+        };
+        below(line, there)
     }
-    low
-}
 
-// At its place the line is not there yet, nor past the end of a full buffer.
-pub fn fresh(buf: &[[u64; 6]; ROOM], len: usize, at: usize, line: LineWords) -> bool
-    requires { (at ≤ len) × (len ≤ room) }
-    ensures { Says (Fresh buf.now len at line.at) result }
-{
-    if at == ROOM {
-        return false;
+    // The line at a place, those from there on one place further: the last one falls out of a full buffer.
+    pub fn insert(&mut self, at: usize, line: LineWords)
+        requires { (at ≤ self.old.len) × (at < room) × (self.old.len ≤ room) }
+        ensures { Inserted self.old.rows self.old.len at line.at self.new.rows self.new.len }
+    {
+        self.len = (self.len + 1).min(ROOM);
+        self.rows.copy_within(at..self.len - 1, at + 1);
+        let words = line.at;
+        self.rows[at] = words;
     }
-    if at == len {
-        return true;
-    }
-    let words = buf[at];
-    let there = LineWords {
-        count: line.count,
-        at: words,
-    };
-    below(line, there)
-}
-
-// How many lines there are when one more has come: the last one falls out of a full buffer.
-fn grown(len: usize) -> usize
-    requires { len ≤ room }
-    ensures { result ≡ min room (len + 1) }
-{
-    if len < ROOM { len + 1 } else { len }
-}
-
-// The line at a place, those from there on one place further.
-pub fn insert(buf: &mut [[u64; 6]; ROOM], len: usize, at: usize, line: LineWords) -> usize
-    requires { (at ≤ len) × (at < room) × (len ≤ room) × (length buf.old ≡ room) }
-    ensures { Inserted buf.old len at line.at buf.new result }
-{
-    let more = grown(len);
-    let mut k = more - 1;
-    while at < k {
-        buf[k] = buf[k - 1];
-        k -= 1;
-    }
-    let words = line.at;
-    buf[at] = words;
-    more
 }

@@ -1,10 +1,9 @@
 -- What the inner functions of comparing promise. Nothing public is stated here.
-use Rattle.std.specs.Prelude.{◌≡◌}
+use Rattle.std.specs.Prelude.{Option, Some, None, Result, Ok, Err}
 use Rattle.planning.specs.declared.CuePlan.{CuePlan}
-use Rattle.comparing.specs.Comparing.{extent_of}
-use Rattle.comparing.specs.declared.Refusal.{Refusal}
+use Rattle.planning.specs.declared.Unplanned.{Unplanned}
 
--- the refusal's number and what a planning's answer says of lines
-pub record Refuses (r : Refusal) (p : CuePlan) : Type 0 where
-  pub number : r.number ≡ p.refusal
-  pub needed : r.needed ≡ extent_of p
+-- why there is no plan, where there is none
+abbrev pub unplanned_in : Result CuePlan Unplanned → Option Unplanned
+unplanned_in (Ok p) = None
+unplanned_in (Err e) = Some e

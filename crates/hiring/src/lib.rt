@@ -10,11 +10,12 @@ ghost use Rattle.writing.specs.Numerals.{natural};
 ghost use Rattle.writing.specs.Texts.{field};
 ghost use Rattle.writing.specs.Writing.{Puts};
 ghost use Rattle.sheet_text.specs.SheetText.{rows_text, sheet_text};
-ghost use Rattle.hiring.specs.Hiring as hiring;
 ghost use Rattle.hiring.specs.Hiring.{next, drawn, drawn_item, absence, drawn_items, by_sevens, first_there, all_there, sheet_from};
+ghost use Rattle.hiring.specs.Hiring.{drawn_number, size?};
 ghost use Rattle.hiring.specs.Hiring.{draws, hiring, bytes_after, hire_answer};
 ghost use Rattle.hiring.specs.Inner.{kind_of, RowDrawn, RowsDrawn};
 
+use refusals::Refusal;
 use table_text::put_rows;
 use writing::{Writer, put_bytes};
 
@@ -29,10 +30,9 @@ pub const MOST: usize = 6;
 // No sheet of a load has more bytes.
 const LONGEST: usize = 1024;
 
-// 12 or 13 and nothing else; or 0, how many bytes were written, and the next state.
-#[derive(Clone, Copy)]
+// How many bytes were written, and the next state.
+#[derive(Clone, Copy, PartialEq, Eq, Debug)]
 pub struct Hired {
-    pub refusal: u8,
     pub length: usize,
     pub state: u32,
 }
@@ -60,46 +60,31 @@ struct Put {
     end: usize,
 }
 
-// Writes one sheet at the front of the lent bytes. It is made apart first, since whether it fits is known at its end alone.
-pub fn hire(panels: usize, triggers: usize, state: u32, out: &mut [u8]) -> Hired
+// Writes one sheet at the front of the lent bytes; or 12 or 13. It is made apart first, since whether it fits is known at its end alone.
+pub fn hire(panels: usize, triggers: usize, state: u32, out: &mut [u8]) -> Result<Hired, Refusal>
     ensures returned { result ≡ hire_answer (hiring panels triggers state (length out.old)) }
     ensures written { out.new ≡ bytes_after (hiring panels triggers state (length out.old)) out.old }
 {
-    if !is_size(panels) {
-        return refused(12);
-    }
-    if !is_size(triggers) {
-        return refused(12);
+    if !is_size(panels) || !is_size(triggers) {
+        return Err(Refusal::NoLoadSize);
     }
     let mut text = [0u8; LONGEST];
     let sheet = put_sheet(&mut text, panels, triggers, state);
     let length = sheet.end;
     if out.len() < length {
-        return refused(13);
+        return Err(Refusal::SpaceTooShort);
     }
     put_bytes(out, 0, &text[..length]);
-    Hired {
-        refusal: 0,
+    Ok(Hired {
         length: length,
         state: sheet.state,
-    }
-}
-
-// The answer of a refusal: its number and nothing else.
-fn refused(refusal: u8) -> Hired
-    ensures { result ≡ hire_answer (hiring.refused refusal) }
-{
-    Hired {
-        refusal: refusal,
-        length: 0,
-        state: 0,
-    }
+    })
 }
 
 fn is_size(k: usize) -> bool
-    ensures { result ≡ hiring.size? k }
+    ensures { result ≡ size? k }
 {
-    if k < 1 { false } else { k <= MOST }
+    1 <= k && k <= MOST
 }
 
 // The lines of the sizes.
@@ -196,13 +181,11 @@ fn draw_rows(kind: Lines, lines: usize, count: usize, state: u32, rows: &mut [[u
     ensures { RowsDrawn (kind_of kind) count state rows.new result lines }
 {
     let mut now = state;
-    let mut i: usize = 0;
-    while i < lines {
+    for i in 0..lines {
         let drawn = draw_row(kind, i, count, now);
         let row = drawn.at;
         rows[i] = row;
         now = drawn.state;
-        i += 1;
     }
     now
 }
@@ -214,11 +197,9 @@ fn draw_row(kind: Lines, i: usize, count: usize, state: u32) -> DrawnRow
 {
     let mut at = [0u64; 6];
     let mut now = state;
-    let mut j: usize = 0;
-    while j < count {
+    for j in 0..count {
         now = draw(now);
         at[j] = item(kind, i, j, now >> 16);
-        j += 1;
     }
     DrawnRow { state: now, at: at }
 }
@@ -227,7 +208,7 @@ fn draw_row(kind: Lines, i: usize, count: usize, state: u32) -> DrawnRow
 fn draw(state: u32) -> u32
     ensures { result ≡ next state }
 {
-    std::num::wrapping_add_u32(state, STRIDE)
+    state.wrapping_add(STRIDE)
 }
 
 // The j-th item of the i-th line, made of a draw.
@@ -250,9 +231,9 @@ fn by_sevens(u: u32) -> u64
 
 // The number of a draw, by its sign: a word is made of an unsigned number.
 fn number(u: u32) -> u64
-    ensures { result ≡ word (num (hiring.drawn_number u)) }
+    ensures { result ≡ word (num (drawn_number u)) }
 {
-    let rest = (u % 2001) as u64;
+    let rest = u64::from(u % 2001);
     if rest < 1000 {
         return words::negative(1000 - rest);
     }

@@ -7,7 +7,7 @@ use Rattle.maxplus.specs.Finite.{sum, byte_of}
 use Rattle.maxplus.specs.Packing.{rank, filled}
 use Rattle.maxplus.proofs.PackingLaws.{rank_few, filled_rank, filled_other}
 use Rattle.trigger_sets.specs.Sets.{bit}
-use Rattle.trigger_sets.proofs.ByteLaws.{byte_ext, byte_low, bit_at, byte_none, byte_set, byte_clear, bit_low, shifted, bit_here}
+use Rattle.trigger_sets.proofs.ByteLaws.{byte_ext, bit_at, byte_none, byte_set, byte_clear, shifted, bit_here}
 use Rattle.spares.specs.declared.Places.{Places}
 use Rattle.spares.specs.Using.{PlacesOf}
 use Rattle.spares.proofs.AgreeLaws.{passes, fails, rank_yes, rank_no, filled_same}
@@ -28,11 +28,6 @@ module _ (u : ℕ → Bool) (set : ℕ) where
   module _ {byte k j : ℕ} (f : Laying byte k j) where
     pub laying_few : k ≤ j
     laying_few = let a = rank_few u j in let b = f.rank_is in omega arith
-
-    pub laying_low : j < 6 → (shifted j ≤ 32) × (byte < shifted j)
-    laying_low h =
-        let b = bit_here j h in
-        (bit_low j (shifted j) b h, let e = f.byte_is in let l = byte_low j laid in omega arith)
 
     laid_is : u j ≡ true → laid j ≡ bit set k
     laid_is e = filled_rank u _ (bit set) j (passes e) ∙ ap (bit set) (sym f.rank_is)

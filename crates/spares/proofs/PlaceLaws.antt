@@ -15,7 +15,7 @@ use Rattle.maxplus.proofs.PackingLaws.{rank_few, rank_all, placed, place_rank}
 use Rattle.cue.specs.Sizes.{size_limit}
 use Rattle.trigger_sets.specs.Sets.{bit}
 use Rattle.trigger_sets.proofs.BitLaws.{bit_none}
-use Rattle.trigger_sets.proofs.ByteLaws.{byte_ext, byte_low, byte_bit, bit_at, byte_none, byte_set, byte_clear, bit_low, shifted, bit_here}
+use Rattle.trigger_sets.proofs.ByteLaws.{byte_ext, byte_bit, bit_at, byte_none, byte_set, byte_clear, shifted, bit_here}
 use Rattle.spares.specs.declared.Places.{Places}
 use Rattle.spares.specs.Using.{PlacesOf, Pickable}
 use Rattle.spares.proofs.AgreeLaws.{rank_same, place_same, rank_yes, rank_no, place_before, place_here}
@@ -78,17 +78,9 @@ module _ (t : ℕ → Bool) where
   }
 
   module _ {at : List ℕ} {count used spares j : ℕ} (f : Found at count used spares j) where
-    -- the next place is one of the array, and the sums stay in a byte
+    -- the next place is one of the array
     pub found_few : count ≤ j
     found_few = let a = rank_few t j in let b = f.count_is in omega arith
-
-    pub found_low : j < 6 → (shifted j ≤ 32) × (used < shifted j) × (spares < shifted j)
-    found_low h =
-        let b = bit_here j h in (
-          bit_low j (shifted j) b h,
-          let u = f.used_is in let l = byte_low j t in omega arith,
-          let u = f.spares_are in let l = byte_low j (λ i. not (t i)) in omega arith,
-        )
 
     -- one trigger more, in use or spare by the answer b of its test
     pub found_used : {b : Bool} → j < 6 → b ≡ t j → b ≡ true → Found (set at count j) (count + 1) (used + shifted j) spares (j + 1)

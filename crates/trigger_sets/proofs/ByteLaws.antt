@@ -97,3 +97,6 @@ shifted j = (1 * 2 ^ j) % 256
 
 pub bit_here : (j : ℕ) → j < 6 → shifted j ≡ 2 ^ j
 bit_here j h = omega (arith, bit_low j _ refl h)
+
+pub byte_room : (b : ℕ → Bool) (j byte : ℕ) → byte ≡ byte_of j b → j < 6 → byte + shifted j < 256
+byte_room b j byte e h = omega (arith, bit_here j h, bit_low j _ refl h, byte_low j b)

@@ -8,7 +8,7 @@ ghost use Rattle.walk.specs.Trace.{Masks};
 ghost use Rattle.walk.specs.Steps.{StepReady};
 ghost use Rattle.cue.specs.Sizes.{size_limit};
 
-use walk::{Outcome, Walk};
+use walk::{Levels, Outcome, Walk};
 
 // One word of w: the number, or a minus where it is absent.
 fn put_word(word: u64) {
@@ -73,7 +73,13 @@ fn put_end(w: Walk, panels: usize, kept: &[u8; 6], gains: &[[u64; 6]; 6], needs:
 {
     io::write_all(1, b"end");
     put_state(w);
-    let s = w.step(panels, kept, gains, needs);
+    let levels = Levels {
+        count: panels,
+        kept,
+        gains,
+        needs,
+    };
+    let s = w.step(&levels);
     let o = s.outcome;
     match o {
         Outcome::End => {
@@ -97,10 +103,16 @@ fn put_walk(
     requires { (0 < panels) × (panels ≤ size_limit) × Masks kept.now }
 {
     let mut w = Walk::start(kept, triggers);
+    let levels = Levels {
+        count: panels,
+        kept,
+        gains,
+        needs,
+    };
     io::write_all(1, b"start");
     put_state(w);
     loop {
-        let s = w.step(panels, kept, gains, needs);
+        let s = w.step(&levels);
         let o = s.outcome;
         w = s.next;
         match o {

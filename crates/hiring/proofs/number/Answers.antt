@@ -4,7 +4,7 @@ use Rattle.hiring.proofs.DrawLaws.{number_low, number_high}
 use Rattle.hiring.proofs.number.Goals as goal
 
 pub returns-then-rest-lt1000 : goal.returns-then-rest-lt1000
-returns-then-rest-lt1000 c = c.negative.ensures ∙ number_low _ c.if-rest-lt1000.true
+returns-then-rest-lt1000 c = rw c.from-rest.ensures at c.negative.ensures ∙ number_low _ (rw c.from-rest.ensures at c.if-rest-lt1000.true)
 
 pub returns : goal.returns
-returns c = c.positive.ensures ∙ number_high _ c.if-rest-lt1000.false
+returns c = rw c.from-rest.ensures at c.positive.ensures ∙ number_high _ (rw c.from-rest.ensures at c.if-rest-lt1000.false)

@@ -1,7 +1,8 @@
 -- `spares::laid_set` meets its contract. The bits of the triggers passed; the next bit is larger. Assumes nothing.
 use mathlib.Core.Path.{sym, ◌∙◌}
 use native.Mathlib.Omega.{arith}
-use Rattle.spares.proofs.LaidLaws.{laying_none, laying_few, laying_low, laying_in, laying_out, laying_spare, laying_all}
+use Rattle.trigger_sets.proofs.ByteLaws.{byte_room}
+use Rattle.spares.proofs.LaidLaws.{laying_none, laying_few, laying_in, laying_out, laying_spare, laying_all}
 use Rattle.spares.proofs.laid_set.Goals.{then-has, else-has, then-has-2, else-has-2}
 use Rattle.spares.proofs.laid_set.Goals as goal
 
@@ -12,7 +13,7 @@ pub has-requires-then-has : goal.has-requires-then-has
 has-requires-then-has c = omega (arith, laying_few _ _ c.loop-j.invariant.1)
 
 pub overflow_add-byte : goal.overflow_add-byte
-overflow_add-byte c = let b = laying_low _ _ c.loop-j.invariant.1 (omega arith) in omega arith
+overflow_add-byte c = let b = byte_room _ c.loop-j.j _ c.loop-j.invariant.1.byte_is (omega arith) in omega arith
 
 pub overflow_add-k : goal.overflow_add-k
 overflow_add-k c = omega (arith, laying_few _ _ c.loop-j.invariant.1)

@@ -1,6 +1,7 @@
 -- `spares::places_of` meets its contract. The triggers passed are counted, placed and in one of the two sets. Assumes nothing.
 use native.Mathlib.Omega.{arith}
-use Rattle.spares.proofs.PlaceLaws.{found_none, found_few, found_low, found_used, found_spare, found_all}
+use Rattle.trigger_sets.proofs.ByteLaws.{byte_room}
+use Rattle.spares.proofs.PlaceLaws.{found_none, found_few, found_used, found_spare, found_all}
 use Rattle.spares.proofs.places_of.Goals.{then-in_use, else-in_use}
 use Rattle.spares.proofs.places_of.Goals as goal
 
@@ -14,10 +15,10 @@ pub overflow_add-count : goal.overflow_add-count
 overflow_add-count c = omega (arith, found_few _ c.loop-j.invariant)
 
 pub overflow_add-used : goal.overflow_add-used
-overflow_add-used c = let b = found_low _ c.loop-j.invariant (omega arith) in omega arith
+overflow_add-used c = let b = byte_room _ c.loop-j.j _ c.loop-j.invariant.used_is (omega arith) in omega arith
 
 pub overflow_add-spares : goal.overflow_add-spares
-overflow_add-spares c = let b = found_low _ c.loop-j.invariant (omega arith) in omega arith
+overflow_add-spares c = let b = byte_room _ c.loop-j.j _ c.loop-j.invariant.spares_are (omega arith) in omega arith
 
 pub loop-j-preserved : goal.loop-j-preserved
 loop-j-preserved c =
