@@ -17,7 +17,7 @@ ghost use Rattle.hiring.specs.Inner.{kind_of, RowDrawn, RowsDrawn};
 
 use refusals::Refusal;
 use table_text::put_rows;
-use writing::{put_bytes, put_field};
+use writing::{Writer, put_bytes};
 
 pub mod chain;
 
@@ -94,8 +94,10 @@ fn put_sizes(text: &mut [u8], panels: usize, triggers: usize) -> usize
         (field (bytes "panels=") (natural panels) ++ field (bytes "triggers=") (natural triggers)) }
     ensures short { result ≤ 58 }
 {
-    let end = put_field(text, 0, b"panels=", panels as u64);
-    put_field(text, end, b"triggers=", triggers as u64)
+    let mut sizes = Writer::new(text);
+    sizes.put_field(b"panels=", panels as u64);
+    sizes.put_field(b"triggers=", triggers as u64);
+    sizes.at
 }
 
 // The sheet, kind of line by kind of line: the sizes take at most 58 bytes, each other line at most 60.
@@ -165,10 +167,11 @@ fn put_lines(
 {
     let mut rows = [[0u64; 6]; 6];
     let next = draw_rows(kind, lines, count, state, &mut rows);
-    let end = put_rows(text, at, key, &rows, lines, count);
+    let mut writer = Writer { out: text, at };
+    put_rows(&mut writer, key, &rows, lines, count);
     Put {
         state: next,
-        end: end,
+        end: writer.at,
     }
 }
 

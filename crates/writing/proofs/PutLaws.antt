@@ -7,8 +7,6 @@ use lib.ListN.{length, take, drop, length-append, length-take, length-drop, take
 use lib.Seq.{drop-drop}
 use borrow.Rule.Slice.PartMut.{put_mid}
 use Rattle.std.proofs.lemmas.Slice.{take-put_mid, drop-put_mid}
-use Rattle.sheet.specs.Text.{bytes}
-use Rattle.writing.specs.Texts.{field}
 use Rattle.writing.specs.Writing.{Puts, Writes}
 
 pub put_nothing : (b : List ℕ) (at : ℕ) → at ≤ length b → Puts b b at at []
@@ -66,13 +64,3 @@ put_key b key part at e h =
       text = take-put_mid at (length key) b part (at + length key) (omega arith) (omega arith) ∙ ap (λ l. take at b ++ l) e;
       rest = drop-put_mid at (length key) b part (at + length key) (omega arith) (omega arith) l;
     })
-
--- ---- a field of at most 20 bytes behind its key
-pub field_length : (key v : List ℕ) → length (field key v) ≡ length key + length v + 1
-unfolding bytes
-field_length key v = length-append (key ++ v) (bytes "\n") ∙ ap (λ k. k + 1) (length-append key v)
-
-pub put_field : {a b c d : List ℕ} {at m n r : ℕ} {key v : List ℕ} → Puts a b at m key → Puts b c m n v → Puts c d n r (bytes "\n") →
-    n ≤ m + 20 → Puts a d at r (field key v) × (r ≤ at + length key + 21)
-unfolding bytes
-put_field p q e h = (then (then p q) e, omega (arith, p.end, e.end))

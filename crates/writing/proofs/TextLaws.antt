@@ -18,29 +18,30 @@ use Rattle.sheet.specs.Text.{bytes}
 use Rattle.writing.specs.Numerals.{natural, numeral, item}
 use Rattle.writing.specs.Texts.{field, joined, component_text, line_text, cap_text, line_texts, plan_text, panel_texts}
 use Rattle.cue.specs.Standing.{of_signed, line_at}
-use Rattle.writing.specs.Writing.{Puts, comma, items, text_at, texts_of}
-use Rattle.writing.proofs.PutLaws.{put_nothing, then, put_as}
+use Rattle.writing.specs.Writing.{Put, comma, items, text_at, texts_of}
+use Rattle.writing.specs.declared.Writer.{Writer}
+use Rattle.writing.proofs.WriterLaws.{put_nothing, then, put_as}
 use Rattle.cue.specs.Written.{line_size, capped_size}
 
 -- ---- k parts are put, of at most `size` bytes each: a loop's invariant
-pub record Grown (T : ℕ → List ℕ) (size : ℕ) (before after : List ℕ) (from end k : ℕ) : Type 0 where
-  pub short : end ≤ from + size * k
-  pub puts : Puts before after from end (T k)
+pub record Grown (T : ℕ → List ℕ) (size : ℕ) (before after : Writer) (k : ℕ) : Type 0 where
+  pub short : after.at ≤ before.at + size * k
+  pub puts : Put before after (T k)
 
 module _ (T : ℕ → List ℕ) (size : ℕ) where
-  pub grown_none : (b : List ℕ) (from : ℕ) → T 0 ≡ [] → from ≤ length b → Grown T size b b from from 0
-  grown_none b from e h = record { short = omega arith; puts = put_as (sym e) (put_nothing b from h) }
+  pub grown_none : (w : Writer) → T 0 ≡ [] → w.at ≤ length w.out.now → Grown T size w w 0
+  grown_none w e h = record { short = omega arith; puts = put_as (sym e) (put_nothing w h) }
 
-  pub grown_more : {a b c : List ℕ} {from end r k : ℕ} {t : List ℕ} → T (suc k) ≡ T k ++ t → Grown T size a b from end k → Puts b c end r t →
-      r ≤ end + size → Grown T size a c from r (k + 1)
+  pub grown_more : {a b c : Writer} {k : ℕ} {t : List ℕ} → T (suc k) ≡ T k ++ t → Grown T size a b k → Put b c t → c.at ≤ b.at + size →
+      Grown T size a c (k + 1)
   grown_more {k = k} e g p h =
       record {
         short = omega (arith, g.short);
         puts = put_as (sym (ap T (add-one k) ∙ e)) (then g.puts p);
       }
 
-  pub grown_as : {a b : List ℕ} {from end k j : ℕ} → k ≡ j → Grown T size a b from end k → Grown T size a b from end j
-  grown_as {a} {b} {from} {end} e g = subst (λ k. Grown T size a b from end k) e g
+  pub grown_as : {a b : Writer} {k j : ℕ} → k ≡ j → Grown T size a b k → Grown T size a b j
+  grown_as {a} {b} e g = subst (λ k. Grown T size a b k) e g
 
 -- ---- items
 abbrev pub first_items : (n : ℕ) → (ℕ → Bool) → Line n → ℕ → List ℕ

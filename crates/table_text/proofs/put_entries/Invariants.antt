@@ -5,4 +5,4 @@ use Rattle.sheet_text.specs.SheetText.{row_items}
 use Rattle.table_text.proofs.put_entries.Given as goal
 
 abbrev pub invariant-loop-j : goal.invariant-loop-j
-invariant-loop-j l = Grown (λ k. row_items k (meant_v l.row)) 8 l.initial.out l.out l.at l.end l.j
+invariant-loop-j l = Grown (λ k. row_items k (meant_v l.row)) 8 l.initial.w l.w l.j

@@ -5,4 +5,4 @@ use Rattle.sheet_text.specs.SheetText.{rows_text}
 use Rattle.table_text.proofs.put_rows.Given as goal
 
 abbrev pub invariant-loop-i : goal.invariant-loop-i
-invariant-loop-i l = Grown (λ k. rows_text l.key k l.count (meant l.rows)) 60 l.initial.out l.out l.at l.end l.i
+invariant-loop-i l = Grown (λ k. rows_text l.key k l.count (meant l.rows)) 60 l.initial.w l.w l.i

@@ -5,4 +5,4 @@ use Rattle.writing.proofs.TextLaws.{Grown, first_items}
 use Rattle.text.proofs.lines.put_items.Given as goal
 
 abbrev pub invariant-loop-j : goal.invariant-loop-j
-invariant-loop-j l = Grown (first_items l.n (bit l.spares) (line_at l.n l.line 0)) 12 l.initial.out l.out l.at l.end l.j
+invariant-loop-j l = Grown (first_items l.n (bit l.spares) (line_at l.n l.line 0)) 12 l.initial.w l.w l.j

@@ -5,7 +5,7 @@ use Rattle.std.specs.Iterator.Adapters.{take_count, take_source}
 use Rattle.std.specs.Slice.Iter.{chunks_exact_rest, chunks_exact_size}
 use Rattle.trigger_sets.specs.Sets.{bit}
 use Rattle.writing.proofs.LineLaws.{text_part, pass_none, pass, all_passed}
-use Rattle.writing.proofs.PutLaws.{put_as}
+use Rattle.writing.proofs.WriterLaws.{put_as}
 use Rattle.writing.proofs.TextLaws.{grown_none, grown_more, grown_as, texts_none, texts_more}
 use Rattle.text.proofs.lines.put_lines.Goals as goal
 
@@ -18,13 +18,13 @@ loop-line-init c =
     let none : c.args.count - take_count c.into_iter-line-iterator.result ≡ 0 = omega arith in
     record {
       passing = pass_none left (ap chunks_exact_size source ∙ c.chunks_exact.ensures.size) (ap chunks_exact_rest source ∙ c.chunks_exact.ensures.rest);
-      grown = grown_as _ 100 (sym none) (grown_none _ 100 _ _ (texts_none _ _ _ _) (omega arith));
+      grown = grown_as _ 100 (sym none) (grown_none _ 100 _ (texts_none _ _ _ _) (omega arith));
     }
 
 pub loop-line-preserved : goal.loop-line-preserved
 loop-line-preserved c =
     let v = c.loop-line.invariant in
-    let p = c.put_capped-end.ensures in
+    let p = c.put_capped.ensures in
     let ((same, here, _), fewer) = c.in-Some.ensures.steps in
     let few = v.passing.few in
     let one : c.args.count - take_count c.loop-line.line-iterator + 1 ≡ c.args.count - take_count c.next.new.self = omega arith in

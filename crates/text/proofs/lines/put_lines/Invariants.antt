@@ -14,5 +14,5 @@ invariant-loop-line l =
     record {
       passing : Passing l.words l.wide l.count (take_count l.line-iterator) (chunks_exact_size (take_source l.line-iterator))
           (chunks_exact_rest (take_source l.line-iterator));
-      grown : Grown (λ k. texts_of l.n (bit l.spares) l.wide k l.words) 100 l.initial.out l.out l.at l.end (l.count - take_count l.line-iterator);
+      grown : Grown (λ k. texts_of l.n (bit l.spares) l.wide k l.words) 100 l.initial.w l.w (l.count - take_count l.line-iterator);
     }

@@ -7,4 +7,4 @@ use Rattle.writing.proofs.TextLaws.{Grown}
 use Rattle.text.proofs.lines.put_panels.Given as goal
 
 abbrev pub invariant-loop-i : goal.invariant-loop-i
-invariant-loop-i l = Grown (λ k. panel_texts (each k (λ i. (get_or l.kept i 0, get_or l.counts i 0) ∷ []))) 13 l.initial.out l.out l.at l.end l.i
+invariant-loop-i l = Grown (λ k. panel_texts (each k (λ i. (get_or l.kept i 0, get_or l.counts i 0) ∷ []))) 13 l.initial.w l.w l.i

@@ -9,4 +9,4 @@ use Rattle.writing.proofs.TextLaws.{Grown}
 use Rattle.text.proofs.lines.put_times.Given as goal
 
 abbrev pub invariant-loop-j : goal.invariant-loop-j
-invariant-loop-j l = Grown (λ k. joined (each k (λ i. numeral (get_or l.times i (pos 0)) ∷ []))) 21 l.initial.out l.out l.at l.end l.j
+invariant-loop-j l = Grown (λ k. joined (each k (λ i. numeral (get_or l.times i (pos 0)) ∷ []))) 21 l.initial.w l.w l.j

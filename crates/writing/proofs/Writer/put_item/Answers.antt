@@ -2,10 +2,10 @@
 use mathlib.Core.Path.{sym, ap, ◌∙◌}
 use Rattle.sheet.specs.Text.{bytes}
 use Rattle.writing.specs.Numerals.{numeral, item}
-use Rattle.writing.proofs.PutLaws.{put_as, put_short}
+use Rattle.writing.proofs.WriterLaws.{put_as, put_short}
 use Rattle.cue.proofs.StandingLaws.{of_signed_absent, of_signed_number}
 use Rattle.writing.proofs.SignedLaws.{item_32, wider_back}
-use Rattle.writing.proofs.put_item.Goals as goal
+use Rattle.writing.proofs.Writer.put_item.Goals as goal
 
 pub returns-then-w-eq-ABSENT-clause-puts : goal.returns-then-w-eq-ABSENT-clause-puts
 unfolding bytes
