@@ -1,2 +1,3 @@
 -- Laws of refusals.
 pub mod NumberLaws
+pub mod ResultLaws
