@@ -62,18 +62,19 @@ fn hired_text(asked: Call, out: &mut [u8; 2048], errors: &mut [u8; 400]) -> Ends
         Writes errors.new result.complaint (hire_complaint (program_hire w))) }
 {
     let state = later_state(asked.panels, asked.triggers, asked.state, asked.before);
-    let hired = hiring::hire(asked.panels, asked.triggers, state, out);
-    let complaint = advice::advice_text(errors, hired.refusal);
-    if hired.refusal != 0 {
-        let refused = text::refusal_text(out, hired.refusal);
-        return Ends {
-            text: refused,
-            complaint: complaint,
-        };
-    }
-    Ends {
-        text: hired.length,
-        complaint: complaint,
+    match hiring::hire(asked.panels, asked.triggers, state, out) {
+        Ok(hired) => Ends {
+            text: hired.length,
+            complaint: 0,
+        },
+        Err(refusal) => {
+            let complaint = advice::advice_text(errors, refusal.number());
+            let refused = text::refusal_text(out, refusal.number());
+            Ends {
+                text: refused,
+                complaint: complaint,
+            }
+        }
     }
 }
 

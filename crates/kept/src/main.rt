@@ -15,15 +15,17 @@ fn answer(bytes: &[u8], out: &mut [u8; 256], errors: &mut [u8; 400]) -> Ends
     ensures prefix_len_2 { IsPrefixLen result.complaint errors.new }
     ensures errors_after { take result.complaint errors.new ≡ kept_complaint (keeping bytes.now) }
 {
-    let table = keeping::kept_table(bytes);
-    let complaint = advice::advice_text(errors, table.refusal);
-    if table.refusal != 0 {
-        let refused = text::refusal_text(out, table.refusal);
-        return Ends {
-            text: refused,
-            complaint: complaint,
-        };
-    }
+    let table = match keeping::kept_table(bytes) {
+        Ok(table) => table,
+        Err(refusal) => {
+            let complaint = advice::advice_text(errors, refusal.number());
+            let refused = text::refusal_text(out, refusal.number());
+            return Ends {
+                text: refused,
+                complaint: complaint,
+            };
+        }
+    };
     let kept = table.kept;
     let counts = table.counts;
     let listed = text::kept_text(
@@ -37,7 +39,7 @@ fn answer(bytes: &[u8], out: &mut [u8; 256], errors: &mut [u8; 400]) -> Ends
     );
     Ends {
         text: listed,
-        complaint: complaint,
+        complaint: 0,
     }
 }
 

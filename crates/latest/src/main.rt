@@ -5,15 +5,19 @@
 ghost use Rattle.std.specs.Prelude.{◌≡◌, take};
 ghost use Rattle.io.specs.Counts.{IsPrefixLen};
 ghost use Rattle.timing.specs.Times.{component};
-ghost use Rattle.latest.specs.Output.{program_text, program_complaint};
+ghost use Rattle.planning.specs.Planning.{unplanned_number};
+ghost use Rattle.advice.specs.Advice.{advice};
+ghost use Rattle.writing.specs.Writing.{Writes};
+ghost use Rattle.latest.specs.Output.{unplanned_text, program_text, program_complaint};
 
+use planning::{Extent, Unplanned};
 use text::Ends;
 use timing::Timing;
 
 // "The program lends space for 2,000 lines", as `plan` does: of eight words each. A sheet whose lines take seven gets no more of them.
 const LINES: usize = 2000;
 
-// What the program writes for a sheet and the times given; the places behind the two texts. Only 9 is a refusal with a count.
+// What the program writes for a sheet and the times given; the places behind the two texts.
 fn answers(
     bytes: &[u8],
     wish: Timing,
@@ -27,28 +31,38 @@ fn answers(
     ensures errors_after { take result.complaint errors.new ≡
         program_complaint bytes.now wish.count (component wish.at) }
 {
-    let reached = reaching::latest_timing(bytes, wish, space);
+    let reached = match reaching::latest_timing(bytes, wish, space) {
+        Ok(reached) => reached,
+        Err(unplanned) => return refused(unplanned, out, errors),
+    };
     if LINES < reached.count {
-        let full = text::full_text(out, reached.count as u64);
-        let complaint = advice::advice_text(errors, 9);
-        return Ends {
-            text: full,
-            complaint: complaint,
+        let needed = Extent {
+            count: reached.count,
+            width: reached.width,
         };
-    }
-    let complaint = advice::advice_text(errors, reached.refusal);
-    if reached.refusal != 0 {
-        let refused = text::refusal_text(out, reached.refusal);
-        return Ends {
-            text: refused,
-            complaint: complaint,
-        };
+        return refused(Unplanned::NoRoom(needed), out, errors);
     }
     let timing = reached.timing;
     let times = timing.at;
     let latest = text::latest_text(out, timing.count, times);
     Ends {
         text: latest,
+        complaint: 0,
+    }
+}
+
+// What it writes where there is no timing: the refusal, with 9 the count needed, and its sentence.
+fn refused(unplanned: Unplanned, out: &mut [u8; 200], errors: &mut [u8; 400]) -> Ends
+    ensures text { Writes out.new result.text (unplanned_text unplanned) }
+    ensures complaint { Writes errors.new result.complaint (advice (unplanned_number unplanned)) }
+{
+    let complaint = advice::advice_text(errors, unplanned.number());
+    let text = match unplanned {
+        Unplanned::Refused(refusal) => text::refusal_text(out, refusal.number()),
+        Unplanned::NoRoom(needed) => text::full_text(out, needed.count as u64),
+    };
+    Ends {
+        text: text,
         complaint: complaint,
     }
 }

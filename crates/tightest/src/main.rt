@@ -8,31 +8,30 @@ ghost use Rattle.timing.specs.Times.{component};
 ghost use Rattle.testing.specs.Testing.{testing, test_answer};
 ghost use Rattle.tightest.specs.Output.{tested_text, tested_complaint};
 
-use testing::Tested;
+use refusals::Refusal;
 use text::Ends;
 use timing::Timing;
 
 // What the program writes for a test's answer; the place behind it.
-fn answer(tested: Tested, out: &mut [u8; 64]) -> usize
+fn answer(tested: Result<bool, Refusal>, out: &mut [u8; 64]) -> usize
     ensures prefix_len { IsPrefixLen result out.new }
     ensures out_after { take result out.new ≡ tested_text (test_answer tested) }
 {
     match tested {
-        Tested::Yes => writing::put_bytes(out, 0, b"tightest=yes\n"),
-        Tested::No => writing::put_bytes(out, 0, b"tightest=no\n"),
-        Tested::Refused(refusal) => text::refusal_text(out, refusal),
+        Ok(true) => writing::put_bytes(out, 0, b"tightest=yes\n"),
+        Ok(false) => writing::put_bytes(out, 0, b"tightest=no\n"),
+        Err(refusal) => text::refusal_text(out, refusal.number()),
     }
 }
 
 // What it writes on standard error; the place behind it.
-fn complaint(tested: Tested, errors: &mut [u8; 400]) -> usize
+fn complaint(tested: Result<bool, Refusal>, errors: &mut [u8; 400]) -> usize
     ensures prefix_len { IsPrefixLen result errors.new }
     ensures errors_after { take result errors.new ≡ tested_complaint (test_answer tested) }
 {
     match tested {
-        Tested::Yes => 0,
-        Tested::No => 0,
-        Tested::Refused(refusal) => advice::advice_text(errors, refusal),
+        Ok(_) => 0,
+        Err(refusal) => advice::advice_text(errors, refusal.number()),
     }
 }
 
