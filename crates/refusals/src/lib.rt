@@ -3,7 +3,7 @@
 #![tactic(auto)]
 
 ghost use Rattle.std.specs.Prelude.{◌≡◌};
-ghost use Rattle.refusals.specs.Numbers.{number, refusal_of};
+ghost use Rattle.refusals.specs.Numbers.{number};
 
 #[derive(Clone, Copy, PartialEq, Eq, Debug)]
 pub enum Refusal {
@@ -28,27 +28,5 @@ impl Refusal {
         ensures { result ≡ number self }
     {
         self as u8
-    }
-}
-
-// temporary
-#[tactic(auto, unfolding(crate::specs::Numbers::refusal_of))]
-pub fn of_number(k: u8) -> Refusal
-    ensures { result ≡ refusal_of k }
-{
-    match k {
-        1 => Refusal::SheetTooLong,
-        2 => Refusal::WrongForm,
-        3 => Refusal::NoSize,
-        4 => Refusal::OutOfRange,
-        5 => Refusal::MarkAbsent,
-        6 => Refusal::PanelWithoutLag,
-        7 => Refusal::NoFloor,
-        8 => Refusal::NoTimes,
-        10 => Refusal::WrongCount,
-        11 => Refusal::TimeTooFar,
-        12 => Refusal::NoLoadSize,
-        13 => Refusal::SpaceTooShort,
-        _ => Refusal::TriggerWithoutLag,
     }
 }
