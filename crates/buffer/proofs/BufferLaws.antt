@@ -1,16 +1,7 @@
 -- Laws of the buffer by its places: looking a line up by halves, and moving lines one place further.
-use mathlib.Core.Path.{◌≡◌, refl, ap, sym, ◌∙◌}
-use mathlib.Core.List.{List, [], ◌∷◌}
-use mathlib.Core.Bool.{Bool, true, false}
+use mathlib.Core.Path.{◌≡◌, ap, sym, ◌∙◌}
+use mathlib.Core.List.{List, ◌∷◌}
 use Rattle.std.specs.List.{CopiedTo, SameBelow}
-use Rattle.std.specs.List.Sorted.{IsPartitionPoint, IsPartitionedBy}
-use Rattle.maxplus.specs.Line.{lt_l}
-use Rattle.maxplus.specs.Above.{gt?}
-use Rattle.maxplus.proofs.LineLaws.{strict}
-use Rattle.tables.specs.Held.{Says}
-use Rattle.tables.proofs.Loops.{says_true, says_false}
-use Rattle.std.proofs.lemmas.List.{get_or_default}
-use Rattle.tables.specs.Lines.{line_of}
 use Prim.Native.Nat.{ℕ, suc, ◌+◌, ◌-◌, ◌≤◌, ◌<◌, min}
 use native.Mathlib.Omega.{arith}
 use native.Mathlib.Decide.{ℕ_discrete, dec_lt}
@@ -19,55 +10,51 @@ use lib.Seq.{get_or-set_same, get_or-set_other, get_or-take, get_or-drop, ext_ge
 use Rattle.maxplus.proofs.LineLaws.{lt_l_trans}
 use Rattle.buffer.specs.Buffer.{row, Before, Ordered, Placed, between}
 
--- ---- looking up
-answer : {P : Type 0} → Dec P → Bool
-answer (yes h) = true
-answer (no h) = false
+-- ---- looking up: the place is from low to high
+pub record Between (buf : List (List ℕ)) (len : ℕ) (c : List ℕ) (low high : ℕ) : Type 0 where
+  pub order : low ≤ high
+  pub few : high ≤ len
+  pub before : (k : ℕ) → k < low → Before (row buf k) c
+  pub from : (k : ℕ) → high ≤ k → k < len → ¬ (Before (row buf k) c)
 
-answer_says : {P : Type 0} (d : Dec P) → Says P (answer d)
-unfolding answer
-answer_says (yes h) = h
-answer_says (no h) = h
+module _ (buf : List (List ℕ)) (len : ℕ) (c : List ℕ) where
+  pub between_start : Between buf len c 0 len
+  between_start = record {
+    order = omega arith;
+    few = omega arith;
+    before = λ k h. let e : ⊥ = omega arith in absurd e;
+    from = λ k h i. let e : ⊥ = omega arith in absurd e;
+  }
 
--- whether a stands before b
-pub before? : List ℕ → List ℕ → Bool
-before? a b = answer (gt? (lt_l 6) (strict 6) (line_of 6 a) (line_of 6 b))
+  module _ (low high mid : ℕ) (o : Ordered len buf) (b : Between buf len c low high) (p : low ≤ mid) (q : mid < high) where
+    -- the middle line stands before c, and so do those below it
+    pub between_up : Before (row buf mid) c → Between buf len c (mid + 1) high
+    between_up h = record {
+      order = omega arith;
+      few = b.few;
+      before = λ k i. elim (dec_lt k mid) [
+        | yes j ↦ lt_l_trans 6 _ _ _ (o.at k mid j (omega (arith, b.few))) h
+        | no j ↦ let e : k ≡ mid = omega arith in rw e h
+      ];
+      from = b.from;
+    }
 
-before_says : (a b : List ℕ) → Says (Before a b) (before? a b)
-unfolding before?
-before_says a b = answer_says (gt? (lt_l 6) (strict 6) (line_of 6 a) (line_of 6 b))
+    -- or does not, nor do those above it
+    pub between_down : ¬ (Before (row buf mid) c) → Between buf len c low mid
+    between_down h = record {
+      order = p;
+      few = omega (arith, b.few);
+      before = b.before;
+      from = λ k i j l. elim (dec_lt mid k) [
+        | yes m ↦ h (lt_l_trans 6 _ _ _ (o.at mid k m j) l)
+        | no m ↦ let e : k ≡ mid = omega arith in h (rw e at l)
+      ];
+    }
 
-says_same : (P : Type 0) (r s : Bool) → Says P r → Says P s → r ≡ s
-says_same P true true h k = refl
-says_same P true false h k = absurd (k h)
-says_same P false true h k = absurd (h k)
-says_same P false false h k = refl
-
-pub says_before : (a b : List ℕ) (r : Bool) → Says (Before a b) r → r ≡ before? a b
-says_before a b r h = says_same (Before a b) r (before? a b) h (before_says a b)
-
-module _ (buf : List (List ℕ)) (len : ℕ) (c : List ℕ) (h : len ≤ length buf) where
-  taken_row : (k : ℕ) (d : List ℕ) → k < len → get_or (take len buf) k d ≡ row buf k
-  taken_row k d l = get_or-take len buf k d l ∙ get_or_default buf k d [] (omega arith)
-
-  -- in a buffer in order the lines before c come first
-  pub before_first : Ordered len buf → IsPartitionedBy (λ w. before? w c) (take len buf)
-  before_first o i j d l m e =
-      let n : j < len = omega (arith, length-take-le len buf h) in
-      elim (dec_lt i j) [
-        | yes k ↦ sym (says_before _ _ true (rw (taken_row i d (omega arith)) (lt_l_trans 6 _ _ _ (o.at i j k n)
-            (says_true (before? (row buf j) c) (rw (taken_row j d n) at e) (before_says (row buf j) c)))))
-        | no k ↦ let f : i ≡ j = omega arith in rw f e
-      ]
-
-  pub placed_at : (r : ℕ) → r ≤ length (take len buf) → IsPartitionPoint (λ w. before? w c ≡ true) (λ w. before? w c ≡ false) (take len buf) r →
-      Placed buf len c r
-  placed_at r k p =
-      let n = length-take-le len buf h in record {
-        few = omega (arith, n);
-        before = λ i l. says_true (before? (row buf i) c) (rw (taken_row i [] (omega arith)) at (p.0 i [] (omega arith) l)) (before_says (row buf i) c);
-        from = λ i l m. says_false (before? (row buf i) c) (rw (taken_row i [] m) at (p.1 i [] l (omega arith))) (before_says (row buf i) c);
-      }
+  pub between_end : (low high : ℕ) → high ≤ low → Between buf len c low high → Placed buf len c low
+  between_end low high h b =
+      let e : high ≡ low = omega (arith, b.order) in
+      record { few = omega (arith, b.few); before = b.before; from = λ k i j. b.from k (omega arith) j }
 
 -- ---- a value put in between
 module _ {A : Type 0} (d : A) where

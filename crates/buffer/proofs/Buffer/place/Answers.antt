@@ -1,11 +1,17 @@
--- `buffer::Buffer::place` meets its contract.
-use Rattle.std.proofs.Common.{rules, arith}
-use Rattle.std.proofs.lemmas.List.Sorted.{IsPartitionPoint-from_clause}
-use Rattle.buffer.proofs.BufferLaws.{before?, says_before, before_first, placed_at}
+-- `buffer::Buffer::place` meets its contract: the place is from `low` to `high`, and the middle line tells which half it is in.
+use Prim.Native.Nat.{◌+◌, ◌-◌, ◌/◌}
+use native.Mathlib.Omega.{arith}
+use Rattle.buffer.proofs.BufferLaws.{between_up, between_down}
 use Rattle.buffer.proofs.Buffer.place.Goals as goal
 
-pub returns : goal.returns
-returns c =
-    let a = c.args in let e = c.partition_point.ensures in
-    placed_at a.self.now.rows a.self.now.len a.line.at (omega arith) _ e.bound
-    (IsPartitionPoint-from_clause (λ w. before? w a.line.at) _ _ e.partitioned (before_first a.self.now.rows a.self.now.len a.line.at (omega arith) c.requires.1) (λ a r f' h. (says_before _ _ _ (search rules), search rules)))
+pub loop-low-preserved-then-below : goal.loop-low-preserved-then-below
+loop-low-preserved-then-below c =
+    let l = c.loop-low in
+    between_up c.args.self.now.rows c.args.self.now.len c.args.line.at l.low l.high (l.low + (l.high - l.low) / 2) c.requires.1 l.invariant
+    (omega arith) (omega arith) (rw c.if-below.true at c.below.ensures)
+
+pub loop-low-preserved : goal.loop-low-preserved
+loop-low-preserved c =
+    let l = c.loop-low in
+    between_down c.args.self.now.rows c.args.self.now.len c.args.line.at l.low l.high (l.low + (l.high - l.low) / 2) c.requires.1 l.invariant
+    (omega arith) (omega arith) (rw c.if-below.false at c.below.ensures)
