@@ -123,10 +123,11 @@ fn spread(
 // levels the rays then have.
 fn carry(set: &mut Rays, next: &mut Rays, sources: Sources) -> usize
     requires { let M = sources.marks.now in ((P : Cue) × (lags : List (List ℕ)) × Drawable M.triggers P M sources.star.now lags sources.needs.now)
-        × (set.old.len ≡ 1) × (length set.old.rows ≡ places) × (length next.old.rows ≡ places) × Rows M.triggers 1 set.old.rows }
+        × (length set.old.rows ≡ places) × (length next.old.rows ≡ places) × Rows M.triggers 1 set.old.rows }
     ensures { (length next.new.rows ≡ places) ×
         CarriedTo sources.entry.marks.now sources.entry.star.now sources.entry.needs.now set.old.rows set.new.rows result set.new.len }
 {
+    set.len = 1;
     for level in 0..sources.marks.levels {
         let panel = Panel {
             count: sources.marks.triggers,
@@ -185,7 +186,6 @@ pub fn gather(buffer: &mut Buffer, last: LineWords, sources: Sources)
         let first = first_ray(sources.star, pulls[t], t, n);
         let words = first.at;
         set.rows[0] = words;
-        set.len = 1;
         let level = carry(&mut set, &mut next, sources);
         conclude(buffer, last, &set, level, sources);
     }

@@ -14,7 +14,7 @@ pub bounds-sources-level-in-loop-level : goal.bounds-sources-level-in-loop-level
 bounds-sources-level-in-loop-level c = omega (arith, c.loop-level-test.true, levels_few c.requires.0.2)
 
 pub loop-level-init : goal.loop-level-init
-loop-level-init c = (c.requires.3, rw c.requires.1 (carried_none c.requires.2 c.requires.4))
+loop-level-init c = (c.requires.2, carried_none c.requires.1 c.requires.3)
 
 pub add_panel-requires : goal.add_panel-requires
 add_panel-requires c =
