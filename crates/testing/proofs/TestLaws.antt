@@ -15,9 +15,9 @@ use Rattle.sheet.proofs.Decided.{tightest?}
 use Rattle.admitting.proofs.Known.{admitted_is}
 use Rattle.tables.specs.Held.{Says}
 use Rattle.std.specs.Prelude.{Result, Ok, Err}
-use Rattle.refusals.specs.Numbers.{number, refusal_of}
+use Rattle.refusals.specs.Numbers.{refusal_of}
 use Rattle.refusals.specs.declared.Refusal.{Refusal}
-use Rattle.refusals.proofs.NumberLaws.{Known, of_number, number_of, known_within}
+use Rattle.refusals.proofs.NumberLaws.{Known, of_number, known_within}
 use Rattle.testing.specs.Testing.{TestOutcome, answer, refused, tests, testing, test_answer}
 
 -- a decision that was found otherwise
@@ -55,11 +55,6 @@ refusal_is s count X k a = go (admitted s count X) refl a
 
 pub known_number : (s : List ℕ) (count : ℕ) (X : Timing) (k : ℕ) → refused k ≡ testing s count X → (1 ≤ k) × (k ≤ 14)
 known_number s count X k a = known_within k (refusal_is s count X k a)
-
--- temporary
-pub refused_as : (s : List ℕ) (count : ℕ) (X : Timing) (k : ℕ) {r : Refusal} → r ≡ refusal_of k → admitted s count X ≡ spec.refused k →
-    test_answer (Err r) ≡ testing s count X
-refused_as s count X k h e = ap (λ r. refused (number r)) h ∙ ap refused (number_of k (admitted_is s count X k e)) ∙ testing_refused s count X k e
 
 -- ---- no two answers stand for one outcome
 abbrev tested_as : TestOutcome → Result Bool Refusal
