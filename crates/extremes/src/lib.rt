@@ -23,7 +23,8 @@ use words::LineWords;
 
 mod sums;
 
-// In the place of a panel's set where the panel is not tight: six bits never hold it.
+// In the place of a panel's set where the panel is not tight: six bits never hold it, so that one test serves both; an Option would be asked for
+// apart.
 const NEVER: u8 = 64;
 
 // Whether some trigger is in the closure of every trigger of the line.

@@ -72,7 +72,7 @@ fn hired_text(asked: Call, out: &mut [u8; 2048], errors: &mut [u8; 400]) -> Ends
             let refused = text::refusal_text(out, refusal.number());
             Ends {
                 text: refused,
-                complaint: complaint,
+                complaint,
             }
         }
     }

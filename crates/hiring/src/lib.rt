@@ -76,7 +76,7 @@ pub fn hire(panels: usize, triggers: usize, state: u32, out: &mut [u8]) -> Resul
     }
     put_bytes(out, 0, &text[..length]);
     Ok(Hired {
-        length: length,
+        length,
         state: sheet.state,
     })
 }

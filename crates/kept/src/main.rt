@@ -22,7 +22,7 @@ fn answer(bytes: &[u8], out: &mut [u8; 256], errors: &mut [u8; 400]) -> Ends
             let refused = text::refusal_text(out, refusal.number());
             return Ends {
                 text: refused,
-                complaint: complaint,
+                complaint,
             };
         }
     };
@@ -34,8 +34,8 @@ fn answer(bytes: &[u8], out: &mut [u8; 256], errors: &mut [u8; 400]) -> Ends
         table.panels,
         kept,
         counts,
-        table.steps as u64,
-        table.selections as u64,
+        u64::from(table.steps),
+        u64::from(table.selections),
     );
     Ends {
         text: listed,

@@ -51,7 +51,8 @@ fn answers(
     }
 }
 
-// What it writes where there is no timing: the refusal, with 9 the count needed, and its sentence.
+// What it writes where there is no timing: the refusal, with 9 the count needed, and its sentence. The plan's program has one like it
+// for longer texts; a crate for both would stand above the texts and the plan only to hold these lines.
 fn refused(unplanned: Unplanned, out: &mut [u8; 200], errors: &mut [u8; 400]) -> Ends
     ensures text { Writes out.new result.text (unplanned_text unplanned) }
     ensures complaint { Writes errors.new result.complaint (advice (unplanned_number unplanned)) }
@@ -62,8 +63,8 @@ fn refused(unplanned: Unplanned, out: &mut [u8; 200], errors: &mut [u8; 400]) ->
         Unplanned::NoRoom(needed) => text::full_text(out, needed.count as u64),
     };
     Ends {
-        text: text,
-        complaint: complaint,
+        text,
+        complaint,
     }
 }
 

@@ -61,8 +61,8 @@ fn refused(unplanned: Unplanned, out: &mut [u8; 200200], errors: &mut [u8; 400])
         Unplanned::NoRoom(needed) => text::full_text(out, needed.count as u64),
     };
     Ends {
-        text: text,
-        complaint: complaint,
+        text,
+        complaint,
     }
 }
 
@@ -78,8 +78,8 @@ fn planned_text(out: &mut [u8], plan: CuePlan, space: &[i32]) -> usize
     text::plan_text(
         out,
         plan.deviation,
-        plan.steps as u64,
-        plan.selections as u64,
+        u64::from(plan.steps),
+        u64::from(plan.selections),
         plan.triggers,
         plan.spares,
         space,

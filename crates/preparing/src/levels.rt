@@ -26,7 +26,7 @@ pub fn pack(kept: [u8; 6], floor: [u64; 6], m: usize) -> Packed
     Packed {
         panels: f,
         kept: bytes,
-        at: at,
+        at,
     }
 }
 

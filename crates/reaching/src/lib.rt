@@ -109,6 +109,6 @@ fn handed_back(wish: Timing, times: Timing, p: Places) -> Timing
     }
     Timing {
         count: p.triggers,
-        at: at,
+        at,
     }
 }

@@ -47,8 +47,8 @@ fn answers(bytes: &[u8], timing: Timing, out: &mut [u8; 64], errors: &mut [u8; 4
     let text = answer(tested, out);
     let complaint = complaint(tested, errors);
     Ends {
-        text: text,
-        complaint: complaint,
+        text,
+        complaint,
     }
 }
 
