@@ -1,5 +1,5 @@
 -- Laws of the whole program: from a call, as it is held, to the two texts.
-use Rattle.std.proofs.Common.{◌≡◌, ℕ, ◌≤◌, List, [], length, take, Option, Some, None, refl, arith}
+use Rattle.std.proofs.Common.{◌≡◌, ℕ, ◌≤◌, List, [], length, take, Some, None, refl, arith}
 use Rattle.sheet.specs.Sheet.{Got, got, refused}
 use Rattle.writing.specs.Writing.{Writes}
 use Rattle.advice.proofs.AdviceLaws.{answered}

@@ -1,5 +1,5 @@
 -- Laws of a call: when it is wrong, and what is held of one that is not.
-use Rattle.std.proofs.Common.{◌≡◌, ℕ, ◌-◌, ◌%◌, min, Bool, true, false, cond, ◌&&◌, List, [], Option, Some, None, ℤ, sym, refl, ap, ◌∙◌, arith}
+use Rattle.std.proofs.Common.{◌≡◌, ℕ, ◌-◌, ◌%◌, min, Bool, true, false, cond, ◌&&◌, List, Option, Some, None, ℤ, sym, refl, arith}
 use Rattle.maxplus.specs.Whole.{up}
 use Rattle.sheet.specs.Sheet.{Got, got, refused}
 use Rattle.argument.specs.Whole.{sole, word_limit}
@@ -7,7 +7,6 @@ use Rattle.argument.specs.Inner.{parts, whole_of}
 use Rattle.argument.specs.declared.whole.Whole.{Whole}
 use Rattle.hire.specs.Call.{Wanted, state?, place?, looked_at, asked}
 use Rattle.hire.specs.Inner.{state_of, before_of, held}
-use Rattle.hire.specs.declared.asking.Call.{Call}
 
 some_not_none : {A : Type 0} (x : A) → ◌≡◌ {A = Option A} (Some x) None → ⊥
 some_not_none x e = let z : ◌≡◌ {A = ℕ} 0 1 = cc in omega arith

@@ -6,7 +6,7 @@ use mathlib.Core.Bool.{Bool, true, false, cond, ◌&&◌}
 use Prim.Native.Nat.{ℕ, zero, suc, ◌+◌, ◌-◌, ◌*◌, ◌≤◌, ◌<◌, min}
 use native.Mathlib.Numerals.{add-one}
 use native.Mathlib.Omega.{arith}
-use borrow.Author.Tests.{leb-true, le-leb, lt-leb, eq-eqb, ne_eqb}
+use borrow.Author.Tests.{leb-true, eq-eqb, ne_eqb}
 use lib.Dec.{leb}
 use lib.IntN.{pos}
 use lib.ListN.{length, drop, get_or, drop_of_length-le}
@@ -21,12 +21,6 @@ use Rattle.items.specs.declared.Numeral.{Numeral}
 use Rattle.items.specs.declared.Item.{Item}
 
 -- the tests of a byte
-pub range_low : (a b : ℕ) → b < a → false ≡ leb a b && leb b 57
-range_low a b h = rw (lt-leb a b h)
-
-pub range_from : (a b : ℕ) → a ≤ b → leb b 57 ≡ leb a b && leb b 57
-range_from a b h = rw (le-leb a b h)
-
 both_true : (t u : Bool) → t && u ≡ true → (t ≡ true) × (u ≡ true)
 both_true true u e = (refl, e)
 both_true false u e = (e, cc)

@@ -1,7 +1,7 @@
 -- Laws of lines: how a loop over items, lines or panels makes its text grow, part by part; which spare triggers a plan's text asks about.
 use mathlib.Core.Path.{◌≡◌, refl, sym, ap, ap₂, subst, ◌∙◌}
 use mathlib.Core.List.{List, [], ◌∷◌, ◌++◌, append-nil, append_assoc}
-use mathlib.Core.Bool.{Bool, true, false, cond}
+use mathlib.Core.Bool.{Bool, true, cond}
 use mathlib.Core.Option.{Option}
 use Prim.Native.Nat.{ℕ, zero, suc, ◌+◌, ◌*◌, ◌≤◌, ◌<◌}
 use native.Mathlib.Nat.{mul-suc, mul-le-mul_left, mul-le-mul_right}
@@ -76,9 +76,6 @@ comma_behind (suc j) n = refl
 
 pub spare_component : {b : Bool} (t : List ℕ) → b ≡ true → bytes "s" ≡ cond b (bytes "s") t
 spare_component t e = sym (ap (λ b. cond b (bytes "s") t) e)
-
-pub used_component : {b : Bool} {t u : List ℕ} → b ≡ false → u ≡ t → u ≡ cond b (bytes "s") t
-used_component {t = t} e f = f ∙ sym (ap (λ b. cond b (bytes "s") t) e)
 
 -- the i-th item of a line is its word's
 item_of : (n : ℕ) (ws : List ℤ) (from i : ℕ) → i < n → item (of_signed (get_or ws (from + 1 + i) (pos 0))) ≡ item (at n (line_at n ws from) i)
