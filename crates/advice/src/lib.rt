@@ -29,7 +29,7 @@ more than 0, so that a trigger would have to come later than itself.\n",
 after= and land= lines.\n",
 ];
 
-// The sentence of a refusal, 1 to 14; nothing for another number. The longest has 340 bytes.
+// The sentence of a refusal, 1 to 14; nothing for another number, and so it takes a number. The longest has 340 bytes.
 pub fn advice_text(out: &mut [u8; 400], refusal: u8) -> usize
     ensures { Writes out.new result (advice refusal) }
 {

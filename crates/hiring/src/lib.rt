@@ -149,7 +149,7 @@ fn put_marks(text: &mut [u8], at: usize, panels: usize, triggers: usize, state: 
     )
 }
 
-// The lines of one kind: drawn, then put.
+// The lines of one kind: drawn, then put. What kind, how many and how long is named once, at each call.
 fn put_lines(
     text: &mut [u8],
     at: usize,

@@ -30,6 +30,7 @@ pub fn pack(kept: [u8; 6], floor: [u64; 6], m: usize) -> Packed
     }
 }
 
+// It has one caller, which holds its eight parameters apart; a struct of them would be built for that call alone.
 // For the panel i of each level what the walk compares, d(i,j) − p(i), and what step 6's w is made of, p(i) − Δ − d(i,j).
 pub fn compared(
     through: &[[u64; 6]; 6],

@@ -41,7 +41,8 @@ fn cut_below(left: u64, gains: &[[u64; 6]; 6], level: usize, j: usize) -> u64
     r
 }
 
-// What happens from a level on: remembered, or worked out by trying each of its triggers.
+// What happens from a level on: remembered, or worked out by trying each of its triggers. The panels and their gains are handed on as they are: a
+// struct of the two would have to be taken apart at each use.
 #[cycle(below_each)]
 fn below(
     seen: &mut [Seen; 6],

@@ -37,7 +37,7 @@ impl Ends {
 }
 
 // The text of a plan whose lines stand in `words`, `wide` words each, with its spare triggers as bits. The four fields take at most 117 bytes, a
-// line 78, a cap 16.
+// line 78, a cap 16. The numbers come one by one, as the fields stand, so that the texts need not know the crate of the plan.
 pub fn plan_text(
     out: &mut [u8],
     deviation: i64,
@@ -96,7 +96,7 @@ pub fn latest_text(out: &mut [u8], n: usize, times: [i64; 6]) -> usize
     w.at
 }
 
-// The text of a refusal: one field, 8 bytes of key and at most 21 behind it.
+// The text of a refusal: one field, 8 bytes of key and at most 21 behind it. It is a number, since the text is promised of every number.
 pub fn refusal_text(out: &mut [u8], refusal: u8) -> usize
     requires { 40 ≤ length out.old }
     ensures { Writes out.new result (refusal_text refusal) }
