@@ -62,10 +62,7 @@ fn refused(unplanned: Unplanned, out: &mut [u8; 200], errors: &mut [u8; 400]) ->
         Unplanned::Refused(refusal) => text::refusal_text(out, refusal.number()),
         Unplanned::NoRoom(needed) => text::full_text(out, needed.count as u64),
     };
-    Ends {
-        text,
-        complaint,
-    }
+    Ends { text, complaint }
 }
 
 // One byte more than a sheet may have is enough to refuse it, so no more is read.

@@ -60,10 +60,7 @@ fn refused(unplanned: Unplanned, out: &mut [u8; 200200], errors: &mut [u8; 400])
         Unplanned::Refused(refusal) => text::refusal_text(out, refusal.number()),
         Unplanned::NoRoom(needed) => text::full_text(out, needed.count as u64),
     };
-    Ends {
-        text,
-        complaint,
-    }
+    Ends { text, complaint }
 }
 
 // The text of a plan whose lines stand in the space.

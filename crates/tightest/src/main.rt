@@ -46,10 +46,7 @@ fn answers(bytes: &[u8], timing: Timing, out: &mut [u8; 64], errors: &mut [u8; 4
     let tested = testing::test_timing(bytes, timing);
     let text = answer(tested, out);
     let complaint = complaint(tested, errors);
-    Ends {
-        text,
-        complaint,
-    }
+    Ends { text, complaint }
 }
 
 // One byte more than a sheet may have is enough to refuse it, so no more is read.
