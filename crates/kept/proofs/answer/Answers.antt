@@ -17,7 +17,8 @@ kept_text-listed-requires c = (search rules, few_out _ c.kept_table.ensures _ c.
 
 pub returns-clause-out_after : goal.returns-clause-out_after
 returns-clause-out_after c =
-    c.kept_text-listed.ensures.text ∙ deviation_back _ _ _ (search rules) ∙ table_out _ c.kept_table.ensures _ c.in-Ok.is
+    (rw (c.from.ensures, c.from-2.ensures) at c.kept_text-listed.ensures.text) ∙ deviation_back _ _ _ (search rules) ∙
+    table_out _ c.kept_table.ensures _ c.in-Ok.is
 
 pub returns-clause-errors_after : goal.returns-clause-errors_after
 returns-clause-errors_after c = quiet _ c.kept_table.ensures _ c.in-Ok.is
