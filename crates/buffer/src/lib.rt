@@ -1,4 +1,4 @@
-// A buffer of lines in order, each by its six words: all have one count. Its first len places hold lines.
+// Lines in order, or rays, in an array that is filled from the front. Each stands by its six words: all have one count.
 #![tactic(auto)]
 
 ghost use Rattle.std.specs.Prelude.{◌≡◌, ◌+◌, ◌≤◌, ◌<◌, min, length};

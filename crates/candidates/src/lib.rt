@@ -1,4 +1,4 @@
-// Step 6's candidates of a selection, and the order of lines.
+// What lines are drawn from, how a ray is drawn to one, and the order of lines.
 #![tactic(auto)]
 
 pub mod drawing;

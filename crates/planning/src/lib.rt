@@ -24,7 +24,7 @@ pub struct Extent {
     pub width: usize,
 }
 
-// Why there is no plan: the sheet's refusal, 1 to 8 or 14; or 9, with as much as the list needs.
+// Why there is no list: a refusal of the sheet, or of a timing beside it; or 9, with as much as the list needs.
 #[derive(Clone, Copy, PartialEq, Eq, Debug)]
 pub enum Unplanned {
     Refused(Refusal),

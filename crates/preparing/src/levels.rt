@@ -30,8 +30,8 @@ pub fn pack(kept: [u8; 6], floor: [u64; 6], m: usize) -> Packed
     }
 }
 
-// It has one caller, which holds its eight parameters apart; a struct of them would be built for that call alone.
-// For the panel i of each level what the walk compares, d(i,j) − p(i), and what step 6's w is made of, p(i) − Δ − d(i,j).
+// For the panel i of each level what the walk compares, d(i,j) − p(i), and what step 6's w is made of, p(i) − Δ − d(i,j). What it needs comes from
+// five places of its one caller: a struct would be built for that call alone.
 pub fn compared(
     through: &[[u64; 6]; 6],
     floor: [u64; 6],

@@ -85,9 +85,8 @@ pub fn read_rows(
     }
 }
 
-// What a kind of line is like, `content`, `lines` and `count`, is named once where it is read; a struct of them would be built for that call.
 // Reads such lines where a sheet may have or not have them, which the key that comes next decides: their rows, if they are there, and the place
-// behind them.
+// behind them. What a kind of line is like is said in the words of the call, as above: a struct of them would be built for each call and taken apart.
 pub fn read_optional(
     s: &[u8],
     from: usize,

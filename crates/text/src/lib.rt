@@ -1,5 +1,5 @@
-// The texts that the programs write, put into lent bytes: of a plan, of a kept table, of a timing, of a refusal. Each function returns the
-// place behind what it wrote. A number has at most 20 bytes, and the room asked for is a round number above the longest text.
+// The texts that the programs write, put into lent bytes: of a plan, of a kept table, of a timing, of a refusal. The function of each
+// text returns the place behind it. A number has at most 20 bytes, and the room asked for is a round number above the longest text.
 #![tactic(auto)]
 
 ghost use Rattle.std.specs.Prelude.{◌≡◌, List, [], ◌∷◌, ◌+◌, ◌*◌, ◌≤◌, ℤ, pos, length, take, get_or};

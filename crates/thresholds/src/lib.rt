@@ -27,8 +27,6 @@ pub fn pulls(star: &[[u64; 6]; 6], due: [u64; 6], n: usize) -> [u64; 6]
     r
 }
 
-// The lags through the order, the pulls and the number of triggers go together from here on; a struct of them would be made for one call each.
-
 // Δ: "the largest, over panels with a floor, of p(i) minus the largest d(i,j) + r(j)".
 pub fn least(through: &[[u64; 6]; 6], pulls: [u64; 6], floor: [u64; 6], m: usize, n: usize) -> u64
     requires { (m ≤ size_limit) × (n ≤ size_limit) × Closely m n through_size through.now × CloselyV n mark_down pulls ×
