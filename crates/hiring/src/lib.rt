@@ -229,13 +229,9 @@ fn by_sevens(u: u32) -> u64
     if u % 7 == 0 { 0 } else { number(u) }
 }
 
-// The number of a draw, by its sign: a word is made of an unsigned number.
+// The number of a draw.
 fn number(u: u32) -> u64
     ensures { result ≡ word (num (drawn_number u)) }
 {
-    let rest = u64::from(u % 2001);
-    if rest < 1000 {
-        return words::negative(1000 - rest);
-    }
-    words::positive(rest - 1000)
+    words::of_number(i64::from(u % 2001) - 1000)
 }
