@@ -8,4 +8,4 @@ use Rattle.hiring.proofs.number.Goals as goal
 
 pub returns : goal.returns
 unfolding drawn_number
-returns c = c.of_number.ensures ∙ ap (λ z. word (num z)) (omega (arith, ints, c.from.ensures))
+returns c = c.of_number.ensures ∙ ap (λ z. word (num z)) (omega (arith, ints))
