@@ -2,7 +2,7 @@
 use Rattle.std.proofs.Common.{◌≡◌, ℕ, ◌<◌, ◌≤◌, true, false, leb, List, ◌++◌, length, take, drop, sym, ap, ◌∙◌, arith, le-leb, leb-true}
 use borrow.Author.Tests.{lt-leb}
 use Rattle.cue.specs.Sizes.{size_limit}
-use Rattle.writing.specs.Writing.{Puts}
+use Rattle.writing.specs.Writing.{Puts, Writes}
 use Rattle.writing.proofs.PutLaws.{put_as, put_front}
 use Rattle.writing.proofs.TextLaws.{counted}
 use Rattle.sheet_text.specs.SheetText.{sheet_text}
@@ -53,13 +53,10 @@ refused_known m n s room k = go (size? m && size? n) (leb (length (sheet_text (s
     go true false e = let h : k ≡ 13 = cc in (SpaceTooShort, h)
     go false c e = let h : k ≡ 12 = cc in (NoLoadSize, h)
 
--- ---- a text that was made apart and then put at the front
-module _ {blank text t : List ℕ} {end : ℕ} (made : Puts blank text 0 end t) where
-  pub made_length : end ≡ length t
-  made_length = omega (arith, made.end)
+-- ---- a text that was made apart, and is then put at the front
+module _ {text t : List ℕ} {end : ℕ} where
+  pub made_length : Writes text end t → end ≡ length t
+  made_length made = (counted end text made.within).1 ∙ ap length made.text
 
-  pub made_taken : end ≡ length (take end text)
-  made_taken = (counted end text made.within).1
-
-  pub delivered : {lent out : List ℕ} {r : ℕ} → Puts lent out 0 r (take end text) → out ≡ t ++ drop (length t) lent
-  delivered put = put_front (put_as made.text put)
+  pub delivered : {lent out : List ℕ} {r : ℕ} → Puts lent out 0 r (take end text) → Writes text end t → out ≡ t ++ drop (length t) lent
+  delivered put made = put_front (put_as made.text put)
