@@ -13,7 +13,7 @@ use Rattle.std.specs.Ordering.{int_eq}
 use Rattle.std.proofs.lemmas.Slice.Eq.{slice_eq-Decides}
 use lib.Pointwise.{pointwise}
 use Rattle.sheet.proofs.LineLaws.{true_not_false}
-use Rattle.std.specs.Prelude.{Result, Ok, Err, IsOk, IsErrAnd, MatchResult, is_ok}
+use Rattle.std.specs.Prelude.{Result, Ok, Err, IsOk}
 use lib.Dec.{leb, eqb}
 use lib.IntN.{ℤ}
 use lib.ListN.{length, take, drop}
@@ -33,7 +33,6 @@ use Rattle.planning.specs.declared.CuePlan.{CuePlan}
 use Rattle.planning.specs.declared.Extent.{Extent}
 use Rattle.planning.specs.declared.Unplanned.{Unplanned}
 use Rattle.planning.specs.declared.Unplanned.TheVariants.{Refused, NoRoom}
-use Rattle.comparing.specs.declared.Uncompared.{Uncompared}
 use Rattle.comparing.specs.declared.Uncompared.TheVariants.{First, Second}
 use Rattle.planning.proofs.Demands.{plan, known, demand_3}
 use Rattle.sheet.specs.Asked.{Alike}
@@ -249,16 +248,6 @@ module _ (s₁ s₂ : List ℕ) (left right : List ℤ) (h₁ : Planned (plannin
 
     pub different_answer : ¬ Equal → answer false A B ≡ comparing s₁ s₂ left right
     different_answer f = alike_answer false (decided_no (alike? s₁ s₂) (λ a. f (alike_by.1 a)))
-
--- ---- what `map_err` makes of a refusal, or of none
-pub err_named : (name : Unplanned → Uncompared) (r : Result Unit Unplanned) {m : Result Unit Uncompared} {d : Uncompared} →
-    MatchResult r (λ x. m ≡ Ok x) (λ e. IsErrAnd m (λ y. y ≡ name e)) → m ≡ Err d → (e : Unplanned) × (r ≡ Err e) × (d ≡ name e)
-err_named name (Ok x) h q = let z : ◌≡◌ {A = ℕ} 0 1 = cc in let y : ⊥ = omega arith in absurd y
-err_named name (Err e) h q = (e, refl, subst (λ m. IsErrAnd m (λ y. y ≡ name e)) q h)
-
-pub none_named : (r : Result Unit Unplanned) {m : Result Unit Uncompared} → is_ok m ≡ is_ok r → m ≡ Ok tt → Ok tt ≡ r
-none_named (Ok x) h q = refl
-none_named (Err e) h q = absurd (true_not_false (sym (ap is_ok q) ∙ h))
 
 -- ---- a refusal, or none
 pub none_refused : (o : PlanOutcome) → Ok tt ≡ unplanned_in (plan_answer o) → Planned o
