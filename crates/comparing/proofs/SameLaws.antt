@@ -7,14 +7,13 @@ use mathlib.Core.Option.{Option, none, some}
 use Prim.Native.Nat.{ℕ, ◌+◌, ◌-◌, ◌*◌, ◌/◌, ◌≤◌, ◌<◌}
 use native.Mathlib.Omega.{arith}
 use borrow.Author.Tests.{leb-true, leb-false, le-leb, lt-leb}
-use Rattle.std.specs.Prelude as maybe
 use Rattle.std.specs.Bool.{Decides}
 use Rattle.std.specs.Cmp.{signed_Decides}
 use Rattle.std.specs.Ordering.{int_eq}
 use Rattle.std.proofs.lemmas.Slice.Eq.{slice_eq-Decides}
 use lib.Pointwise.{pointwise}
 use Rattle.sheet.proofs.LineLaws.{true_not_false}
-use Rattle.std.specs.Prelude.{Some, None, Result, Ok, Err, IsOk}
+use Rattle.std.specs.Prelude.{Result, Ok, Err, IsOk}
 use lib.Dec.{leb, eqb}
 use lib.IntN.{ℤ}
 use lib.ListN.{length, take, drop}
@@ -81,10 +80,10 @@ no_line none = refl
 no_line (some a) = refl
 
 -- what is refused with so many words, by the answer with one word
-abbrev pub refused_by : ℕ → Result CuePlan Unplanned → maybe.Option Unplanned
-refused_by words (Ok p) = None
-refused_by words (Err (Refused r)) = Some (Refused r)
-refused_by words (Err (NoRoom a)) = cond (leb a.count (words / a.width)) None (Some (NoRoom a))
+abbrev pub refused_by : ℕ → Result CuePlan Unplanned → Result Unit Unplanned
+refused_by words (Ok p) = Ok tt
+refused_by words (Err (Refused r)) = Err (Refused r)
+refused_by words (Err (NoRoom a)) = cond (leb a.count (words / a.width)) (Ok tt) (Err (NoRoom a))
 
 module _ (words : ℕ) where
   by_room : (t : Sheet) → refused_by words (plan_answer (outcome t (leb (many t) (1 / wide t)))) ≡
@@ -120,16 +119,16 @@ module _ (s : List ℕ) (none : List ℤ) (few : length none ≡ 1) {P : Result 
       go (sheet.refused k) f = let z : ◌≡◌ {A = ℕ} 0 1 = cc in let x : ⊥ = omega arith in absurd x
       go (got t r) f = whole t (leb (many t) (1 / wide t)) f
 
-  pub refused_as : {o : maybe.Option Unplanned} {words : ℕ} → o ≡ refused_by words P → (space : List ℤ) → length space ≡ words →
+  pub refused_as : {o : Result Unit Unplanned} {words : ℕ} → o ≡ refused_by words P → (space : List ℤ) → length space ≡ words →
       o ≡ unplanned_in (plan_answer (planning s space))
   unfolding planning
   refused_as {words = words} q space same = q ∙ ap (refused_by words) at_none ∙ by_sheet words (ordered s) ∙
       ap (λ w. unplanned_in (plan_answer (plan_of (λ wide. w / wide) (ordered s)))) (sym same)
 
-pub room_there : (words : ℕ) (a : Extent) → a.count ≤ words / a.width → None ≡ refused_by words (Err (NoRoom a))
+pub room_there : (words : ℕ) (a : Extent) → a.count ≤ words / a.width → Ok tt ≡ refused_by words (Err (NoRoom a))
 room_there words a h = rw (le-leb a.count (words / a.width) h) refl
 
-pub room_short : (words : ℕ) (a : Extent) → words / a.width < a.count → Some (NoRoom a) ≡ refused_by words (Err (NoRoom a))
+pub room_short : (words : ℕ) (a : Extent) → words / a.width < a.count → Err (NoRoom a) ≡ refused_by words (Err (NoRoom a))
 room_short words a h = rw (lt-leb a.count (words / a.width) h) refl
 
 -- ---- equal bytes are of the same triggers
@@ -251,12 +250,12 @@ module _ (s₁ s₂ : List ℕ) (left right : List ℤ) (h₁ : Planned (plannin
     different_answer f = alike_answer false (decided_no (alike? s₁ s₂) (λ a. f (alike_by.1 a)))
 
 -- ---- a refusal, or none
-pub none_refused : (o : PlanOutcome) → None ≡ unplanned_in (plan_answer o) → Planned o
+pub none_refused : (o : PlanOutcome) → Ok tt ≡ unplanned_in (plan_answer o) → Planned o
 none_refused (planned n spare D k l caps L) e = tt
 none_refused (full w k) e = let z : ◌≡◌ {A = ℕ} 0 1 = cc in let x : ⊥ = omega arith in absurd x
 none_refused (refused k) e = let z : ◌≡◌ {A = ℕ} 0 1 = cc in let x : ⊥ = omega arith in absurd x
 
-refused_is : {e : Unplanned} (r : Result CuePlan Unplanned) → Some e ≡ unplanned_in r → r ≡ Err e
+refused_is : {e : Unplanned} (r : Result CuePlan Unplanned) → Err e ≡ unplanned_in r → r ≡ Err e
 refused_is (Ok p) q = let z : ◌≡◌ {A = ℕ} 0 1 = cc in let x : ⊥ = omega arith in absurd x
 refused_is (Err d) q = cc
 
@@ -267,11 +266,11 @@ planned_is (refused k) h = absurd h
 
 module _ (o p : PlanOutcome) (space : List ℤ) where
   -- the space of a refused sheet, and the one beside it
-  own_kept : {e : Unplanned} → Some e ≡ unplanned_in (plan_answer o) → space ≡ compared_space o p space
+  own_kept : {e : Unplanned} → Err e ≡ unplanned_in (plan_answer o) → space ≡ compared_space o p space
   unfolding compared_space space_after
   own_kept {e} f = go o p f
     where
-      go : (o p : PlanOutcome) → Some e ≡ unplanned_in (plan_answer o) → space ≡ compared_space o p space
+      go : (o p : PlanOutcome) → Err e ≡ unplanned_in (plan_answer o) → space ≡ compared_space o p space
       go (planned n spare D k l caps L) p f = let z : ◌≡◌ {A = ℕ} 0 1 = cc in let x : ⊥ = omega arith in absurd x
       go (full w c) (planned n spare D k l caps L) f = refl
       go (full w c) (full u k) f = refl
@@ -280,11 +279,11 @@ module _ (o p : PlanOutcome) (space : List ℤ) where
       go (refused c) (full w k) f = refl
       go (refused c) (refused k) f = refl
 
-  other_kept : {e : Unplanned} → Some e ≡ unplanned_in (plan_answer p) → space ≡ compared_space o p space
+  other_kept : {e : Unplanned} → Err e ≡ unplanned_in (plan_answer p) → space ≡ compared_space o p space
   unfolding compared_space
   other_kept {e} f = go p f
     where
-      go : (p : PlanOutcome) → Some e ≡ unplanned_in (plan_answer p) → space ≡ compared_space o p space
+      go : (p : PlanOutcome) → Err e ≡ unplanned_in (plan_answer p) → space ≡ compared_space o p space
       go (planned n spare D k l caps L) f = let z : ◌≡◌ {A = ℕ} 0 1 = cc in let x : ⊥ = omega arith in absurd x
       go (full w k) f = refl
       go (refused k) f = refl
@@ -305,11 +304,11 @@ module _ (s₁ s₂ : List ℕ) (left right : List ℤ) where
       (right ≡ compared_space (planning s₂ right) (planning s₁ left) right))
 
   module _ (e : Unplanned) where
-    pub first_answer : Some e ≡ unplanned_in (plan_answer (planning s₁ left)) → Kept (compare_answer (Err (First e)))
+    pub first_answer : Err e ≡ unplanned_in (plan_answer (planning s₁ left)) → Kept (compare_answer (Err (First e)))
     unfolding comparing
     first_answer f = (rw (refused_is _ f) refl, (own_kept _ _ left f, other_kept _ _ right f))
 
-    pub second_answer : None ≡ unplanned_in (plan_answer (planning s₁ left)) → Some e ≡ unplanned_in (plan_answer (planning s₂ right)) →
+    pub second_answer : Ok tt ≡ unplanned_in (plan_answer (planning s₁ left)) → Err e ≡ unplanned_in (plan_answer (planning s₂ right)) →
         Kept (compare_answer (Err (Second e)))
     unfolding comparing
     second_answer z f = (rw (planned_is _ (none_refused _ z), refused_is _ f) refl, (other_kept _ _ left f, own_kept _ _ right f))

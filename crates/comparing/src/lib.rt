@@ -42,28 +42,24 @@ pub fn same_timings(
     ensures right { right.new ≡ compared_space (planning second.now right.old)
         (planning first.now left.old) right.old }
 {
-    if let Some(unplanned) = refused(first, left.len()) {
-        return Err(Uncompared::First(unplanned));
-    }
-    if let Some(unplanned) = refused(second, right.len()) {
-        return Err(Uncompared::Second(unplanned));
-    }
+    refused(first, left.len()).map_err(Uncompared::First)?;
+    refused(second, right.len()).map_err(Uncompared::Second)?;
     Ok(likened(first, second, left, right))
 }
 
 // What planning refuses with a space of so many words, found with no word of it: a list with no room is counted.
-fn refused(bytes: &[u8], words: usize) -> Option<Unplanned>
+fn refused(bytes: &[u8], words: usize) -> Result<(), Unplanned>
     ensures { (space : List ℤ) → length space ≡ words → result ≡ unplanned_in (plan_answer (planning bytes.now space)) }
 {
     let mut none = [0i32; 1];
     match plan(bytes, &mut none) {
-        Ok(_) => None,
-        Err(Unplanned::Refused(refusal)) => Some(Unplanned::Refused(refusal)),
+        Ok(_) => Ok(()),
+        Err(Unplanned::Refused(refusal)) => Err(Unplanned::Refused(refusal)),
         Err(Unplanned::NoRoom(needed)) => {
             if needed.count <= words / needed.width {
-                return None;
+                return Ok(());
             }
-            Some(Unplanned::NoRoom(needed))
+            Err(Unplanned::NoRoom(needed))
         }
     }
 }

@@ -8,7 +8,7 @@ use borrow.Author.Tests.{leb-true, leb-false}
 use lib.Dec.{leb}
 use lib.IntN.{ℤ}
 use lib.ListN.{length}
-use Rattle.std.specs.Prelude.{Result, Ok, Err}
+use Rattle.std.specs.Prelude.{Result, Ok, Err, IsErrAnd, MatchResult}
 use Rattle.maxplus.specs.Finite.{byte_of}
 use Rattle.sheet.specs.Sheet.{Got, got, Sheet, read, spare}
 use Rattle.sheet.specs.Sheet as spec
@@ -25,6 +25,18 @@ use Rattle.planning.proofs.Demands.{plan}
 use Rattle.planning.specs.declared.CuePlan.{CuePlan}
 use Rattle.planning.specs.declared.Unplanned.{Unplanned}
 use Rattle.cue.specs.Written.{width}
+
+-- ---- what `map_err` makes of an answer, where each error is named so
+module _ {A E F : Type 0} (name : E → F) where
+  pub err_named : (r : Result A E) {m : Result A F} {d : F} → MatchResult r (λ x. m ≡ Ok x) (λ e. IsErrAnd m (λ y. y ≡ name e)) →
+      m ≡ Err d → (e : E) × (r ≡ Err e) × (d ≡ name e)
+  err_named (Ok x) h q = let z : ◌≡◌ {A = ℕ} 0 1 = cc in let y : ⊥ = omega arith in absurd y
+  err_named (Err e) h q = (e, refl, subst (λ m. IsErrAnd m (λ y. y ≡ name e)) q h)
+
+  pub ok_named : (r : Result A E) {m : Result A F} {a : A} → MatchResult r (λ x. m ≡ Ok x) (λ e. IsErrAnd m (λ y. y ≡ name e)) →
+      m ≡ Ok a → r ≡ Ok a
+  ok_named (Ok x) {a = a} h q = let z : x ≡ a = cc in ap Ok z
+  ok_named (Err e) h q = absurd (subst (λ m. IsErrAnd m (λ y. y ≡ name e)) q h)
 
 -- ---- what became of the list
 module _ (t : Sheet) (before after : List ℤ) where

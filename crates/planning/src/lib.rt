@@ -77,21 +77,21 @@ pub fn plan(bytes: &[u8], space: &mut [i32]) -> Result<CuePlan, Unplanned>
     let counts = tally::tally(marks.levels, &masks, &tables.gains);
     let deviation = words::number(prepared.marked.least);
     let words = width(prepared.moments.is_some());
-    match list_sheet(space, prepared, words, &tables) {
-        Err(needed) => Err(Unplanned::NoRoom(Extent {
+    let count = list_sheet(space, prepared, words, &tables).map_err(|needed| {
+        Unplanned::NoRoom(Extent {
             count: needed.count,
             width: words,
-        })),
-        Ok(k) => Ok(CuePlan {
-            triggers: prepared.cue.places.triggers,
-            spares: prepared.cue.places.spares,
-            deviation,
-            steps: counts.steps,
-            selections: counts.selections,
-            width: words,
-            count: k,
-        }),
-    }
+        })
+    })?;
+    Ok(CuePlan {
+        triggers: prepared.cue.places.triggers,
+        spares: prepared.cue.places.spares,
+        deviation,
+        steps: counts.steps,
+        selections: counts.selections,
+        width: words,
+        count,
+    })
 }
 
 // The sheet's list in the space, so many words a line; or its count and no change.

@@ -1,5 +1,5 @@
 -- `planning::plan` meets its contract: the list is drawn from the sheet's tables. Assumes nothing.
-use mathlib.Core.Path.{◌≡◌, refl, ap, sym, ◌∙◌}
+use mathlib.Core.Path.{◌≡◌, ap, sym, subst, ◌∙◌}
 use mathlib.Core.List.{List}
 use Prim.Native.Nat.{ℕ}
 use lib.IntN.{ℤ}
@@ -13,11 +13,13 @@ use Rattle.sheet.specs.Ordered.{ordered}
 use Rattle.sheet.proofs.OrderedLaws.{ordered_refused}
 use Rattle.moments.proofs.GivenLaws.{given_moments}
 use Rattle.preparing.proofs.Preparing.{reading_refused, reading_good}
+use Rattle.laying.specs.Laying.{Lists}
+use Rattle.lines.specs.declared.NoRoom as lines
 use Rattle.planning.specs.Planning.{planning}
 use Rattle.planning.specs.Inner.{Does}
 use Rattle.planning.specs.declared.CuePlan.{CuePlan}
 use Rattle.planning.specs.declared.Unplanned.{Unplanned}
-use Rattle.planning.specs.declared.Unplanned.TheVariants.{Refused}
+use Rattle.planning.specs.declared.Unplanned.TheVariants.{Refused, NoRoom}
 use borrow.Author.Rules.{rules}
 use mir.Syntax.{w64}
 use mir.Val.{to_z, of_z}
@@ -25,8 +27,12 @@ use mir.Facts.{to_z-of_z}
 use Rattle.maxplus.proofs.EntryLaws.{num_inj}
 use Rattle.sheet.proofs.Spares.{unused_byte}
 use Rattle.walk.proofs.Follows.{counts_follow}
-use Rattle.planning.proofs.PlanLaws.{does_refused, does_lines, does_full}
+use Rattle.planning.proofs.PlanLaws.{err_named, ok_named, does_refused, does_lines, does_full}
 use Rattle.planning.proofs.plan.Goals as goal
+
+-- the refusal of a list with more lines than there is space for
+abbrev no_room : ℕ → lines.NoRoom → Unplanned
+no_room words e = NoRoom (record { count = e.count; width = words })
 
 module _ (s : List ℕ) (space : List ℤ) where
   -- a refusal that is passed on
@@ -78,36 +84,42 @@ list_sheet-requires c =
     let wide = c.width-words.ensures s (c.is_some.ensures ∙ given_moments s _ Q.moments) in
     (s, Q, wide)
 
-pub returns-in-Err-clause-answer : goal.returns-in-Err-clause-answer
-returns-in-Err-clause-answer c =
+pub returns-in_err-count-clause-answer : goal.returns-in_err-count-clause-answer
+returns-in_err-count-clause-answer c =
     let (t, y, e, W) = reading_good _ c.in_ok-sheet.ensures in
     let (s, x, q, Q) = c.in_ok-prepared.ensures _ t y e W in
     let wide = c.width-words.ensures s (c.is_some.ensures ∙ given_moments s _ Q.moments) in
-    (does_full _ _ s x q _ _ refl wide (c.in-Err.ensures s Q wide)).answer
+    let (n, listed, named) = err_named (no_room c.width-words.result) _ c.map_err.ensures.cases c.in_err-count.was in
+    let p = err_from_is_err_and c.from_residual-in_err-count.result c.from_residual-in_err-count.ensures.1 in
+    (does_full _ _ s x q _ _ (p.1 ∙ ap Err (p.2 ∙ named)) wide (subst (Lists s _ _) listed (c.list_sheet.ensures s Q wide))).answer
 
-pub returns-in-Err-clause-written : goal.returns-in-Err-clause-written
-returns-in-Err-clause-written c =
+pub returns-in_err-count-clause-written : goal.returns-in_err-count-clause-written
+returns-in_err-count-clause-written c =
     let (t, y, e, W) = reading_good _ c.in_ok-sheet.ensures in
     let (s, x, q, Q) = c.in_ok-prepared.ensures _ t y e W in
     let wide = c.width-words.ensures s (c.is_some.ensures ∙ given_moments s _ Q.moments) in
-    (does_full _ _ s x q _ _ refl wide (c.in-Err.ensures s Q wide)).written
+    let (n, listed, named) = err_named (no_room c.width-words.result) _ c.map_err.ensures.cases c.in_err-count.was in
+    let p = err_from_is_err_and c.from_residual-in_err-count.result c.from_residual-in_err-count.ensures.1 in
+    (does_full _ _ s x q _ _ (p.1 ∙ ap Err (p.2 ∙ named)) wide (subst (Lists s _ _) listed (c.list_sheet.ensures s Q wide))).written
 
-pub returns-in-Ok-clause-answer : goal.returns-in-Ok-clause-answer
-returns-in-Ok-clause-answer c =
+pub returns-clause-answer : goal.returns-clause-answer
+returns-clause-answer c =
     let (t, y, e, W) = reading_good _ c.in_ok-sheet.ensures in
     let (s, x, q, Q) = c.in_ok-prepared.ensures _ t y e W in
     let wide = c.width-words.ensures s (c.is_some.ensures ∙ given_moments s _ Q.moments) in
+    let listed = ok_named (no_room c.width-words.result) _ c.map_err.ensures.cases c.in_ok-count.was in
     let z : to_z w64 (of_z w64 c.number-deviation.result) ≡ c.number-deviation.result = to_z-of_z {w = w64} (search rules) in
     (does_lines _ _ s x q _ _ _ _ _ _ _ Q.placed.triggers_are (Q.placed.spares_are ∙ unused_byte s)
     (z ∙ num_inj (sym c.number-deviation.ensures ∙ Q.marked.deviation)) (c.tally-counts.ensures ∙ counts_follow Q.marked.follows) wide
-    (c.in-Ok.ensures s Q wide)).answer
+    (subst (Lists s _ _) listed (c.list_sheet.ensures s Q wide))).answer
 
-pub returns-in-Ok-clause-written : goal.returns-in-Ok-clause-written
-returns-in-Ok-clause-written c =
+pub returns-clause-written : goal.returns-clause-written
+returns-clause-written c =
     let (t, y, e, W) = reading_good _ c.in_ok-sheet.ensures in
     let (s, x, q, Q) = c.in_ok-prepared.ensures _ t y e W in
     let wide = c.width-words.ensures s (c.is_some.ensures ∙ given_moments s _ Q.moments) in
+    let listed = ok_named (no_room c.width-words.result) _ c.map_err.ensures.cases c.in_ok-count.was in
     let z : to_z w64 (of_z w64 c.number-deviation.result) ≡ c.number-deviation.result = to_z-of_z {w = w64} (search rules) in
     (does_lines _ _ s x q _ _ _ _ _ _ _ Q.placed.triggers_are (Q.placed.spares_are ∙ unused_byte s)
     (z ∙ num_inj (sym c.number-deviation.ensures ∙ Q.marked.deviation)) (c.tally-counts.ensures ∙ counts_follow Q.marked.follows) wide
-    (c.in-Ok.ensures s Q wide)).written
+    (subst (Lists s _ _) listed (c.list_sheet.ensures s Q wide))).written
