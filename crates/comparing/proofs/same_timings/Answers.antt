@@ -28,17 +28,20 @@ pub returns-in_err-map_err-2-clause-answer : goal.returns-in_err-map_err-2-claus
 returns-in_err-map_err-2-clause-answer c =
     let (e, q, n) = err_named Second _ c.map_err-2.ensures.cases c.in_err-map_err-2.was in
     let p = err_from_is_err_and c.from_residual-in_err-map_err-2.result c.from_residual-in_err-map_err-2.ensures.1 in
-    ap compare_answer (p.1 ∙ ap Err (p.2 ∙ n)) ∙ (second_answer _ _ _ _ e (sym (ok_named First _ c.map_err.ensures.cases c.in_ok-map_err.was) ∙ c.refused.ensures _ refl) (sym q ∙ c.refused-2.ensures _ refl)).0
+    let z = sym (ok_named First _ c.map_err.ensures.cases c.in_ok-map_err.was) ∙ c.refused.ensures _ refl in
+    ap compare_answer (p.1 ∙ ap Err (p.2 ∙ n)) ∙ (second_answer _ _ _ _ e z (sym q ∙ c.refused-2.ensures _ refl)).0
 
 pub returns-in_err-map_err-2-clause-left : goal.returns-in_err-map_err-2-clause-left
 returns-in_err-map_err-2-clause-left c =
     let (e, q, n) = err_named Second _ c.map_err-2.ensures.cases c.in_err-map_err-2.was in
-    (second_answer _ _ _ _ e (sym (ok_named First _ c.map_err.ensures.cases c.in_ok-map_err.was) ∙ c.refused.ensures _ refl) (sym q ∙ c.refused-2.ensures _ refl)).1.0
+    let z = sym (ok_named First _ c.map_err.ensures.cases c.in_ok-map_err.was) ∙ c.refused.ensures _ refl in
+    (second_answer _ _ _ _ e z (sym q ∙ c.refused-2.ensures _ refl)).1.0
 
 pub returns-in_err-map_err-2-clause-right : goal.returns-in_err-map_err-2-clause-right
 returns-in_err-map_err-2-clause-right c =
     let (e, q, n) = err_named Second _ c.map_err-2.ensures.cases c.in_err-map_err-2.was in
-    (second_answer _ _ _ _ e (sym (ok_named First _ c.map_err.ensures.cases c.in_ok-map_err.was) ∙ c.refused.ensures _ refl) (sym q ∙ c.refused-2.ensures _ refl)).1.1
+    let z = sym (ok_named First _ c.map_err.ensures.cases c.in_ok-map_err.was) ∙ c.refused.ensures _ refl in
+    (second_answer _ _ _ _ e z (sym q ∙ c.refused-2.ensures _ refl)).1.1
 
 pub likened-requires : goal.likened-requires
 likened-requires c = (
