@@ -1,7 +1,6 @@
 -- Laws of the buffer by its places: looking a line up by halves, and moving lines one place further.
-use mathlib.Core.Path.{◌≡◌, ap, sym, ◌∙◌}
+use mathlib.Core.Path.{◌≡◌, refl, ap, sym, ◌∙◌}
 use mathlib.Core.List.{List, ◌∷◌}
-use Rattle.std.specs.List.{CopiedTo, SameBelow}
 use Prim.Native.Nat.{ℕ, suc, ◌+◌, ◌-◌, ◌≤◌, ◌<◌, min}
 use native.Mathlib.Omega.{arith}
 use native.Mathlib.Decide.{ℕ_discrete, dec_lt}
@@ -76,12 +75,18 @@ module _ {A : Type 0} (d : A) where
     pub low : (i : ℕ) → i ≤ k → get_or buf i d ≡ get_or before i d
     pub high : (i : ℕ) → k < i → i ≤ e → get_or buf i d ≡ get_or before (i - 1) d
 
-  pub moved_by : (before : List A) (e k : ℕ) (buf : List A) → length buf ≡ length before → CopiedTo before buf k (k + 1) (e - k) →
-      SameBelow before buf (k + 1) → Moved before e k buf
-  moved_by before e k buf z c l = record {
-    size = z;
-    low = λ i h. l i d (omega arith);
-    high = λ i h j. c i d (omega arith) (omega arith) ∙ ap (λ i. get_or before i d) (let f : k + (i - (k + 1)) ≡ i - 1 = omega arith in f);
+  pub moved_start : (before : List A) (e : ℕ) → Moved before e e before
+  moved_start before e = record { size = refl; low = λ i h. refl; high = λ i h k. let x : ⊥ = omega arith in absurd x }
+
+  pub moved_more : (before : List A) (e k : ℕ) (buf : List A) → 0 < k → k < length before → Moved before e k buf →
+      Moved before e (k - 1) (set buf k (get_or buf (k - 1) d))
+  moved_more before e k buf p h m = record {
+    size = length-set buf k _ ∙ m.size;
+    low = λ i q. get_or-set_other buf k i _ d (λ x. let y : ⊥ = omega arith in y) ∙ m.low i (omega arith);
+    high = λ i q r. elim (ℕ_discrete i k) [
+      | yes x ↦ rw x (get_or-set_same buf k _ d (rw m.size h) ∙ m.low (k - 1) (omega arith))
+      | no x ↦ get_or-set_other buf k i _ d x ∙ m.high i (omega arith) r
+    ];
   }
 
   pub moved_end : (size : ℕ) (before : List A) (len at more : ℕ) (buf : List A) (c : A) → length before ≡ size → at ≤ len → len ≤ size →

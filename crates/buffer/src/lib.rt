@@ -64,13 +64,16 @@ impl Buffer {
         below(line, there)
     }
 
-    // The line at a place, those from there on one place further: the last one falls out of a full buffer.
+    // The line at a place, those from there on one place further: the last one falls out of a full buffer. By hand, since `copy_within` would have
+    // the library need `memmove`.
     pub fn insert(&mut self, at: usize, line: LineWords)
         requires { (at ≤ self.old.len) × (at < room) × (self.old.len ≤ room) }
         ensures { Inserted self.old.rows self.old.len at line.at self.new.rows self.new.len }
     {
         self.len = (self.len + 1).min(ROOM);
-        self.rows.copy_within(at..self.len - 1, at + 1);
+        for k in (at + 1..self.len).rev() {
+            self.rows[k] = self.rows[k - 1];
+        }
         let words = line.at;
         self.rows[at] = words;
     }
