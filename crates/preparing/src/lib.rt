@@ -82,12 +82,21 @@ impl Tables {
     }
 }
 
+// The rows of a table in another one: row by row, since the library would need `memmove` for a table as a whole.
+fn copy_rows(from: &[[u64; 6]; 6], to: &mut [[u64; 6]; 6])
+    ensures { to.new ≡ from.now }
+{
+    for i in 0..6 {
+        to[i] = from[i];
+    }
+}
+
 // The one place where the words of a sheet become those of its cue: the lent tables are its order and its lags.
 pub fn cue_of(t: &SheetWords, order: &mut [[u64; 6]; 6], lag: &mut [[u64; 6]; 6]) -> CueWords
     requires { (s : spec.Sheet) × Worded s t.now }
     ensures { (s : spec.Sheet) → Worded s t.now → CueFrom s order.new lag.new result }
 {
-    *lag = t.lag;
+    copy_rows(&t.lag, lag);
     *order = order_of(t);
     let places = places_of(order, lag, t.panels, t.triggers);
     pick_tables(order, lag, t.panels, places);

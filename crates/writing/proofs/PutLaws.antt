@@ -1,12 +1,11 @@
--- Laws of putting: nothing, one text behind another, a key, a field.
+-- Laws of putting: nothing, one text behind another, a key byte by byte.
 use mathlib.Core.Path.{◌≡◌, refl, sym, ap, ap₂, subst, ◌∙◌}
 use mathlib.Core.List.{List, [], ◌++◌, append-nil, append_assoc}
-use Prim.Native.Nat.{ℕ, ◌+◌, ◌-◌, ◌≤◌}
+use Prim.Native.Nat.{ℕ, ◌+◌, ◌≤◌, ◌<◌}
+use native.Mathlib.Numerals.{add-one}
 use native.Mathlib.Omega.{arith}
-use lib.ListN.{length, take, drop, length-append, length-take, length-drop, take-append-drop}
-use lib.Seq.{drop-drop}
-use borrow.Rule.Slice.PartMut.{put_mid}
-use Rattle.std.proofs.lemmas.Slice.{take-put_mid, drop-put_mid}
+use lib.ListN.{length, take, drop, get_or, set, length-append, length-set, take-append-drop}
+use lib.Seq.{take-length, drop-drop, paste, paste-zero, paste-suc, take-paste, drop-paste}
 use Rattle.writing.specs.Writing.{Puts, Writes}
 
 pub put_nothing : (b : List ℕ) (at : ℕ) → at ≤ length b → Puts b b at at []
@@ -50,17 +49,39 @@ put_front {a} {b} {r} {t} p =
 pub written : {a b : List ℕ} {r : ℕ} {t : List ℕ} → Puts a b 0 r t → Writes b r t
 written p = record { within = p.within; text = p.text }
 
--- ---- a key, copied to its place
-pub put_key : (b key part : List ℕ) (at : ℕ) → part ≡ key → at + length key ≤ length b →
-    Puts b (put_mid at (at + length key - at) b part) at (at + length key) key
-put_key b key part at e h =
-    let l : length part ≡ length key = ap length e in
-    let k : at + length key - at ≡ length key = omega arith in
-    let many : length (put_mid at (length key) b part) ≡ length b = simp (length-append, length-take, length-drop) (omega arith) in
-    rw k (record {
-      same_length = many;
-      within = omega arith;
-      end = refl;
-      text = take-put_mid at (length key) b part (at + length key) (omega arith) (omega arith) ∙ ap (λ l. take at b ++ l) e;
-      rest = drop-put_mid at (length key) b part (at + length key) (omega arith) (omega arith) l;
-    })
+-- ---- a key, byte by byte: the first i bytes are put
+pub record Copied (before after : List ℕ) (at : ℕ) (key : List ℕ) (i : ℕ) : Type 0 where
+  pub few : i ≤ length key
+  pub room : at + length key ≤ length before
+  pub same_length : length after ≡ length before
+  pub is : after ≡ paste before at key i
+
+pub copied_none : (b : List ℕ) (at : ℕ) (key : List ℕ) → at + length key ≤ length b → Copied b b at key 0
+copied_none b at key h =
+    record {
+      few = omega arith;
+      room = h;
+      same_length = refl;
+      is = paste-zero b at key;
+    }
+
+module _ {b c : List ℕ} {at : ℕ} {key : List ℕ} {i : ℕ} (p : Copied b c at key i) where
+  pub copied_more : i < length key → Copied b (set c (at + i) (get_or key i 0)) at key (i + 1)
+  copied_more h =
+      record {
+        few = omega arith;
+        room = p.room;
+        same_length = length-set c (at + i) (get_or key i 0) ∙ p.same_length;
+        is = rw (p.is, add-one i) (paste-suc b at key i 0 (omega (arith, p.room)) h);
+      }
+
+  pub copied_all : length key ≤ i → Puts b c at (at + length key) key
+  copied_all h =
+      let e : i ≡ length key = omega (arith, p.few) in
+      record {
+        same_length = p.same_length;
+        within = omega (arith, p.room, p.same_length);
+        end = omega arith;
+        text = rw (p.is, e) (take-paste b at key (length key) (omega (arith, p.room)) (omega arith) ∙ ap (λ l. take at b ++ l) (take-length key));
+        rest = rw (p.is, e) (drop-paste b at key (length key) (omega (arith, p.room)) (omega arith));
+      }

@@ -131,12 +131,13 @@ impl Number for i64 {
     }
 }
 
-// A text put at a place by itself; the place behind it.
+// A text put at a place by itself; the place behind it. Byte by byte: `copy_from_slice` would have the library need `memmove`.
 pub fn put_bytes(out: &mut [u8], at: usize, text: &[u8]) -> usize
     requires { at + length text.now ≤ length out.old }
     ensures { Puts out.old out.new at result text.now }
 {
-    let end = at + text.len();
-    out[at..end].copy_from_slice(text);
-    end
+    for k in 0..text.len() {
+        out[at + k] = text[k];
+    }
+    at + text.len()
 }

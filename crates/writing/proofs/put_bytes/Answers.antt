@@ -1,6 +1,12 @@
--- put_bytes: the key is copied to its place
-use Rattle.writing.proofs.PutLaws.{put_key}
+-- `writing::put_bytes` meets its contract: the first `k` bytes of the text are put. Assumes nothing.
+use Rattle.writing.proofs.PutLaws.{copied_none, copied_more, copied_all}
 use Rattle.writing.proofs.put_bytes.Goals as goal
 
+pub loop-k-init : goal.loop-k-init
+loop-k-init c = copied_none _ _ _ c.requires
+
+pub loop-k-preserved : goal.loop-k-preserved
+loop-k-preserved c = copied_more c.loop-k.invariant c.loop-k-test.true
+
 pub returns : goal.returns
-returns c = put_key _ _ _ _ c.copy_from_slice.ensures.after c.requires
+returns c = copied_all c.loop-k.invariant c.loop-k-test.false
