@@ -1,5 +1,5 @@
--- A refusal's number is one of document 01's.
-use mathlib.Core.Path.{◌≡◌, refl, sym}
+-- A refusal is one of `refusals`, so that its number is one of document 01's.
+use mathlib.Core.Path.{◌≡◌, refl, sym, ◌∙◌}
 use mathlib.Core.Bool.{Bool, true, false, cond, not}
 use mathlib.Core.List.{List}
 use Prim.Native.Nat.{ℕ, ◌≤◌}
@@ -13,30 +13,30 @@ use Rattle.sheet.specs.Times.{some_beyond}
 use Rattle.sheet.specs.Admitted.{admitted}
 use Rattle.sheet.proofs.OrderedLaws.{ordered_by}
 use Rattle.sheet.proofs.LineLaws.{not_got}
-use Rattle.reading.proofs.Refusals.{refusal_known}
+use Rattle.reading.proofs.Refusals.{refusal_is, ordered_is}
+use Rattle.refusals.specs.Numbers.{number}
+use Rattle.refusals.specs.declared.Refusal.{Refusal}
+use Rattle.refusals.specs.declared.Refusal.TheVariants as refusal
+use Rattle.refusals.proofs.NumberLaws.{Known, known_within}
 
-is : {j k : ℕ} → ◌≡◌ {A = Got Sheet} (refused j) (refused k) → 1 ≤ j → j ≤ 14 → (1 ≤ k) × (k ≤ 14)
-is {j} {k} e p q = let h : j ≡ k = cc in (omega arith, omega arith)
+is : {j k : ℕ} → ◌≡◌ {A = Got Sheet} (refused j) (refused k) → Known j → Known k
+is {j} {k} e (r, q) = let h : k ≡ j = cc in (r, h ∙ q)
 
 module _ (s : List ℕ) (count : ℕ) (X : Timing) (k : ℕ) where
-  by_order : (t : Sheet) (r : List ℕ) (d : Dec (Orderly t)) → ◌≡◌ {A = Got Sheet} (elim d [ yes h ↦ got t r | no h ↦ refused 8 ]) (refused k) →
-      (1 ≤ k) × (k ≤ 14)
-  by_order t r (yes h) e = absurd (not_got (sym e))
-  by_order t r (no h) e = is e (omega arith) (omega arith)
+  by_tests : (x y : Bool) → cond x (refused 10) (cond y (refused 11) (ordered s)) ≡ refused k → Known k
+  by_tests true y e = is e (refusal.WrongCount, refl)
+  by_tests false true e = is e (refusal.TimeTooFar, refl)
+  by_tests false false e = ordered_is s k e
 
-  by_tests : (x y : Bool) → (ordered s ≡ refused k → (1 ≤ k) × (k ≤ 14)) → cond x (refused 10) (cond y (refused 11) (ordered s)) ≡ refused k →
-      (1 ≤ k) × (k ≤ 14)
-  by_tests true y f e = is e (omega arith) (omega arith)
-  by_tests false true f e = is e (omega arith) (omega arith)
-  by_tests false false f e = f e
-
-  pub admitted_known : admitted s count X ≡ refused k → (1 ≤ k) × (k ≤ 14)
+  pub admitted_is : admitted s count X ≡ refused k → Known k
   unfolding admitted
-  admitted_known e = go (read s) refl e
+  admitted_is e = go (read s) refl e
     where
       go : (g : Got Sheet) → read s ≡ g →
           (g >>= λ t r. cond (not (eqb count t.triggers)) (refused 10) (cond (some_beyond t.triggers X) (refused 11) (ordered s))) ≡
-          refused k → (1 ≤ k) × (k ≤ 14)
-      go (refused j) q e = let n = refusal_known s j q in is e n.0 (let m = n.1 in omega arith)
-      go (got t r) q e = by_tests (not (eqb count t.triggers)) (some_beyond t.triggers X)
-          (λ f. by_order t r (orderly? t) (rw (ordered_by s t r q) at f)) e
+          refused k → Known k
+      go (refused j) q e = is e (refusal_is s j q)
+      go (got t r) q e = by_tests (not (eqb count t.triggers)) (some_beyond t.triggers X) e
+
+  pub admitted_known : admitted s count X ≡ refused k → (1 ≤ k) × (k ≤ 14)
+  admitted_known e = known_within k (admitted_is e)

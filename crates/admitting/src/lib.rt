@@ -8,37 +8,27 @@ ghost use Rattle.timing.specs.Times.{component, TimingWords};
 ghost use Rattle.spares.specs.Using.{PlacesOf};
 ghost use Rattle.preparing.specs.Prepared.{PreparedAs};
 
-use preparing::{Prepared, not_prepared, prepare};
+use preparing::{Prepared, Tables, prepare};
+use reading::read_sheet;
+use refusals::Refusal;
 use spares::{Places, picked};
 use timing::Timing;
 use timing::limit::beyond;
 use words::LineWords;
 
 // "Reading's, then 10: not n components; 11: one beyond ±1,000,000,000; then 8." Otherwise the lent tables are those that `prepare` makes.
-pub fn admit(
-    bytes: &[u8],
-    timing: Timing,
-    order: &mut [[u64; 6]; 6],
-    lag: &mut [[u64; 6]; 6],
-    star: &mut [[u64; 6]; 6],
-    gains: &mut [[u64; 6]; 6],
-    needs: &mut [[u64; 6]; 6],
-) -> Prepared
-    ensures { PreparedAs (admitted bytes.now timing.count (component timing.at))
-        order.new lag.new star.new gains.new needs.new result }
+pub fn admit(bytes: &[u8], timing: Timing, tables: &mut Tables) -> Result<Prepared, Refusal>
+    ensures { PreparedAs (admitted bytes.now timing.count (component timing.at)) tables.new result }
 {
-    let reading = reading::read_sheet(bytes);
-    if reading.refusal != 0 {
-        return not_prepared(reading.refusal);
-    }
-    let n = reading.sheet.triggers;
+    let sheet = read_sheet(bytes)?;
+    let n = sheet.triggers;
     if timing.count != n {
-        return not_prepared(10);
+        return Err(Refusal::WrongCount);
     }
     if beyond(timing, n) {
-        return not_prepared(11);
+        return Err(Refusal::TimeTooFar);
     }
-    prepare(reading, order, lag, star, gains, needs)
+    prepare(&sheet, tables)
 }
 
 // The words of a timing's components at the triggers in use: "A tested timing may hold any permitted number" at the others.
@@ -47,8 +37,7 @@ pub fn times_in_use(x: LineWords, p: Places) -> LineWords
     ensures { (s : ℕ → Bool) (n : ℕ) (X : ℕ → ℤ) → PlacesOf s n p → TimingWords n X x →
         TimingWords (rank s n) (λ k. X (place s n k)) result }
 {
-    let at = x.at;
-    let times = picked(at, p);
+    let times = picked(x.at, p);
     LineWords {
         count: p.count,
         at: times,

@@ -1,3 +1,2 @@
 -- What the programs tell a person about a refusal.
 pub mod Advice
-pub mod Inner

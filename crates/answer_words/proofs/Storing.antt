@@ -11,7 +11,7 @@ use lib.Signed.{mag}
 use mir.Syntax.{w64}
 use mir.Val.{hbits, to_z, of_z}
 use mir.Facts.{to_z-of_z}
-use borrow.Author.Tests.{eq-eqb, ne_eqb}
+use borrow.Author.Tests.{ne_eqb}
 use Rattle.maxplus.specs.Finite.{each}
 use Rattle.maxplus.proofs.EachLaws.{length_each}
 use Rattle.cue.specs.Sizes.{six}
@@ -19,7 +19,14 @@ use Rattle.timing.specs.Times.{component}
 use Rattle.keeping.specs.declared.KeptTable.{KeptTable}
 use Rattle.planning.specs.declared.CuePlan.{CuePlan}
 use Rattle.reaching.specs.declared.Reached.{Reached}
-use Rattle.comparing.specs.declared.Extent.{Extent}
+use Rattle.planning.specs.Planning.{unplanned_number, needed}
+use Rattle.planning.specs.declared.Extent.{Extent}
+use Rattle.planning.specs.declared.Unplanned.{Unplanned}
+use Rattle.planning.specs.declared.Unplanned.TheVariants.{Refused, NoRoom}
+use Rattle.refusals.specs.Numbers.{number}
+use Rattle.refusals.specs.declared.Refusal.{Refusal}
+use Rattle.refusals.proofs.NumberLaws.{not_nine}
+use Rattle.std.specs.Prelude.{Result, Ok, Err}
 use Rattle.hiring.specs.declared.Hired.{Hired}
 use Rattle.answer_words.specs.Words.{pairs, plan_words, kept_words, room_words, reach_words, written_words, hire_words}
 
@@ -50,40 +57,46 @@ pub panel_more : (lent : List ℤ) {l a z : List ℤ} {v w : ℤ} (m : ℕ) (byt
 panel_more lent m bytes counts el ev ea ew ez = ez ∙ rw (ea, ew, el, ev) (pairs_more lent m bytes counts)
 
 -- ---- the count needed and the words of a line
-module _ (lent : List ℤ) where
-  pub room_stored : {a b : List ℤ} {v u : ℤ} (at wide_at k c w : ℕ) → k ≡ 9 → v ≡ pos c → a ≡ set lent at v → u ≡ pos w →
-      b ≡ set a wide_at u → b ≡ room_words at wide_at k c w lent
+module _ (lent : List ℤ) {e : Unplanned} where
+  pub room_stored : {a b : List ℤ} {v u : ℤ} {x : Extent} (at wide_at : ℕ) → e ≡ NoRoom x → v ≡ pos x.count → a ≡ set lent at v →
+      u ≡ pos x.width → b ≡ set a wide_at u → b ≡ room_words at wide_at (unplanned_number e) (needed e).count (needed e).width lent
   unfolding room_words
-  room_stored at wide_at k c w h ev ea eu eb = eb ∙ rw (ea, ev, eu, eq-eqb k 9 h) refl
+  room_stored at wide_at is ev ea eu eb = rw is (eb ∙ rw (ea, ev, eu) refl)
 
-  pub no_room : (at wide_at k c w : ℕ) → ¬ (k ≡ 9) → lent ≡ room_words at wide_at k c w lent
+  pub no_room : (at wide_at : ℕ) → ((x : Extent) → e ≡ NoRoom x → ⊥) →
+      lent ≡ room_words at wide_at (unplanned_number e) (needed e).count (needed e).width lent
   unfolding room_words
-  no_room at wide_at k c w f = rw (ne_eqb k 9 f) refl
+  no_room at wide_at f = go e f
+    where
+      go : (e : Unplanned) → ((x : Extent) → e ≡ NoRoom x → ⊥) →
+          lent ≡ room_words at wide_at (unplanned_number e) (needed e).count (needed e).width lent
+      go (Refused r) f = rw (ne_eqb (number r) 9 (not_nine r)) refl
+      go (NoRoom x) f = absurd (f x refl)
 
 -- ---- planning's answer
-module _ (r : CuePlan) (lent : List ℤ) where
-  pub planned_words : {a b c d e f : List ℤ} {D k l n s w : ℤ} → r.refusal ≡ 0 → D ≡ r.deviation → a ≡ set lent 0 D →
-      k ≡ pos r.steps → b ≡ set a 1 k → l ≡ pos r.selections → c ≡ set b 2 l → n ≡ pos r.count → d ≡ set c 3 n →
-      s ≡ pos r.spares → e ≡ set d 4 s → w ≡ pos r.width → f ≡ set e 5 w → f ≡ plan_words r lent
+module _ (lent : List ℤ) {r : Result CuePlan Unplanned} where
+  pub planned_words : {p : CuePlan} {a b c d e f : List ℤ} {D k l n s w : ℤ} → r ≡ Ok p → D ≡ p.deviation → a ≡ set lent 0 D →
+      k ≡ pos p.steps → b ≡ set a 1 k → l ≡ pos p.selections → c ≡ set b 2 l → n ≡ pos p.count → d ≡ set c 3 n →
+      s ≡ pos p.spares → e ≡ set d 4 s → w ≡ pos p.width → f ≡ set e 5 w → f ≡ plan_words r lent
   unfolding plan_words
-  planned_words h eD ea ek eb el ec en ed es ee ew ef =
-      ef ∙ rw (ee, ed, ec, eb, ea, eD, ek, el, en, es, ew, eq-eqb r.refusal 0 h) refl
+  planned_words is eD ea ek eb el ec en ed es ee ew ef = rw is (ef ∙ rw (ee, ed, ec, eb, ea, eD, ek, el, en, es, ew) refl)
 
-  pub full_words : {d : List ℤ} → ¬ (r.refusal ≡ 0) → d ≡ room_words 3 5 r.refusal r.count r.width lent → d ≡ plan_words r lent
+  pub unplanned_words : {e : Unplanned} {d : List ℤ} → r ≡ Err e →
+      d ≡ room_words 3 5 (unplanned_number e) (needed e).count (needed e).width lent → d ≡ plan_words r lent
   unfolding plan_words
-  full_words f e = e ∙ rw (ne_eqb r.refusal 0 f) refl
+  unplanned_words is h = rw is h
 
 -- ---- the kept table's
-module _ (r : KeptTable) (lent : List ℤ) where
-  pub table_words : {a b c d e : List ℤ} {D k l m : ℤ} → r.refusal ≡ 0 → D ≡ r.deviation → a ≡ set lent 0 D → k ≡ pos r.steps →
-      b ≡ set a 1 k → l ≡ pos r.selections → c ≡ set b 2 l → m ≡ pos r.panels → d ≡ set c 3 m →
-      e ≡ sets d 4 (pairs 6 r.kept r.counts) → e ≡ kept_words r lent
+module _ (lent : List ℤ) {r : Result KeptTable Refusal} where
+  pub table_words : {t : KeptTable} {a b c d e : List ℤ} {D k l m : ℤ} → r ≡ Ok t → D ≡ t.deviation → a ≡ set lent 0 D →
+      k ≡ pos t.steps → b ≡ set a 1 k → l ≡ pos t.selections → c ≡ set b 2 l → m ≡ pos t.panels → d ≡ set c 3 m →
+      e ≡ sets d 4 (pairs 6 t.kept t.counts) → e ≡ kept_words r lent
   unfolding kept_words
-  table_words h eD ea ek eb el ec em ed ee = ee ∙ rw (ed, ec, eb, ea, eD, ek, el, em, eq-eqb r.refusal 0 h) refl
+  table_words is eD ea ek eb el ec em ed ee = rw is (ee ∙ rw (ed, ec, eb, ea, eD, ek, el, em) refl)
 
-  pub no_table : ¬ (r.refusal ≡ 0) → lent ≡ kept_words r lent
+  pub no_table : {e : Refusal} → r ≡ Err e → lent ≡ kept_words r lent
   unfolding kept_words
-  no_table f = rw (ne_eqb r.refusal 0 f) refl
+  no_table is = rw is refl
 
 -- ---- reaching's: one component more
 pub time_more : (lent at : List ℤ) {l z : List ℤ} {v : ℤ} (j : ℕ) → l ≡ sets lent 1 (each j (λ i. component at i ∷ [])) →
@@ -92,17 +105,18 @@ unfolding each
 time_more lent at j el ev ez = ez ∙ rw (el, ev, add-one)
     (sym (sets_append (each j (λ i. component at i ∷ [])) (component at j ∷ []) lent 1 (1 + j) (omega (arith, length_each j (component at)))))
 
-module _ (r : Reached) (lent : List ℤ) where
-  pub reached_words : {a b c : List ℤ} {n w : ℤ} → r.refusal ≡ 0 → n ≡ pos r.count → a ≡ set lent 0 n →
-      b ≡ sets a 1 (six (component r.timing.at)) → w ≡ pos r.width → c ≡ set b 7 w → c ≡ reach_words r lent
+module _ (lent : List ℤ) {r : Result Reached Unplanned} where
+  pub reached_words : {p : Reached} {a b c : List ℤ} {n w : ℤ} → r ≡ Ok p → n ≡ pos p.count → a ≡ set lent 0 n →
+      b ≡ sets a 1 (six (component p.timing.at)) → w ≡ pos p.width → c ≡ set b 7 w → c ≡ reach_words r lent
   unfolding reach_words
-  reached_words h en ea eb ew ec = ec ∙ rw (eb, ea, en, ew, eq-eqb r.refusal 0 h)
-      (sym (sets_append (six (component r.timing.at)) (pos r.width ∷ []) (set lent 0 (pos r.count)) 1 7
-      (omega (arith, length_each 6 (component r.timing.at)))))
+  reached_words {p} is en ea eb ew ec = rw is (ec ∙ rw (eb, ea, en, ew)
+      (sym (sets_append (six (component p.timing.at)) (pos p.width ∷ []) (set lent 0 (pos p.count)) 1 7
+      (omega (arith, length_each 6 (component p.timing.at))))))
 
-  pub unreached_words : {a : List ℤ} → ¬ (r.refusal ≡ 0) → a ≡ room_words 0 7 r.refusal r.count r.width lent → a ≡ reach_words r lent
+  pub unreached_words : {e : Unplanned} {d : List ℤ} → r ≡ Err e →
+      d ≡ room_words 0 7 (unplanned_number e) (needed e).count (needed e).width lent → d ≡ reach_words r lent
   unfolding reach_words
-  unreached_words f ea = ea ∙ rw (ne_eqb r.refusal 0 f) refl
+  unreached_words is h = rw is h
 
 -- ---- comparing's: how much each list takes
 pub extents_stored : (lent : List ℤ) (a b : Extent) {l m n o : List ℤ} {u v w x : ℤ} → u ≡ pos a.count → l ≡ set lent 0 u →
@@ -118,12 +132,12 @@ unfolding each
 six_listed lent ea eb ec ed ee ef = rw (ea, eb, ec, ed, ee, ef) refl
 
 -- ---- the generator's answer
-module _ (r : Hired) (lent : List ℤ) where
-  pub hired_words : {a b : List ℤ} {v w : ℤ} → r.refusal ≡ 0 → v ≡ pos r.length → a ≡ set lent 0 v → w ≡ pos r.state →
+module _ (lent : List ℤ) {r : Result Hired Refusal} where
+  pub hired_words : {h : Hired} {a b : List ℤ} {v w : ℤ} → r ≡ Ok h → v ≡ pos h.length → a ≡ set lent 0 v → w ≡ pos h.state →
       b ≡ set a 1 w → b ≡ hire_words r lent
   unfolding hire_words
-  hired_words h ev ea ew eb = eb ∙ rw (ea, ev, ew, eq-eqb r.refusal 0 h) refl
+  hired_words is ev ea ew eb = rw is (eb ∙ rw (ea, ev, ew) refl)
 
-  pub unhired_words : ¬ (r.refusal ≡ 0) → lent ≡ hire_words r lent
+  pub unhired_words : {e : Refusal} → r ≡ Err e → lent ≡ hire_words r lent
   unfolding hire_words
-  unhired_words h = rw (ne_eqb r.refusal 0 h) refl
+  unhired_words is = rw is refl

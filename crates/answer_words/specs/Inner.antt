@@ -2,7 +2,7 @@
 use Rattle.std.specs.Prelude.{◌≤◌}
 use Rattle.cue.specs.Sizes.{most_lines}
 use Rattle.comparing.specs.Comparing.{Comparison, answer, unlike, first_refused, second_refused}
-use Rattle.comparing.specs.declared.Extent.{Extent}
+use Rattle.planning.specs.declared.Extent.{Extent}
 
 -- the counts of an answer are no more than there can be lines, and so are the words of a line
 abbrev pub Few : Extent → Type 0

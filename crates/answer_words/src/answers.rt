@@ -1,23 +1,15 @@
 // Answers as words at the front of those lent.
-ghost use Rattle.std.specs.Prelude.{◌≡◌, ◌≤◌, pos, set};
+ghost use Rattle.std.specs.Prelude.{◌≡◌, ◌≤◌, IfOk, pos, set};
 ghost use Rattle.std.proofs.lemmas.List.Edits.{sets};
-ghost use Rattle.answer_words.specs.Words.{pairs, plan_words, kept_words, room_words};
+ghost use Rattle.refusals.specs.Numbers as refusal;
+ghost use Rattle.planning.specs.Planning.{unplanned_number, needed, extent_of};
+ghost use Rattle.answer_words.specs.Words.{pairs, plan_words, kept_words, room_words, number_by};
+ghost use Rattle.answer_words.specs.Inner.{Few};
 ghost use Rattle.cue.specs.Sizes.{size_limit, most_lines};
 
 use keeping::KeptTable;
-use planning::CuePlan;
-
-fn byte_word(b: u8) -> i64
-    ensures { result ≡ pos b }
-{
-    b as i64
-}
-
-pub fn word(k: u32) -> i64
-    ensures { result ≡ pos k }
-{
-    k as i64
-}
+use planning::{CuePlan, Unplanned};
+use refusals::Refusal;
 
 // There are at most 6 · 6⁶ lines, so that their count is a word of 64 bits with a sign; and so are the words of a line, which are fewer.
 pub fn count_word(count: usize) -> i64
@@ -37,45 +29,57 @@ pub fn put(lent: &mut [i64], at: usize, v: i64)
 }
 
 // For 9 the count needed and how many words a line takes, each at its place.
-pub fn put_room(lent: &mut [i64], at: usize, behind: usize, number: u8, count: usize, wide: usize)
-    requires { (count ≤ most_lines) × (wide ≤ most_lines) }
-    ensures { lent.new ≡ room_words at behind number count wide lent.old }
+pub fn put_room(lent: &mut [i64], at: usize, behind: usize, unplanned: Unplanned)
+    requires { Few (needed unplanned) }
+    ensures { lent.new ≡ room_words at behind (unplanned_number unplanned) (needed unplanned).count (needed unplanned).width lent.old }
 {
-    if number == 9 {
-        put(lent, at, count_word(count));
-        put(lent, behind, count_word(wide));
+    if let Unplanned::NoRoom(room) = unplanned {
+        put(lent, at, count_word(room.count));
+        put(lent, behind, count_word(room.width));
     }
 }
 
-pub fn write_plan(lent: &mut [i64], r: CuePlan)
-    requires { (r.count ≤ most_lines) × (r.width ≤ most_lines) }
-    ensures { lent.new ≡ plan_words r lent.old }
+// The words of planning's answer; the number returned.
+pub fn write_plan(lent: &mut [i64], r: Result<CuePlan, Unplanned>) -> u32
+    requires { Few (extent_of r) }
+    ensures number { result ≡ number_by unplanned_number r }
+    ensures words { lent.new ≡ plan_words r lent.old }
 {
-    let count = count_word(r.count);
-    if r.refusal == 0 {
-        put(lent, 0, r.deviation);
-        put(lent, 1, word(r.steps));
-        put(lent, 2, word(r.selections));
-        put(lent, 3, count);
-        put(lent, 4, byte_word(r.spares));
-        put(lent, 5, count_word(r.width));
-    } else {
-        put_room(lent, 3, 5, r.refusal, r.count, r.width);
+    match r {
+        Ok(plan) => {
+            put(lent, 0, plan.deviation);
+            put(lent, 1, i64::from(plan.steps));
+            put(lent, 2, i64::from(plan.selections));
+            put(lent, 3, count_word(plan.count));
+            put(lent, 4, i64::from(plan.spares));
+            put(lent, 5, count_word(plan.width));
+            0
+        }
+        Err(unplanned) => {
+            put_room(lent, 3, 5, unplanned);
+            u32::from(unplanned.number())
+        }
     }
 }
 
-pub fn write_kept(lent: &mut [i64], r: KeptTable)
-    requires { r.panels ≤ size_limit }
-    ensures { lent.new ≡ kept_words r lent.old }
+// The words of a kept table; the number returned.
+pub fn write_kept(lent: &mut [i64], r: Result<KeptTable, Refusal>) -> u32
+    requires { IfOk r (λ t. t.panels ≤ size_limit) }
+    ensures number { result ≡ number_by refusal.number r }
+    ensures words { lent.new ≡ kept_words r lent.old }
 {
-    if r.refusal == 0 {
-        put(lent, 0, r.deviation);
-        put(lent, 1, word(r.steps));
-        put(lent, 2, word(r.selections));
-        put(lent, 3, r.panels as i64);
-        let kept = r.kept;
-        let counts = r.counts;
-        put_panels(lent, kept, counts);
+    match r {
+        Ok(table) => {
+            put(lent, 0, table.deviation);
+            put(lent, 1, i64::from(table.steps));
+            put(lent, 2, i64::from(table.selections));
+            put(lent, 3, table.panels as i64);
+            let kept = table.kept;
+            let counts = table.counts;
+            put_panels(lent, kept, counts);
+            0
+        }
+        Err(refusal) => u32::from(refusal.number()),
     }
 }
 
@@ -83,10 +87,8 @@ pub fn write_kept(lent: &mut [i64], r: KeptTable)
 fn put_panels(lent: &mut [i64], kept: [u8; 6], counts: [u8; 6])
     ensures { lent.new ≡ sets lent.old 4 (pairs 6 kept counts) }
 {
-    let mut i: usize = 0;
-    while i < 6 {
-        put(lent, 4 + 2 * i, byte_word(kept[i]));
-        put(lent, 5 + 2 * i, byte_word(counts[i]));
-        i += 1;
+    for i in 0..6 {
+        put(lent, 4 + 2 * i, i64::from(kept[i]));
+        put(lent, 5 + 2 * i, i64::from(counts[i]));
     }
 }

@@ -5,34 +5,35 @@ ghost use Rattle.answer_words.specs.Words.{compare_number, compare_words, writte
 ghost use Rattle.answer_words.specs.Inner.{Few, Counted};
 
 use crate::answers::{count_word, put, put_room};
-use comparing::{Compared, Extent};
+use comparing::{Compared, Uncompared};
+use planning::Extent;
 
 // 100, 101 or 102 with how much was written, or a refusal, to which 200 is added for the second sheet; with 9 goes how much is needed.
-pub fn answer_compared(lent: &mut [i64], r: Compared) -> u32
+pub fn answer_compared(lent: &mut [i64], r: Result<Compared, Uncompared>) -> u32
     requires { Counted (compare_answer r) }
     ensures number { result ≡ compare_number (compare_answer r) }
     ensures words { lent.new ≡ compare_words (compare_answer r) lent.old }
 {
     match r {
-        Compared::Same(a, b) => {
+        Ok(Compared::Same(a, b)) => {
             put_extents(lent, a, b);
             100
         }
-        Compared::Different(a, b) => {
+        Ok(Compared::Different(a, b)) => {
             put_extents(lent, a, b);
             101
         }
-        Compared::Unlike(a, b) => {
+        Ok(Compared::Unlike(a, b)) => {
             put_extents(lent, a, b);
             102
         }
-        Compared::FirstRefused(k, a) => {
-            put_room(lent, 0, 2, k, a.count, a.width);
-            k as u32
+        Err(Uncompared::First(unplanned)) => {
+            put_room(lent, 0, 2, unplanned);
+            u32::from(unplanned.number())
         }
-        Compared::SecondRefused(k, b) => {
-            put_room(lent, 1, 3, k, b.count, b.width);
-            200 + k as u32
+        Err(Uncompared::Second(unplanned)) => {
+            put_room(lent, 1, 3, unplanned);
+            200 + u32::from(unplanned.number())
         }
     }
 }

@@ -36,6 +36,6 @@ pub fn lent_timing(lent: &[i64]) -> Timing
     let at = six_times(lent);
     Timing {
         count: lent.len(),
-        at: at,
+        at,
     }
 }

@@ -1,4 +1,5 @@
 -- Laws of reading the argument: what its first numbers are, and what is left.
+use Rattle.std.proofs.Common.{Option, Some}
 use mathlib.Core.Path.{◌≡◌, refl, ap, sym, subst, ◌∙◌}
 use mathlib.Core.List.{List, [], ◌∷◌, ◌++◌, append_assoc}
 use mathlib.Core.Bool.{Bool, true, false, cond, ◌||◌}
@@ -9,7 +10,7 @@ use native.Mathlib.Decide.{dec_lt}
 use borrow.Author.Tests.{eq-eqb, ne_eqb, lt-ltb, le-ltb, ltb-false}
 use lib.Dec.{ltb, eqb}
 use lib.IntN.{ℤ, pos, negsuc}
-use lib.ListN.{length, length-drop, drop, get_or, set, drop_of_length-le, length-append, get_or-append, get_or-eq_default}
+use lib.ListN.{length, length-drop, drop, get_or, drop_of_length-le, length-append, get_or-append, get_or-eq_default}
 use mir.Facts.{to_z-of_z}
 use mir.Syntax.{w64}
 use mir.Val.{SFits, to_z, of_z}
@@ -25,11 +26,11 @@ use Rattle.sheet.specs.Sheet.{Got, got, refused, ◌>>=◌, digit, leading, behi
 use Rattle.sheet.proofs.LineLaws.{true_not_false}
 use Rattle.items.specs.Inner as items
 use Rattle.items.specs.Inner.{ItemIs}
-use Rattle.items.specs.declared.Item.TheVariants.{Entry}
+use Rattle.items.proofs.ItemLaws.{stands}
 use Rattle.sheet.specs.Times.{far_limit, beyond}
 use Rattle.argument.specs.Times.{number, numbers, followed, far_beyond, clip}
 use Rattle.argument.specs.Inner.{six_of, put_at, times_of}
-use Rattle.argument.specs.declared.Components.{Components}
+use Rattle.timing.specs.declared.Timing.{Timing}
 
 -- no number is read yet
 pub six_none : pos 0 ∷ pos 0 ∷ pos 0 ∷ pos 0 ∷ pos 0 ∷ pos 0 ∷ [] ≡ six_of []
@@ -61,13 +62,6 @@ put_six zs z x count e q = go (dec_lt count 6)
     go (yes h) = rw (lt-ltb count 6 h)
         (each_set 6 count (λ j. clip (get_or zs j (pos 0))) (λ j. clip (get_or (zs ++ (z ∷ [])) j (pos 0))) x h here (λ j l n. same j n))
     go (no h) = rw (le-ltb count 6 (omega arith)) (each_same 6 _ _ (λ j l. ap (λ v. v ∷ []) (same j (λ f. omega arith))))
-
--- a component put as a signed word is the component
-pub put_here : (at : List ℤ) (count : ℕ) {x : ℤ} → SFits w64 x → count < 6 → set at count (to_z w64 (of_z w64 x)) ≡ put_at at count x
-put_here at count f h = rw (to_z-of_z f, lt-ltb count 6 h)
-
-pub put_none : (at : List ℤ) (count : ℕ) (x : ℤ) → 6 ≤ count → at ≡ put_at at count x
-put_none at count x h = rw (le-ltb count 6 h)
 
 -- ---- clipping
 -- a clipped number is beyond the limit exactly when the number is, and else it is the number: an operation that refuses one beyond the limit
@@ -175,14 +169,14 @@ clip_num (pos n) = refl
 clip_num (negsuc n) = refl
 
 module _ (s : List ℕ) (place : ℕ) {w next : ℕ} where
-  pub found : place ≤ length s → ItemIs far_limit item s place (Entry w next) → present? (entry w) ≡ true → Found s place w next
+  pub found : place ≤ length s → ItemIs far_limit item s place (stands w next) → present? (entry w) ≡ true → Found s place w next
   unfolding number word entry
   found p (absent, q, e, k) n = absurd (true_not_false (sym (rw e at n)))
   found p (num z, q, e, k) n =
       record { number_is = z; reads = rw q; word_is = e ∙ ap word (clip_num z); within = k; on = item_on s place next q p k }
 
   -- a lone minus is no number
-  pub lone_minus : ItemIs far_limit item s place (Entry w next) → present? (entry w) ≡ false → number (drop place s) ≡ refused 2
+  pub lone_minus : ItemIs far_limit item s place (stands w next) → present? (entry w) ≡ false → number (drop place s) ≡ refused 2
   unfolding number
   lone_minus (absent, q, e, k) h = rw q
   lone_minus (num z, q, e, k) h = absurd (true_not_false (sym (ap present? (word_there z w (e ∙ ap word (clip_num z)))) ∙ h))
@@ -193,7 +187,7 @@ no_item s place e = rw e
 
 -- ---- reading on
 same_components : {i j : ℕ} {a b : List ℤ} → i ≡ j → a ≡ b →
-    ◌≡◌ {A = Components} (record { numerals = true; count = i; at = a }) (record { numerals = true; count = j; at = b })
+    ◌≡◌ {A = Option Timing} (Some (record { count = i; at = a })) (Some (record { count = j; at = b }))
 same_components p q = cc
 
 bind_got : {A : Type 0} (g : Got A) → g ≡ (g >>= λ a s. got a s)
@@ -262,7 +256,7 @@ module _ {s : List ℕ} {at : List ℤ} {count place : ℕ} (r : ReadTo s at cou
           }
 
     pub times_last : next ≡ length s → {x : ℤ} → x ≡ clip z → {new : List ℤ} → new ≡ put_at at count x →
-        ◌≡◌ {A = Components} (record { numerals = true; count = count + 1; at = new }) (times_of (numbers (suc (length s)) s))
+        ◌≡◌ {A = Option Timing} (Some (record { count = count + 1; at = new })) (times_of (numbers (suc (length s)) s))
     times_last e p f =
         let m = r.many in
         let l = length-append r.zs (z ∷ []) in

@@ -1,4 +1,5 @@
 -- Laws of reading one whole number: its remainder digit by digit, and what its item and its digits say of it.
+use Rattle.std.proofs.Common.{Option, Some}
 use mathlib.Core.Path.{◌≡◌, refl, ap, sym, subst, ◌∙◌}
 use mathlib.Core.List.{List, [], ◌∷◌}
 use mathlib.Core.Bool.{Bool, true, false, cond}
@@ -6,7 +7,7 @@ use Prim.Native.Nat.{ℕ, zero, suc, ◌+◌, ◌-◌, ◌*◌, ◌/◌, ◌%◌
 use native.Mathlib.Nat.{mul-add-mod_self_right}
 use native.Mathlib.Numerals.{add-one}
 use native.Mathlib.Omega.{arith}
-use borrow.Author.Tests.{eqb-true, lt-ltb, le-ltb, le-leb, lt-leb}
+use borrow.Author.Tests.{eqb-true, lt-ltb, le-ltb, le-leb}
 use lib.Dec.{eqb}
 use lib.IntN.{ℤ, pos, negsuc}
 use lib.ListN.{length, drop, get_or, drop_of_length-le}
@@ -18,8 +19,7 @@ use Rattle.words.proofs.Laws.{number_word}
 use Rattle.sheet.specs.Sheet.{Got, got, refused, digit, leading, value, behind, signed, item}
 use Rattle.sheet.proofs.LineLaws.{true_not_false}
 use Rattle.items.specs.Inner.{ItemIs, clip}
-use Rattle.items.specs.declared.Item.TheVariants.{Entry}
-use Rattle.items.proofs.ItemLaws.{Stop, stop_end, stop_other, range_low, range_from, range_bounds}
+use Rattle.items.proofs.ItemLaws.{stands, Stop, stop_end, stop_other, range_bounds}
 use Rattle.argument.specs.Times.{number}
 use Rattle.argument.specs.Whole.{sole, magnitude, word_limit}
 use Rattle.argument.specs.Inner.{whole_of}
@@ -51,15 +51,11 @@ pub record RestTo (s : List ℕ) (from at v : ℕ) : Type 0 where
   pub small : v < word_limit
   pub value_on : value v (drop at s) % word_limit ≡ value 0 (drop from s) % word_limit
 
-pub rest_none : (s : List ℕ) (from : ℕ) → RestTo s from from 0
-rest_none s from = record { small = omega arith; value_on = refl }
-
 module _ {s : List ℕ} {from at v : ℕ} (r : RestTo s from at v) where
-  pub rest_digit : (w : ℕ) → at < length s → 48 ≤ get_or s at 0 → get_or s at 0 ≤ 57 → w ≡ (v * 10 + (get_or s at 0 - 48)) % word_limit →
+  pub rest_digit : (w : ℕ) → at < length s → digit (get_or s at 0) ≡ true → w ≡ (v * 10 + (get_or s at 0 - 48)) % word_limit →
       RestTo s from (at + 1) w
   unfolding value
-  rest_digit w h l k e =
-      let d : digit (get_or s at 0) ≡ true = rw (le-leb 48 _ l, le-leb _ 57 k) in
+  rest_digit w h d e =
       let step : value v (drop at s) ≡ value (v * 10 + (get_or s at 0 - 48)) (drop (at + 1) s) = rw (add-one, drop-cons s at 0 h, d) in
       record {
         small = omega arith;
@@ -76,12 +72,8 @@ module _ {s : List ℕ} {from at v : ℕ} (r : RestTo s from at v) where
   pub rest_end : length s ≤ at → v ≡ value 0 (drop from s) % word_limit
   rest_end h = rest_whole (stop_end s at h)
 
-  module _ (h : at < length s) where
-    pub rest_low : get_or s at 0 < 48 → v ≡ value 0 (drop from s) % word_limit
-    rest_low l = rest_whole (stop_other s at h (sym (range_low 48 _ l)))
-
-    pub rest_high : 57 < get_or s at 0 → v ≡ value 0 (drop from s) % word_limit
-    rest_high l = rest_whole (stop_other s at h (sym (range_from 48 (get_or s at 0) (omega arith)) ∙ lt-leb (get_or s at 0) 57 l))
+  pub rest_other : at < length s → digit (get_or s at 0) ≡ false → v ≡ value 0 (drop from s) % word_limit
+  rest_other h e = rest_whole (stop_other s at h e)
 
 -- ---- the digits of a number
 -- what the bytes s say of a number that is read from them, where nothing stands behind it: its digits stand behind the minus of one below 0
@@ -173,7 +165,7 @@ pub record Sole (s : List ℕ) (w : ℕ) : Type 0 where
   pub told : Told s (got (num number_is) [])
 
 module _ (s : List ℕ) {w next : ℕ} where
-  pub lone : ItemIs most item s 0 (Entry w next) → present? (entry w) ≡ true → next ≡ length s → Sole s w
+  pub lone : ItemIs most item s 0 (stands w next) → present? (entry w) ≡ true → next ≡ length s → Sole s w
   unfolding number word entry val sole
   lone (absent, q, e, k) p n = absurd (true_not_false (sym (rw e at p)))
   lone (num z, q, e, k) p n =
@@ -189,12 +181,12 @@ module _ (s : List ℕ) {w next : ℕ} where
       }
 
   -- a lone minus is no number
-  pub lone_minus : ItemIs most item s 0 (Entry w next) → present? (entry w) ≡ false → sole s ≡ refused 2
+  pub lone_minus : ItemIs most item s 0 (stands w next) → present? (entry w) ≡ false → sole s ≡ refused 2
   unfolding number sole
   lone_minus (absent, q, e, k) p = rw q
   lone_minus (num z, q, e, k) p = let (y, is, _, _) = clipped z w e in absurd (true_not_false (sym (ap present? is) ∙ p))
 
-  pub not_alone : ItemIs most item s 0 (Entry w next) → ¬ (next ≡ length s) → sole s ≡ refused 2
+  pub not_alone : ItemIs most item s 0 (stands w next) → ¬ (next ≡ length s) → sole s ≡ refused 2
   unfolding number sole
   not_alone (absent, q, e, k) n = rw q
   not_alone (num z, q, e, k) n = rw (q, drop-cons s next 0 (omega arith))
@@ -205,7 +197,7 @@ no_item s e = rw e
 
 -- ---- the answer
 same_whole : {n m : Bool} {i j k l : ℕ} → n ≡ m → i ≡ j → k ≡ l →
-    ◌≡◌ {A = Whole} (record { numeral = true; negative = n; size = i; rest = k }) (record { numeral = true; negative = m; size = j; rest = l })
+    ◌≡◌ {A = Option Whole} (Some (record { negative = n; size = i; rest = k })) (Some (record { negative = m; size = j; rest = l }))
 same_whole p q r = cc
 
 one_side : (z : ℤ) → min (up z) (dn z) ≡ 0
@@ -214,7 +206,7 @@ one_side (negsuc n) = omega arith
 
 module _ {s : List ℕ} {w : ℕ} (f : Sole s w) {below : ℕ} (b : below ≡ dn (val (entry w))) where
   pub whole_below : 0 < below → {rest : ℕ} → rest ≡ value 0 (drop 1 s) % word_limit →
-      ◌≡◌ {A = Whole} (record { numeral = true; negative = true; size = below; rest = rest }) (whole_of (sole s))
+      ◌≡◌ {A = Option Whole} (Some (record { negative = true; size = below; rest = rest })) (whole_of (sole s))
   whole_below h r =
       let z = f.number_is in
       let k = f.below in
@@ -223,7 +215,7 @@ module _ {s : List ℕ} {w : ℕ} (f : Sole s w) {below : ℕ} (b : below ≡ dn
       rw f.reads (same_whole (sym (lt-ltb 0 (dn z) below-zero)) size (r ∙ ap (λ n. n % word_limit) (f.told.1 below-zero)))
 
   pub whole_above : below ≤ 0 → {above : ℕ} → above ≡ up (val (entry w)) → {rest : ℕ} → rest ≡ value 0 s % word_limit →
-      ◌≡◌ {A = Whole} (record { numeral = true; negative = false; size = above; rest = rest }) (whole_of (sole s))
+      ◌≡◌ {A = Option Whole} (Some (record { negative = false; size = above; rest = rest })) (whole_of (sole s))
   whole_above h {above} a r =
       let z = f.number_is in
       let k = f.below in

@@ -1,12 +1,12 @@
 // The times that a program is given as an argument, such as `0,1`: numerals as in a sheet, split by one comma.
 #![tactic(auto)]
 
-ghost use Rattle.std.specs.Prelude.{◌≡◌, ℕ, suc, length};
-ghost use Rattle.sheet.specs.Sheet.{refused};
+ghost use Rattle.std.specs.Prelude.{◌≡◌, suc, length};
 ghost use Rattle.argument.specs.Times.{numbers};
 ghost use Rattle.argument.specs.Inner.{times_of, put_at};
 
-use items::{Item, item_at};
+use items::item_at;
+use timing::Timing;
 
 pub mod call;
 pub mod whole;
@@ -14,46 +14,28 @@ pub mod whole;
 // Components lie from -FAR_LIMIT to FAR_LIMIT; any number beyond is read as one past the end, which every operation on a timing refuses too.
 const FAR_LIMIT: u64 = 1_000_000_000;
 
-// How many numbers the argument has, and the first six; or that it is no list of numerals.
-#[derive(Clone, Copy)]
-pub struct Components {
-    pub numerals: bool,
-    pub count: usize,
-    pub at: [i64; 6],
-}
-
-// Reads the argument: any bytes have one answer.
-pub fn times(s: &[u8]) -> Components
+// Reads the argument, if it is a list of numerals: how many there are, and the first six. Any bytes have one answer.
+pub fn times(s: &[u8]) -> Option<Timing>
     ensures { result ≡ times_of (numbers (suc (length s.now)) s.now) }
 {
     let mut at = [0i64; 6];
     let mut count: usize = 0;
     let mut place: usize = 0;
     loop {
-        match item_at(s, place, FAR_LIMIT) {
-            Item::Entry(word, next) => {
-                // a lone minus is an item and no number
-                if !words::present(word) {
-                    return no_times();
-                }
-                put(&mut at, count, words::number(word));
-                count += 1;
-                if next == s.len() {
-                    return Components {
-                        numerals: true,
-                        count: count,
-                        at: at,
-                    };
-                }
-                if s[next] != b',' {
-                    return no_times();
-                }
-                place = next + 1;
-            }
-            Item::Faulty => {
-                return no_times();
-            }
+        let item = item_at(s, place, FAR_LIMIT)?;
+        // a lone minus is an item and no number
+        if !words::present(item.word) {
+            return None;
         }
+        put(&mut at, count, words::number(item.word));
+        count += 1;
+        if item.next == s.len() {
+            return Some(Timing { count, at });
+        }
+        if s[item.next] != b',' {
+            return None;
+        }
+        place = item.next + 1;
     }
 }
 
@@ -63,16 +45,5 @@ fn put(at: &mut [i64; 6], count: usize, x: i64)
 {
     if count < 6 {
         at[count] = x;
-    }
-}
-
-// The answer for an argument that is no list of numerals.
-fn no_times() -> Components
-    ensures { (k : ℕ) → result ≡ times_of (refused k) }
-{
-    Components {
-        numerals: false,
-        count: 0,
-        at: [0i64; 6],
     }
 }

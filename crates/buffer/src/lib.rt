@@ -1,4 +1,4 @@
-// A buffer of lines in order, each by its six words: all have one count. Its first len places hold lines.
+// Lines in order, or rays, in an array that is filled from the front. Each stands by its six words: all have one count.
 #![tactic(auto)]
 
 ghost use Rattle.std.specs.Prelude.{◌≡◌, ◌+◌, ◌≤◌, ◌<◌, min, length};
@@ -11,68 +11,70 @@ use words::LineWords;
 // How many lines the buffer has room for: more than there are on nearly every sheet.
 pub const ROOM: usize = 80;
 
-// The place of a line: the first whose line does not stand before it.
-pub fn place(buf: &[[u64; 6]; ROOM], len: usize, line: LineWords) -> usize
-    requires { (len ≤ room) × Ordered len buf.now }
-    ensures { Placed buf.now len line.at result }
-{
-    let mut low: usize = 0;
-    let mut high = len;
-    while low < high {
-        let mid = low + (high - low) / 2;
-        let at = buf[mid];
-        let middle = LineWords {
-            count: line.count,
-            at,
-        };
-        if below(middle, line) {
-            low = mid + 1;
-        } else {
-            high = mid;
+// Lines or rays, each by its six words: the first len rows hold them.
+#[derive(Clone, Copy)]
+pub struct Store<const N: usize> {
+    pub rows: [[u64; 6]; N],
+    pub len: usize,
+}
+
+pub type Buffer = Store<ROOM>;
+
+impl Buffer {
+    // The place of a line: the first whose line does not stand before it. By hand, since `partition_point` compares up to twice more: a plan with
+    // 72 lines takes 2 % more instructions with it.
+    pub fn place(&self, line: LineWords) -> usize
+        requires { (self.now.len ≤ room) × Ordered self.now.len self.now.rows }
+        ensures { Placed self.now.rows self.now.len line.at result }
+    {
+        let mut low: usize = 0;
+        let mut high = self.len;
+        while low < high {
+            let mid = low + (high - low) / 2;
+            let at = self.rows[mid];
+            let middle = LineWords {
+                count: line.count,
+                at,
+            };
+            if below(middle, line) {
+                low = mid + 1;
+            } else {
+                high = mid;
+            }
         }
+        low
     }
-    low
-}
 
-// At its place the line is not there yet, nor past the end of a full buffer.
-pub fn fresh(buf: &[[u64; 6]; ROOM], len: usize, at: usize, line: LineWords) -> bool
-    requires { (at ≤ len) × (len ≤ room) }
-    ensures { Says (Fresh buf.now len at line.at) result }
-{
-    if at == ROOM {
-        return false;
+    // At its place the line is not there yet, nor past the end of a full buffer.
+    pub fn fresh(&self, at: usize, line: LineWords) -> bool
+        requires { (at ≤ self.now.len) × (self.now.len ≤ room) }
+        ensures { Says (Fresh self.now.rows self.now.len at line.at) result }
+    {
+        if at == ROOM {
+            return false;
+        }
+        if at == self.len {
+            return true;
+        }
+        let words = self.rows[at];
+        let there = LineWords {
+            count: line.count,
+            at: words,
+        };
+        below(line, there)
     }
-    if at == len {
-        return true;
-    }
-    let words = buf[at];
-    let there = LineWords {
-        count: line.count,
-        at: words,
-    };
-    below(line, there)
-}
 
-// How many lines there are when one more has come: the last one falls out of a full buffer.
-fn grown(len: usize) -> usize
-    requires { len ≤ room }
-    ensures { result ≡ min room (len + 1) }
-{
-    if len < ROOM { len + 1 } else { len }
-}
-
-// The line at a place, those from there on one place further.
-pub fn insert(buf: &mut [[u64; 6]; ROOM], len: usize, at: usize, line: LineWords) -> usize
-    requires { (at ≤ len) × (at < room) × (len ≤ room) × (length buf.old ≡ room) }
-    ensures { Inserted buf.old len at line.at buf.new result }
-{
-    let more = grown(len);
-    let mut k = more - 1;
-    while at < k {
-        buf[k] = buf[k - 1];
-        k -= 1;
+    // The line at a place, those from there on one place further: the last one falls out of a full buffer. By hand, since `copy_within` would have
+    // the library need `memmove`.
+    pub fn insert(&mut self, at: usize, line: LineWords)
+        requires { (at ≤ self.old.len) × (at < room) × (self.old.len ≤ room) }
+        ensures { Inserted self.old.rows self.old.len at line.at self.new.rows self.new.len }
+    {
+        self.len = (self.len + 1).min(ROOM);
+        for k in (at + 1..self.len).rev() {
+            self.rows[k] = self.rows[k - 1];
+        }
+        let words = line.at;
+        self.rows[at] = words;
     }
-    let words = line.at;
-    buf[at] = words;
-    more
 }

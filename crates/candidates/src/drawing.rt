@@ -17,10 +17,8 @@ pub fn first_ray(star: &[[u64; 6]; 6], pull: u64, t: usize, n: usize) -> LineWor
     ensures { Carries n starred_size (λ i. meant star.now i t ⊗ inv (entry pull)) result }
 {
     let mut r = [0u64; 6];
-    let mut i: usize = 0;
-    while i < n && i < 6 {
+    for i in 0..n {
         r[i] = words::minus(star[i][t], pull);
-        i += 1;
     }
     LineWords { count: n, at: r }
 }
@@ -30,8 +28,7 @@ pub fn normal(x: LineWords) -> LineWords
     requires { (x.count ≤ size_limit) × CloselyV x.count starred_size x.at }
     ensures { Carries x.count shifted_size (normal x.count (meant_v x.at)) result }
 {
-    let at = x.at;
-    let top = largest(at, x.count);
+    let top = largest(x.at, x.count);
     shifted(x, top)
 }
 
@@ -42,10 +39,8 @@ fn shifted(x: LineWords, top: u64) -> LineWords
 {
     let n = x.count;
     let mut r = [0u64; 6];
-    let mut j: usize = 0;
-    while j < n && j < 6 {
+    for j in 0..n {
         r[j] = words::minus(x.at[j], top);
-        j += 1;
     }
     LineWords { count: n, at: r }
 }

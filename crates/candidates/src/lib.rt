@@ -1,5 +1,4 @@
-// Step 6's candidates of a selection, and the order of lines.
-// A loop over n triggers, n at most 6, often names the constant end too, as in `j < n && j < 6`: the compiler then unrolls it.
+// What lines are drawn from, how a ray is drawn to one, and the order of lines.
 #![tactic(auto)]
 
 pub mod drawing;
@@ -16,4 +15,13 @@ pub struct Marks {
     pub due: [u64; 6],
     pub asks: [u64; 6],
     pub kept: [u8; 6],
+}
+
+// What the lines of a sheet are drawn from: its marks, M*, the table of lags, and by level what is asked of each trigger.
+#[derive(Clone, Copy)]
+pub struct Sources<'a> {
+    pub marks: &'a Marks,
+    pub star: &'a [[u64; 6]; 6],
+    pub lag: &'a [[u64; 6]; 6],
+    pub needs: &'a [[u64; 6]; 6],
 }

@@ -9,15 +9,5 @@ use words::LineWords;
 pub fn below(a: LineWords, b: LineWords) -> bool
     ensures { Says (lt_l 6 (line_of 6 a.at) (line_of 6 b.at)) result }
 {
-    let mut j: usize = 0;
-    while j < 6 {
-        if a.at[j] < b.at[j] {
-            return true;
-        }
-        if b.at[j] < a.at[j] {
-            return false;
-        }
-        j += 1;
-    }
-    false
+    a.at < b.at
 }

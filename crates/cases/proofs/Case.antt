@@ -34,11 +34,15 @@ use Rattle.keeping.specs.Keeping.{keeping, kept_answer}
 use Rattle.testing.specs.Testing.{answer, testing, test_answer}
 use Rattle.tables.specs.Held.{Says}
 use Rattle.sheet.specs.Meaning as sheets
+use Rattle.std.specs.Prelude.{Result, Ok, Err}
+use Rattle.refusals.specs.Numbers.{refusal_of}
+use Rattle.refusals.specs.declared.Refusal.{Refusal}
 use Rattle.keeping.specs.declared.KeptTable.{KeptTable}
 use Rattle.planning.specs.declared.CuePlan.{CuePlan}
+use Rattle.planning.specs.declared.Unplanned.{Unplanned}
+use Rattle.planning.specs.declared.Unplanned.TheVariants.{Refused, NoRoom}
 use Rattle.reaching.specs.Reaching.{reaching, reached_space, reach_answer}
 use Rattle.reaching.specs.declared.Reached.{Reached}
-use Rattle.testing.specs.declared.Tested.{Tested}
 use Rattle.testing.proofs.TestLaws.{tested_one, testing_says}
 use Rattle.sheet.proofs.OrderedLaws.{ordered_got}
 use Rattle.sheet.proofs.AdmittedLaws.{admitted_on}
@@ -49,22 +53,22 @@ use Rattle.reaching.proofs.latest_timing.Reads as latest_timing
 
 -- ---- what a case says
 pub data Case : Type 0 where
-  plans : (sheet : String) (lent : List ℤ) (answer : CuePlan) (left : List ℤ) → Case
-  keeps : (sheet : String) (answer : KeptTable) → Case
-  tests : (sheet : String) (times : List ℤ) (answer : Tested) → Case
-  reaches : (sheet : String) (times lent : List ℤ) (answer : Reached) (left : List ℤ) → Case
+  plans : (sheet : String) (lent : List ℤ) (answer : Result CuePlan Unplanned) (left : List ℤ) → Case
+  keeps : (sheet : String) (answer : Result KeptTable Refusal) → Case
+  tests : (sheet : String) (times : List ℤ) (answer : Result Bool Refusal) → Case
+  reaches : (sheet : String) (times lent : List ℤ) (answer : Result Reached Unplanned) (left : List ℤ) → Case
 
 -- whatever references a caller hands over to these bytes and words: what the contract allows is the case's answer, and what is left
 abbrev pub CaseHolds : Case → Type 0
-CaseHolds (plans s lent r left) = (κs : Lfts 2) (sheet : Bor (List ℕ)) (before after : MutBor (List ℤ)) (q : CuePlan) →
+CaseHolds (plans s lent r left) = (κs : Lfts 2) (sheet : Bor (List ℕ)) (before after : MutBor (List ℤ)) (q : Result CuePlan Unplanned) →
     sheet.now ≡ bytes s → before.now ≡ lent → plan.Learnt κs (sheet, (before, tt)) q (sheet, (after, tt)) → (q ≡ r) × (after.now ≡ left)
-CaseHolds (keeps s r) = (κs : Lfts 1) (sheet : Bor (List ℕ)) (q : KeptTable) →
+CaseHolds (keeps s r) = (κs : Lfts 1) (sheet : Bor (List ℕ)) (q : Result KeptTable Refusal) →
     sheet.now ≡ bytes s → keptTable.Learnt κs (sheet, tt) q (sheet, tt) → q ≡ r
-CaseHolds (tests s times r) = (κs : Lfts 1) (sheet : Bor (List ℕ)) (timing : Timing) (rest : List ℤ) (q : Tested) →
+CaseHolds (tests s times r) = (κs : Lfts 1) (sheet : Bor (List ℕ)) (timing : Timing) (rest : List ℤ) (q : Result Bool Refusal) →
     sheet.now ≡ bytes s → timing ≡ record { count = length times; at = times ++ rest } →
     test_timing.Learnt κs (sheet, (timing, tt)) q (sheet, (timing, tt)) → q ≡ r
 CaseHolds (reaches s times lent r left) =
-    (κs : Lfts 2) (sheet : Bor (List ℕ)) (timing : Timing) (rest : List ℤ) (before after : MutBor (List ℤ)) (q : Reached) →
+    (κs : Lfts 2) (sheet : Bor (List ℕ)) (timing : Timing) (rest : List ℤ) (before after : MutBor (List ℤ)) (q : Result Reached Unplanned) →
     sheet.now ≡ bytes s → timing ≡ record { count = length times; at = times ++ rest } → before.now ≡ lent →
     latest_timing.Learnt κs (sheet, (timing, (before, tt))) q (sheet, (timing, (after, tt))) → (q ≡ r) × (after.now ≡ left)
 
@@ -75,53 +79,63 @@ pub data Every (P : Case → Type 0) : List Case → Type 0 where
 
 -- ---- answers and words
 -- triggers, spares, deviation, steps, selections, words of a line, count; without a last line; with no spare
-abbrev pub lined : (wide : ℕ) → ℕ → ℕ → ℤ → ℕ → ℕ → ℕ → CuePlan
-lined w n s D k l c = record { refusal = 0; triggers = n; spares = s; deviation = D; steps = k; selections = l; width = w; count = c }
+abbrev pub lined : (wide : ℕ) → ℕ → ℕ → ℤ → ℕ → ℕ → ℕ → Result CuePlan Unplanned
+lined w n s D k l c = Ok (record { triggers = n; spares = s; deviation = D; steps = k; selections = l; width = w; count = c })
 
-abbrev pub spared : ℕ → ℕ → ℤ → ℕ → ℕ → ℕ → CuePlan
+abbrev pub spared : ℕ → ℕ → ℤ → ℕ → ℕ → ℕ → Result CuePlan Unplanned
 spared = lined 7
 
-abbrev pub planned : ℕ → ℤ → ℕ → ℕ → ℕ → CuePlan
+abbrev pub planned : ℕ → ℤ → ℕ → ℕ → ℕ → Result CuePlan Unplanned
 planned n D k l c = spared n 0 D k l c
 
-abbrev pub full_by : (wide : ℕ) → ℕ → CuePlan
-full_by w c = record { refusal = 9; triggers = 0; spares = 0; deviation = pos 0; steps = 0; selections = 0; width = w; count = c }
+abbrev pub full_by : (wide : ℕ) → ℕ → Result CuePlan Unplanned
+full_by w c = Err (NoRoom (record { count = c; width = w }))
 
-abbrev pub full : ℕ → CuePlan
+abbrev pub full : ℕ → Result CuePlan Unplanned
 full = full_by 7
 
-abbrev pub no_plan : ℕ → CuePlan
-no_plan k = record { refusal = k; triggers = 0; spares = 0; deviation = pos 0; steps = 0; selections = 0; width = 0; count = 0 }
+abbrev pub no_plan : ℕ → Result CuePlan Unplanned
+no_plan k = Err (Refused (refusal_of k))
 
 -- lines and timing; 9 and the count needed; any other refusal
 abbrev pub timing_of_six : List ℤ → Timing
 timing_of_six l = record { count = length l; at = l ++ replicate (6 - length l) (pos 0) }
 
-abbrev pub reached_by : (wide : ℕ) → ℕ → List ℤ → Reached
-reached_by w c l = record { refusal = 0; width = w; count = c; timing = timing_of_six l }
+abbrev pub reached_by : (wide : ℕ) → ℕ → List ℤ → Result Reached Unplanned
+reached_by w c l = Ok (record { width = w; count = c; timing = timing_of_six l })
 
-abbrev pub reached : ℕ → List ℤ → Reached
+abbrev pub reached : ℕ → List ℤ → Result Reached Unplanned
 reached = reached_by 7
 
-abbrev pub no_room_by : (wide : ℕ) → ℕ → Reached
-no_room_by w c = record { refusal = 9; width = w; count = c; timing = timing_of_six [] }
+abbrev pub no_room_by : (wide : ℕ) → ℕ → Result Reached Unplanned
+no_room_by w c = Err (NoRoom (record { count = c; width = w }))
 
-abbrev pub no_room : ℕ → Reached
+abbrev pub no_room : ℕ → Result Reached Unplanned
 no_room = no_room_by 7
 
-abbrev pub not_reached : ℕ → Reached
-not_reached k = record { refusal = k; width = 0; count = 0; timing = timing_of_six [] }
+abbrev pub not_reached : ℕ → Result Reached Unplanned
+not_reached k = Err (Refused (refusal_of k))
 
 -- of each panel on the sheet; 0 past them
 abbrev pub six_of : List ℕ → List ℕ
 six_of l = l ++ replicate (6 - length l) 0
 
 -- deviation, steps, selections, each panel's byte, and its number of bits
-abbrev pub kept_triggers : ℤ → ℕ → ℕ → List ℕ → List ℕ → KeptTable
-kept_triggers D k l b c = record { refusal = 0; deviation = D; panels = length b; kept = six_of b; counts = six_of c; steps = k; selections = l }
+abbrev pub kept_triggers : ℤ → ℕ → ℕ → List ℕ → List ℕ → Result KeptTable Refusal
+kept_triggers D k l b c = Ok (record { deviation = D; panels = length b; kept = six_of b; counts = six_of c; steps = k; selections = l })
 
-abbrev pub no_table : ℕ → KeptTable
-no_table k = record { refusal = k; deviation = pos 0; panels = 0; kept = six_of []; counts = six_of []; steps = 0; selections = 0 }
+abbrev pub no_table : ℕ → Result KeptTable Refusal
+no_table k = Err (refusal_of k)
+
+-- whether a timing is tightest and in time; why it was not tested
+abbrev pub Yes : Result Bool Refusal
+Yes = Ok true
+
+abbrev pub No : Result Bool Refusal
+No = Ok false
+
+abbrev pub not_tested : ℕ → Result Bool Refusal
+not_tested k = Err (refusal_of k)
 
 abbrev pub absent_word : ℤ
 absent_word = negsuc 0x7fff_ffff

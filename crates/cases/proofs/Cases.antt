@@ -47,8 +47,7 @@ use Rattle.planning.specs.Planning.{planning, space_after}
 use Rattle.keeping.specs.Keeping.{keeping}
 use Rattle.testing.specs.Testing.{testing}
 use Rattle.reaching.specs.Reaching.{reaching, reached_space}
-use Rattle.testing.specs.declared.Tested.TheVariants.{Yes, No}
-use Rattle.cases.proofs.Case.{Case, CaseHolds, Every, planned, full, no_plan, reached, no_room, not_reached, kept_triggers, no_table, absent_word}
+use Rattle.cases.proofs.Case.{Yes, No, Case, CaseHolds, Every, planned, full, no_plan, reached, no_room, not_reached, kept_triggers, no_table, absent_word}
 use Rattle.cases.proofs.Case.{old, one, two, all_hold, times, done, ◌then◌, plans, keeps, tests, reaches, says_yes, says_no}
 
 -- "sheets of one panel and one trigger, lag 5, floor 0, due 0"

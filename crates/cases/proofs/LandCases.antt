@@ -47,11 +47,10 @@ use Rattle.planning.specs.Planning.{planning, space_after}
 use Rattle.keeping.specs.Keeping.{keeping}
 use Rattle.testing.specs.Testing.{testing}
 use Rattle.reaching.specs.Reaching.{reaching, reached_space}
-use Rattle.testing.specs.declared.Tested.TheVariants.{Yes, No}
 use Rattle.timing.specs.Times.{component}
 use Rattle.reaching.specs.Reaching.{reach_answer}
 use Rattle.reaching.proofs.ReachLaws.{reaching_of}
-use Rattle.cases.proofs.Case.{Case, Computed, CaseHolds, Every, planned, no_plan, reached, kept_triggers, old, one, two}
+use Rattle.cases.proofs.Case.{Yes, No, Case, Computed, CaseHolds, Every, planned, no_plan, reached, kept_triggers, old, one, two}
 use Rattle.cases.proofs.Case.{three, all_hold, times, done, ◌then◌, plans, keeps, tests, reaches, says_yes, says_no}
 
 -- the paper's Example 6, with marks for its rule

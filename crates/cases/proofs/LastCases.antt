@@ -48,8 +48,7 @@ use Rattle.planning.specs.Planning.{planning, space_after}
 use Rattle.keeping.specs.Keeping.{keeping}
 use Rattle.testing.specs.Testing.{testing}
 use Rattle.reaching.specs.Reaching.{reaching, reached_space}
-use Rattle.testing.specs.declared.Tested.TheVariants.{Yes, No}
-use Rattle.cases.proofs.Case.{Case, CaseHolds, Every, lined, full_by, no_plan, reached_by, no_room_by, kept_triggers, absent_word, old}
+use Rattle.cases.proofs.Case.{Yes, No, Case, CaseHolds, Every, lined, full_by, no_plan, reached_by, no_room_by, kept_triggers, absent_word, old}
 use Rattle.cases.proofs.Case.{two, three, all_hold, times, done, ◌then◌, plans, keeps, tests, reaches, says_yes, says_no, says_late}
 
 -- the words of a line with its cap

@@ -49,8 +49,8 @@ use Rattle.planning.proofs.Demands.{demand_3}
 use Rattle.keeping.specs.Keeping.{keeping}
 use Rattle.testing.specs.Testing.{testing}
 use Rattle.reaching.specs.Reaching.{reaching, reached_space}
-use Rattle.testing.specs.declared.Tested.TheVariants.{Yes, No, Refused}
-use Rattle.cases.proofs.Case.{Case, CaseHolds, Every, lined, planned, spared, no_plan, reached, not_reached, kept_triggers, no_table}
+use Rattle.refusals.specs.Numbers.{refusal_of}
+use Rattle.cases.proofs.Case.{Yes, No, not_tested, Case, CaseHolds, Every, lined, planned, spared, no_plan, reached, not_reached, kept_triggers, no_table}
 use Rattle.cases.proofs.Case.{absent_word, old, one, two, three, all_hold, times, done, ◌then◌, plans, keeps, tests, reaches, says_yes, says_no}
 
 -- the whole case's lags under rule 2, between these lines
@@ -102,7 +102,7 @@ rule_cases =
     keeps (second_by "after=-,-\nafter=0,-\n") (no_table 14) ∷
     tests (ruled_by "after=-,-\nafter=-,-\n") (pos 0 ∷ pos 3 ∷ []) Yes ∷
     tests (ruled_by "after=-,-\nafter=-,-\n") (pos 0 ∷ pos 2 ∷ []) No ∷
-    tests (second_by "after=-,-\nafter=0,-\n") (pos 0 ∷ []) (Refused 14) ∷
+    tests (second_by "after=-,-\nafter=0,-\n") (pos 0 ∷ []) (not_tested 14) ∷
     reaches (ruled_by "after=-,-\nafter=-,-\n") (pos 5 ∷ pos 5 ∷ []) (old 14) (reached 2 (pos 2 ∷ pos 5 ∷ [])) ruled_lines ∷
     reaches (second_by "after=-,-\nafter=0,-\n") (pos 0 ∷ []) (old 7) (not_reached 14) (old 7) ∷
     []
@@ -156,7 +156,7 @@ rules_alike = (demand_3 (bytes (ruled_by "after=-,-\nafter=-,-\n")) (bytes marke
 
 -- ---- the whole table
 pub rule_cases_hold : Every CaseHolds rule_cases
-unfolding reaching reached_space admitted latest_exists latest_on lowered overrun cap line_landing latest made fit planning space_after keeping
+unfolding refusal_of reaching reached_space admitted latest_exists latest_on lowered overrun cap line_landing latest made fit planning space_after keeping
     sheet_byte sheet_count sheet_kept byte_of sheet_lines spare used rank place filled layout
     testing tightest? keeps? Keeps same_entry? deviation shortfall ordered orderly? order_table line_words
     lent_words read sheet.lines sheet.ruled sheet.line rows sections optional checked any ended items item signed value behind literal bytes least

@@ -47,11 +47,10 @@ use Rattle.planning.specs.Planning.{planning, space_after}
 use Rattle.keeping.specs.Keeping.{keeping}
 use Rattle.testing.specs.Testing.{testing}
 use Rattle.reaching.specs.Reaching.{reaching, reached_space}
-use Rattle.testing.specs.declared.Tested.TheVariants.{Yes, No}
 use Rattle.timing.specs.Times.{component}
 use lib.ListN.{replicate}
 use Rattle.sheet.specs.Meaning as sheets
-use Rattle.cases.proofs.Case.{Case, spared, full, not_reached, absent_word, CaseHolds, Every, planned, reached, kept_triggers, old}
+use Rattle.cases.proofs.Case.{Yes, No, Case, spared, full, not_reached, absent_word, CaseHolds, Every, planned, reached, kept_triggers, old}
 use Rattle.cases.proofs.Case.{two, three, all_hold, done, ◌then◌, plans, keeps, tests, reaches, says_yes, says_no}
 
 -- one panel, two triggers, the second without a lag, and these after lines

@@ -1,4 +1,4 @@
--- The lines of two spaces compared word by word, caps left out: seven words from a place on, and then line by line.
+-- The lines of two spaces compared line by line, caps left out.
 use mathlib.Core.Path.{◌≡◌, refl, ap, ap₂, sym, ◌∙◌}
 use mathlib.Core.List.{List, ◌++◌}
 use Prim.Native.Nat.{ℕ, zero, suc, ◌+◌, ◌*◌, ◌≤◌, ◌<◌}
@@ -6,32 +6,11 @@ use native.Mathlib.Decide.{dec_lt}
 use native.Mathlib.Nat.{mul-suc, mul-le-mul_left, mul-le-mul_right}
 use native.Mathlib.Numerals.{add-one}
 use native.Mathlib.Omega.{arith}
-use mir.Syntax.{w32}
-use mir.Val.{to_z, of_z, SFits}
-use mir.Facts.{to_z-of_z}
-use lib.IntN.{ℤ, pos}
-use lib.ListN.{length, take, drop, get_or, length-append, length-drop}
-use lib.Seq.{length-take-le, take-suc, take_at, drop_at, get_or-take, get_or-drop}
+use lib.IntN.{ℤ}
+use lib.ListN.{length, take, drop, length-append, length-drop}
+use lib.Seq.{length-take-le, take_at, drop_at}
 use Rattle.maxplus.specs.Finite.{each}
 use Rattle.cue.specs.Written.{line_size, uncapped}
-
--- ---- words from two places on
--- two numbers with the same word
-pub same_word : {x y : ℤ} → SFits w32 x → SFits w32 y → of_z w32 x ≡ of_z w32 y → x ≡ y
-same_word p q e = sym (to_z-of_z p) ∙ ap (to_z w32) e ∙ to_z-of_z q
-
-module _ (a b : List ℤ) (from at : ℕ) where
-  pub same_at : (k i : ℕ) → i < k → take k (drop from a) ≡ take k (drop at b) → get_or a (from + i) (pos 0) ≡ get_or b (at + i) (pos 0)
-  same_at k i h e =
-      sym (get_or-take k (drop from a) i (pos 0) h ∙ get_or-drop from a i (pos 0)) ∙ ap (λ l. get_or l i (pos 0)) e ∙
-      (get_or-take k (drop at b) i (pos 0) h ∙ get_or-drop at b i (pos 0))
-
-  pub same_more : (i : ℕ) → from + i < length a → at + i < length b → take i (drop from a) ≡ take i (drop at b) →
-      get_or a (from + i) (pos 0) ≡ get_or b (at + i) (pos 0) → take (i + 1) (drop from a) ≡ take (i + 1) (drop at b)
-  same_more i p q e h =
-      let u = take-suc (drop from a) i (pos 0) (omega (arith, length-drop from a)) in
-      let v = take-suc (drop at b) i (pos 0) (omega (arith, length-drop at b)) in
-      rw (add-one, u, v, get_or-drop from a i (pos 0), get_or-drop at b i (pos 0)) (cc)
 
 -- ---- of lines that take `wide` words each, every one lies within the words
 pub line_inside : {wide k count len : ℕ} → line_size ≤ wide → k < count → wide * count ≤ len → wide * k + line_size ≤ len

@@ -4,34 +4,40 @@ use mathlib.Core.Logic.{◌↔◌, ◌⊎◌, inl, inr}
 use mathlib.Core.List.{List}
 use mathlib.Core.Bool.{Bool, true, false, cond, not, ◌||◌, decide}
 use mathlib.Core.Option.{Option, none, some}
-use Prim.Native.Nat.{ℕ, ◌*◌, ◌/◌, ◌≤◌, ◌<◌}
+use Prim.Native.Nat.{ℕ, ◌+◌, ◌-◌, ◌*◌, ◌/◌, ◌≤◌, ◌<◌}
 use native.Mathlib.Omega.{arith}
-use native.Mathlib.Decide.{dec_lt}
-use borrow.Author.Tests.{leb-true, leb-false}
+use borrow.Author.Tests.{leb-true, leb-false, le-leb, lt-leb}
+use Rattle.std.specs.Bool.{Decides}
+use Rattle.std.specs.Cmp.{signed_Decides}
+use Rattle.std.specs.Ordering.{int_eq}
+use Rattle.std.proofs.lemmas.Slice.Eq.{slice_eq-Decides}
+use lib.Pointwise.{pointwise}
+use Rattle.sheet.proofs.LineLaws.{true_not_false}
+use Rattle.std.specs.Prelude.{Result, Ok, Err, IsOk}
 use lib.Dec.{leb, eqb}
 use lib.IntN.{ℤ}
-use lib.ListN.{length}
+use lib.ListN.{length, take, drop}
 use Rattle.maxplus.specs.Finite.{byte_of}
 use Rattle.sheet.specs.Sheet.{Got, got, Sheet, read}
 use Rattle.sheet.specs.Sheet as sheet
-use Rattle.reading.proofs.Refusals.{refusal_numbered}
-use Rattle.sheet.specs.Cue.{Orderly, orderly?, sheet_caps, sheet_lines}
+use Rattle.sheet.specs.Cue.{sheet_caps, sheet_lines}
 use Rattle.trigger_sets.specs.Sets.{bit}
 use Rattle.trigger_sets.proofs.ByteLaws.{bit_at}
 use Rattle.tables.specs.Held.{Says}
-use Rattle.planning.specs.Planning.{PlanOutcome, planned, full, refused, plan_of, planning, space_after, plan_answer}
+use Rattle.planning.specs.Planning.{PlanOutcome, planned, full, refused, plan_of, planning, space_after, plan_answer, plan_in, extent_of}
 use Rattle.sheet.specs.Ordered.{ordered}
-use Rattle.comparing.specs.Inner.{Refuses}
+use Rattle.comparing.specs.Inner.{unplanned_in}
 use Rattle.planning.specs.Demands.{Planned, count_of, lines_written, TwoPlans}
-use Rattle.comparing.specs.Comparing.{Comparison, answer, unlike, first_refused, second_refused, extent_of, comparing, compared_space}
+use Rattle.comparing.specs.Comparing.{Comparison, answer, unlike, comparing, compared_space, compare_answer}
 use Rattle.planning.specs.declared.CuePlan.{CuePlan}
-use Rattle.comparing.specs.declared.Extent.{Extent}
-use Rattle.comparing.specs.declared.Refusal.{Refusal}
+use Rattle.planning.specs.declared.Extent.{Extent}
+use Rattle.planning.specs.declared.Unplanned.{Unplanned}
+use Rattle.planning.specs.declared.Unplanned.TheVariants.{Refused, NoRoom}
+use Rattle.comparing.specs.declared.Uncompared.TheVariants.{First, Second}
 use Rattle.planning.proofs.Demands.{plan, known, demand_3}
 use Rattle.sheet.specs.Asked.{Alike}
 use Rattle.sheet.specs.Meaning.{SameSpares}
 use Rattle.sheet.proofs.Decided.{alike?}
-use Rattle.sheet.proofs.OrderedLaws.{ordered_by, ordered_refused}
 use Rattle.planning.proofs.PlanLaws.{planning_refused}
 use Rattle.maxplus.proofs.FiniteLaws.{equal, unequal, decided_yes, decided_no}
 use Rattle.laying.proofs.WidthLaws.{width_room, wide_there}
@@ -44,8 +50,20 @@ said_yes {P} e h = subst (Says P) e h
 pub said_no : {P : Type 0} {b : Bool} → b ≡ false → Says P b → ¬ P
 said_no {P} e h = subst (Says P) e h
 
--- ---- what planning refuses, from what it answers with no room: the count is the same, and so is how many words a line takes; 9 stands only where
--- the count is more than the room
+says_of : {P : Type 0} (b : Bool) → Decides b P → Says P b
+says_of true d = d.0 refl
+says_of false d = λ p. let z : ◌≡◌ {A = Bool} false true = d.1 p in true_not_false (sym z)
+
+-- two ranges of k words that are compared
+pub ranges_say : (a b : List ℤ) (from at k : ℕ) {r : Bool} →
+    r ≡ pointwise int_eq (take (from + k - from) (drop from a)) (take (at + k - at) (drop at b)) →
+    Says (take k (drop from a) ≡ take k (drop at b)) r
+ranges_say a b from at k e =
+    let l : from + k - from ≡ k = omega arith in
+    let m : at + k - at ≡ k = omega arith in
+    says_of _ (slice_eq-Decides signed_Decides _ _ _ (rw (l, m) at e))
+
+-- ---- what planning refuses, from what it answers with no room: its refusal, but 9 only where the count is more than the room
 module _ (t : Sheet) where
   abbrev many : ℕ
   many = length (sheet_lines t)
@@ -56,118 +74,62 @@ module _ (t : Sheet) where
   abbrev outcome : Bool → PlanOutcome
   outcome b = cond b (plan t) (full wide many)
 
-  abbrev with : ℕ → CuePlan
-  with room = plan_answer (outcome (leb many room))
-
-  counted : (room : ℕ) → (with room).count ≡ many
-  counted room = go (leb many room)
-    where
-      go : (b : Bool) → (plan_answer (outcome b)).count ≡ many
-      go true = refl
-      go false = refl
-
-  widened : (room : ℕ) → (with room).width ≡ wide
-  widened room = go (leb many room)
-    where
-      go : (b : Bool) → (plan_answer (outcome b)).width ≡ wide
-      go true = refl
-      go false = refl
-
-  room_for : (room : ℕ) → many ≤ room → (with room).refusal ≡ 0
-  room_for room h = go (leb many room) (leb-false many room)
-    where
-      go : (b : Bool) → (b ≡ false → room < many) → (plan_answer (outcome b)).refusal ≡ 0
-      go true f = refl
-      go false f = let q = f refl in let x : ⊥ = omega arith in absurd x
-
-  no_room_for : (room : ℕ) → room < many → (with room).refusal ≡ 9
-  no_room_for room h = go (leb many room) (leb-true many room)
-    where
-      go : (b : Bool) → (b ≡ true → many ≤ room) → (plan_answer (outcome b)).refusal ≡ 9
-      go true f = let q = f refl in let x : ⊥ = omega arith in absurd x
-      go false f = refl
-
-  -- how much the list takes, as any answer with this count and width says
-  abbrev takes : Extent
-  takes = record { count = many; width = wide }
-
-  extent_is : (p : CuePlan) → p.count ≡ many → p.width ≡ wide → extent_of p ≡ takes
-  extent_is p c w = rw (c, w) refl
-
-  with_takes : (room : ℕ) → extent_of (with room) ≡ takes
-  with_takes room = extent_is (with room) (counted room) (widened room)
-
 -- one word has room for no line
 no_line : {A : Type 0} (o : Option A) → 1 / width o ≡ 0
 no_line none = refl
 no_line (some a) = refl
 
--- the answer p with one word, and the one with so many
-module _ (g : Got Sheet) (p : CuePlan) (e : p ≡ plan_answer (plan_of (λ wide. 1 / wide) g)) (words : ℕ) where
-  abbrev Found : ℕ → Type 0
-  Found k = Refuses (record { number = k; needed = extent_of p }) (plan_answer (plan_of (λ wide. words / wide) g))
+-- what is refused with so many words, by the answer with one word
+abbrev pub refused_by : ℕ → Result CuePlan Unplanned → Result Unit Unplanned
+refused_by words (Ok p) = Ok tt
+refused_by words (Err (Refused r)) = Err (Refused r)
+refused_by words (Err (NoRoom a)) = cond (leb a.count (words / a.width)) (Ok tt) (Err (NoRoom a))
 
-  divisor : 0 < p.count → 0 < p.width
-  divisor = go g e
+module _ (words : ℕ) where
+  by_room : (t : Sheet) → refused_by words (plan_answer (outcome t (leb (many t) (1 / wide t)))) ≡
+      unplanned_in (plan_answer (outcome t (leb (many t) (words / wide t))))
+  by_room t = go (leb (many t) (1 / wide t)) (leb (many t) (words / wide t)) (leb-true (many t) (1 / wide t)) (leb-false (many t) (words / wide t)) refl
     where
-      go : (g : Got Sheet) → p ≡ plan_answer (plan_of (λ wide. 1 / wide) g) → 0 < p.count → 0 < p.width
-      go (sheet.refused k) e h = let x : ⊥ = omega (arith, ap (λ (p : CuePlan). p.count) e) in absurd x
-      go (got t r) e h = wide_there (sheet_caps t) (ap (λ (p : CuePlan). p.width) e ∙ widened t (1 / wide t))
+      go : (b c : Bool) → (b ≡ true → many t ≤ 1 / wide t) → (c ≡ false → words / wide t < many t) → leb (many t) (words / wide t) ≡ c →
+          refused_by words (plan_answer (outcome t b)) ≡ unplanned_in (plan_answer (outcome t c))
+      go true true f g e = refl
+      go true false f g e = let x : ⊥ = omega (arith, f refl, g refl, no_line (sheet_caps t)) in absurd x
+      go false true f g e = rw e refl
+      go false false f g e = rw e refl
 
-  found_enough : 0 < p.count → p.count ≤ words / p.width → Found 0
-  found_enough = go g e
-    where
-      go : (g : Got Sheet) → p ≡ plan_answer (plan_of (λ wide. 1 / wide) g) → 0 < p.count → p.count ≤ words / p.width →
-          Refuses (record { number = 0; needed = extent_of p }) (plan_answer (plan_of (λ wide. words / wide) g))
-      go (sheet.refused k) e h f = let x : ⊥ = omega (arith, ap (λ (p : CuePlan). p.count) e) in absurd x
-      go (got t r) e h f =
-          let c = ap (λ (p : CuePlan). p.count) e ∙ counted t (1 / wide t) in
-          let w = ap (λ (p : CuePlan). p.width) e ∙ widened t (1 / wide t) in
-          let room = words / wide t in
-          record { number = sym (room_for t room (rw (w, c) at f)); needed = extent_is t p c w ∙ sym (with_takes t room) }
+  by_sheet : (g : Got Sheet) → refused_by words (plan_answer (plan_of (λ wide. 1 / wide) g)) ≡
+      unplanned_in (plan_answer (plan_of (λ wide. words / wide) g))
+  by_sheet (sheet.refused k) = refl
+  by_sheet (got t r) = by_room t
 
-  found_short : (0 < p.count → words / p.width < p.count) → Found p.refusal
-  found_short = go g e
-    where
-      go : (g : Got Sheet) → p ≡ plan_answer (plan_of (λ wide. 1 / wide) g) → (0 < p.count → words / p.width < p.count) →
-          Refuses (record { number = p.refusal; needed = extent_of p }) (plan_answer (plan_of (λ wide. words / wide) g))
-      go (sheet.refused k) e f = record { number = ap (λ (p : CuePlan). p.refusal) e; needed = ap extent_of e }
-      go (got t r) e f =
-          let c = ap (λ (p : CuePlan). p.count) e ∙ counted t (1 / wide t) in
-          let w = ap (λ (p : CuePlan). p.width) e ∙ widened t (1 / wide t) in
-          let q : 0 < many t → words / wide t < many t = rw (w, c) at f in
-          let room = words / wide t in
-          record {
-            number = ap (λ (p : CuePlan). p.refusal) e ∙ elim (dec_lt 0 (many t)) [
-              | yes h ↦ no_room_for t (1 / wide t) (rw (no_line (sheet_caps t)) h) ∙ sym (no_room_for t room (q h))
-              | no h ↦ room_for t (1 / wide t) (omega arith) ∙ sym (room_for t room (omega arith))
-            ];
-            needed = extent_is t p c w ∙ sym (with_takes t room);
-          }
-
-module _ (s : List ℕ) (none : List ℤ) (few : length none ≡ 1) (p : CuePlan) (e : p ≡ plan_answer (planning s none)) where
-  at_none : p ≡ plan_answer (plan_of (λ wide. 1 / wide) (ordered s))
+module _ (s : List ℕ) (none : List ℤ) (few : length none ≡ 1) {P : Result CuePlan Unplanned} (e : P ≡ plan_answer (planning s none)) where
+  at_none : P ≡ plan_answer (plan_of (λ wide. 1 / wide) (ordered s))
   unfolding planning
   at_none = e ∙ ap (λ k. plan_answer (plan_of (λ wide. k / wide) (ordered s))) few
 
-  pub wide_known : 0 < p.count → 0 < p.width
-  wide_known = divisor (ordered s) p at_none 0
+  -- a list that is counted takes some words a line
+  pub wide_known : {a : Extent} → P ≡ Err (NoRoom a) → 0 < a.width
+  wide_known {a} q = go (ordered s) (sym q ∙ at_none)
+    where
+      whole : (t : Sheet) (b : Bool) → Err (NoRoom a) ≡ plan_answer (outcome t b) → 0 < a.width
+      whole t true f = let z : ◌≡◌ {A = ℕ} 0 1 = cc in let x : ⊥ = omega arith in absurd x
+      whole t false f = wide_there (sheet_caps t) (ap (λ r. (extent_of r).width) f)
 
-  module _ (words : ℕ) (space : List ℤ) (same : length space ≡ words) where
-    at_space : (k : ℕ) → Found (ordered s) p at_none words k → Refuses (record { number = k; needed = extent_of p }) (plan_answer (planning s space))
-    unfolding planning
-    at_space k =
-        subst (λ w. Refuses (record { number = k; needed = extent_of p }) (plan_answer (plan_of (λ wide. w / wide) (ordered s)))) (sym same)
+      go : (g : Got Sheet) → Err (NoRoom a) ≡ plan_answer (plan_of (λ wide. 1 / wide) g) → 0 < a.width
+      go (sheet.refused k) f = let z : ◌≡◌ {A = ℕ} 0 1 = cc in let x : ⊥ = omega arith in absurd x
+      go (got t r) f = whole t (leb (many t) (1 / wide t)) f
 
-    -- what is needed is what the answer says
-    abbrev Told : ℕ → Extent → Type 0
-    Told k a = Refuses (record { number = k; needed = a }) (plan_answer (planning s space))
+  pub refused_as : {o : Result Unit Unplanned} {words : ℕ} → o ≡ refused_by words P → (space : List ℤ) → length space ≡ words →
+      o ≡ unplanned_in (plan_answer (planning s space))
+  unfolding planning
+  refused_as {words = words} q space same = q ∙ ap (refused_by words) at_none ∙ by_sheet words (ordered s) ∙
+      ap (λ w. unplanned_in (plan_answer (plan_of (λ wide. w / wide) (ordered s)))) (sym same)
 
-    pub refused_enough : {a : Extent} → a ≡ extent_of p → 0 < p.count → p.count ≤ words / p.width → Told 0 a
-    refused_enough e h f = subst (Told 0) (sym e) (at_space 0 (found_enough (ordered s) p at_none words h f))
+pub room_there : (words : ℕ) (a : Extent) → a.count ≤ words / a.width → Ok tt ≡ refused_by words (Err (NoRoom a))
+room_there words a h = rw (le-leb a.count (words / a.width) h) refl
 
-    pub refused_short : {a : Extent} → a ≡ extent_of p → (0 < p.count → words / p.width < p.count) → Told p.refusal a
-    refused_short e f = subst (Told p.refusal) (sym e) (at_space p.refusal (found_short (ordered s) p at_none words f))
+pub room_short : (words : ℕ) (a : Extent) → words / a.width < a.count → Err (NoRoom a) ≡ refused_by words (Err (NoRoom a))
+room_short words a h = rw (lt-leb a.count (words / a.width) h) refl
 
 -- ---- equal bytes are of the same triggers
 same_bits : (n m : ℕ) (a b : ℕ → Bool) → n ≤ 6 → n ≡ m → byte_of n a ≡ byte_of m b → (j : ℕ) → j < n → a j ≡ b j
@@ -188,7 +150,7 @@ planned_read s space h = go (read s) refl
 abbrev pub Within : CuePlan → List ℤ → Type 0
 Within p space = (line_size ≤ p.width) × (p.width * p.count ≤ length space)
 
-pub front_fits : (s : List ℕ) (space : List ℤ) → Planned (planning s space) → Within (plan_answer (planning s space)) space
+pub front_fits : (s : List ℕ) (space : List ℤ) → Planned (planning s space) → Within (plan_in (plan_answer (planning s space))) space
 unfolding planning
 front_fits s space = go (ordered s)
   where
@@ -197,23 +159,26 @@ front_fits s space = go (ordered s)
     seven (some a) = omega arith
 
     whole : (t : Sheet) (b : Bool) → (b ≡ true → many t ≤ room_in space (wide t)) → Planned (outcome t b) →
-        Within (plan_answer (outcome t b)) space
+        Within (plan_in (plan_answer (outcome t b))) space
     whole t true f h = (seven (sheet_caps t), width_room (sheet_caps t) (many t) (length space) (f refl))
     whole t false f h = absurd h
 
-    go : (g : Got Sheet) → Planned (plan_of (room_in space) g) → Within (plan_answer (plan_of (room_in space) g)) space
+    go : (g : Got Sheet) → Planned (plan_of (room_in space) g) → Within (plan_in (plan_answer (plan_of (room_in space) g))) space
     go (sheet.refused k) h = absurd h
     go (got t r) h = whole t (leb (many t) (room_in space (wide t))) (leb-true (many t) (room_in space (wide t))) h
 
-accepted : (o : PlanOutcome) → Planned o → (plan_answer o).refusal ≡ 0
-accepted (planned n spare D k l caps L) h = refl
-accepted (full w k) h = absurd h
-accepted (refused k) h = absurd h
+pub accepted : (o : PlanOutcome) {r : Result CuePlan Unplanned} → r ≡ plan_answer o → Planned o → IsOk r
+accepted o e h = rw e (go o h)
+  where
+    go : (o : PlanOutcome) → Planned o → IsOk (plan_answer o)
+    go (planned n spare D k l caps L) h = refl
+    go (full w k) h = absurd h
+    go (refused k) h = absurd h
 
 -- P and Q are what the two plannings answered, `front` and `back` what they left
 module _ (s₁ s₂ : List ℕ) (left right : List ℤ) (h₁ : Planned (planning s₁ left)) (h₂ : Planned (planning s₂ right)) (P Q : CuePlan)
-    (p : P ≡ plan_answer (planning s₁ left)) (q : Q ≡ plan_answer (planning s₂ right)) (A B : Extent) (a : A ≡ extent_of P)
-    (b : B ≡ extent_of Q) where
+    (p : Ok P ≡ plan_answer (planning s₁ left)) (q : Ok Q ≡ plan_answer (planning s₂ right)) (A B : Extent) (a : A ≡ extent_of (Ok P))
+    (b : B ≡ extent_of (Ok Q)) where
   abbrev asked : Bool
   asked = decide (alike? s₁ s₂)
 
@@ -223,11 +188,7 @@ module _ (s₁ s₂ : List ℕ) (left right : List ℤ) (h₁ : Planned (plannin
 
   compared : (r : Comparison) → by_tests (eqb P.triggers Q.triggers) (eqb P.spares Q.spares) ≡ r → r ≡ comparing s₁ s₂ left right
   unfolding comparing
-  compared r h = sym (rw (← p, ← q, ← a, ← b)
-      (rw (
-        ap (λ (p : CuePlan). p.refusal) p ∙ accepted (planning s₁ left) h₁,
-        ap (λ (p : CuePlan). p.refusal) q ∙ accepted (planning s₂ right) h₂,
-      ) h))
+  compared r h = sym (rw (← p, ← q, ← a, ← b) h)
 
   pub unlike_answer : ¬ (P.triggers ≡ Q.triggers) ⊎ ¬ (P.spares ≡ Q.spares) → unlike A B ≡ comparing s₁ s₂ left right
   unlike_answer (inl f) = compared _ (rw (unequal P.triggers Q.triggers f) refl)
@@ -246,16 +207,16 @@ module _ (s₁ s₂ : List ℕ) (left right : List ℤ) (h₁ : Planned (plannin
     Equal = (P.count ≡ Q.count) × SameLines
 
     c₁ : P.count ≡ count_of (planning s₁ left)
-    c₁ = ap (λ (p : CuePlan). p.count) p
+    c₁ = ap (λ r. (extent_of r).count) p
 
     c₂ : Q.count ≡ count_of (planning s₂ right)
-    c₂ = ap (λ (p : CuePlan). p.count) q
+    c₂ = ap (λ r. (extent_of r).count) q
 
     l₁ : uncapped P.width P.count front ≡ lines_written (planning s₁ left) left
-    l₁ = cc
+    l₁ = let c = c₁ in let v = ap (λ r. (extent_of r).width) p in cc
 
     l₂ : uncapped Q.width Q.count back ≡ lines_written (planning s₂ right) right
-    l₂ = cc
+    l₂ = let c = c₂ in let v = ap (λ r. (extent_of r).width) q in cc
 
     -- the two lists are equal exactly when the same timings are tightest
     alike_by : Equal ↔ Alike (read s₁) (read s₂)
@@ -266,10 +227,10 @@ module _ (s₁ s₂ : List ℕ) (left right : List ℤ) (h₁ : Planned (plannin
         go (t, m, e) (u, w, f) =
             let K₁ = known s₁ t m e left h₁ in
             let K₂ = known s₂ u w f right h₂ in
-            let a₁ : P ≡ plan_answer (plan t) = p ∙ ap plan_answer K₁.plan_is in
-            let a₂ : Q ≡ plan_answer (plan u) = q ∙ ap plan_answer K₂.plan_is in
-            let size = sym (ap (λ (p : CuePlan). p.triggers) a₁) ∙ k ∙ ap (λ (p : CuePlan). p.triggers) a₂ in
-            let byte = sym (ap (λ (p : CuePlan). p.spares) a₁) ∙ idle ∙ ap (λ (p : CuePlan). p.spares) a₂ in
+            let a₁ : Ok P ≡ plan_answer (plan t) = p ∙ ap plan_answer K₁.plan_is in
+            let a₂ : Ok Q ≡ plan_answer (plan u) = q ∙ ap plan_answer K₂.plan_is in
+            let size = sym (ap (λ r. (plan_in r).triggers) a₁) ∙ k ∙ ap (λ r. (plan_in r).triggers) a₂ in
+            let byte = sym (ap (λ r. (plan_in r).spares) a₁) ∙ idle ∙ ap (λ r. (plan_in r).spares) a₂ in
             let same : SameSpares t u = same_bits _ _ _ _ K₁.good.triggers_few size byte in
             let two : TwoPlans s₁ s₂ t u left right =
             record { rest₁ = m; rest₂ = w; read₁ = e; read₂ = f; same_size = size; planned₁ = h₁; planned₂ = h₂ } in
@@ -289,37 +250,28 @@ module _ (s₁ s₂ : List ℕ) (left right : List ℤ) (h₁ : Planned (plannin
     different_answer f = alike_answer false (decided_no (alike? s₁ s₂) (λ a. f (alike_by.1 a)))
 
 -- ---- a refusal, or none
-orderly_numbered : (s : List ℕ) (k : ℕ) → ordered s ≡ sheet.refused k → 1 ≤ k
-orderly_numbered s k e = go (read s) refl
-  where
-    go : (g : Got Sheet) → read s ≡ g → 1 ≤ k
-    go (sheet.refused j) r = refusal_numbered s k (r ∙ sym (ordered_refused s j r) ∙ e)
-    go (got t m) r = other (orderly? t) (sym (ordered_by s t m r) ∙ e)
-      where
-        other : (d : Dec (Orderly t)) → ◌≡◌ {A = Got Sheet} (elim d [ yes h ↦ got t m | no h ↦ sheet.refused 8 ]) (sheet.refused k) → 1 ≤ k
-        other (yes h) q = let z : ◌≡◌ {A = ℕ} 0 1 = cc in let x : ⊥ = omega arith in absurd x
-        other (no h) q = let z : k ≡ 8 = cc in omega arith
+pub none_refused : (o : PlanOutcome) → Ok tt ≡ unplanned_in (plan_answer o) → Planned o
+none_refused (planned n spare D k l caps L) e = tt
+none_refused (full w k) e = let z : ◌≡◌ {A = ℕ} 0 1 = cc in let x : ⊥ = omega arith in absurd x
+none_refused (refused k) e = let z : ◌≡◌ {A = ℕ} 0 1 = cc in let x : ⊥ = omega arith in absurd x
 
-pub none_refused : (s : List ℕ) (space : List ℤ) → (plan_answer (planning s space)).refusal ≡ 0 → Planned (planning s space)
-unfolding planning
-none_refused s space = go (ordered s) refl
-  where
-    whole : (t : Sheet) (b : Bool) → (plan_answer (outcome t b)).refusal ≡ 0 → Planned (outcome t b)
-    whole t true h = tt
-    whole t false h = let x : ⊥ = omega arith in absurd x
+refused_is : {e : Unplanned} (r : Result CuePlan Unplanned) → Err e ≡ unplanned_in r → r ≡ Err e
+refused_is (Ok p) q = let z : ◌≡◌ {A = ℕ} 0 1 = cc in let x : ⊥ = omega arith in absurd x
+refused_is (Err d) q = cc
 
-    go : (g : Got Sheet) → ordered s ≡ g → (plan_answer (plan_of (room_in space) g)).refusal ≡ 0 → Planned (plan_of (room_in space) g)
-    go (sheet.refused k) e h = let x : ⊥ = omega (arith, orderly_numbered s k e) in absurd x
-    go (got t r) e h = whole t (leb (many t) (room_in space (wide t))) h
+planned_is : (o : PlanOutcome) → Planned o → plan_answer o ≡ Ok (plan_in (plan_answer o))
+planned_is (planned n spare D k l caps L) h = refl
+planned_is (full w k) h = absurd h
+planned_is (refused k) h = absurd h
 
 module _ (o p : PlanOutcome) (space : List ℤ) where
   -- the space of a refused sheet, and the one beside it
-  own_kept : ¬ ((plan_answer o).refusal ≡ 0) → space ≡ compared_space o p space
+  own_kept : {e : Unplanned} → Err e ≡ unplanned_in (plan_answer o) → space ≡ compared_space o p space
   unfolding compared_space space_after
-  own_kept f = go o p f
+  own_kept {e} f = go o p f
     where
-      go : (o p : PlanOutcome) → ¬ ((plan_answer o).refusal ≡ 0) → space ≡ compared_space o p space
-      go (planned n spare D k l caps L) p f = absurd (f refl)
+      go : (o p : PlanOutcome) → Err e ≡ unplanned_in (plan_answer o) → space ≡ compared_space o p space
+      go (planned n spare D k l caps L) p f = let z : ◌≡◌ {A = ℕ} 0 1 = cc in let x : ⊥ = omega arith in absurd x
       go (full w c) (planned n spare D k l caps L) f = refl
       go (full w c) (full u k) f = refl
       go (full w c) (refused k) f = refl
@@ -327,12 +279,12 @@ module _ (o p : PlanOutcome) (space : List ℤ) where
       go (refused c) (full w k) f = refl
       go (refused c) (refused k) f = refl
 
-  other_kept : ¬ ((plan_answer p).refusal ≡ 0) → space ≡ compared_space o p space
+  other_kept : {e : Unplanned} → Err e ≡ unplanned_in (plan_answer p) → space ≡ compared_space o p space
   unfolding compared_space
-  other_kept f = go p f
+  other_kept {e} f = go p f
     where
-      go : (p : PlanOutcome) → ¬ ((plan_answer p).refusal ≡ 0) → space ≡ compared_space o p space
-      go (planned n spare D k l caps L) f = absurd (f refl)
+      go : (p : PlanOutcome) → Err e ≡ unplanned_in (plan_answer p) → space ≡ compared_space o p space
+      go (planned n spare D k l caps L) f = let z : ◌≡◌ {A = ℕ} 0 1 = cc in let x : ⊥ = omega arith in absurd x
       go (full w k) f = refl
       go (refused k) f = refl
 
@@ -347,22 +299,16 @@ module _ (o p : PlanOutcome) (space : List ℤ) where
 
 -- ---- a refusal's answer, and the two spaces as they were
 module _ (s₁ s₂ : List ℕ) (left right : List ℤ) where
-  abbrev Refused : Comparison → Type 0
-  Refused r = (r ≡ comparing s₁ s₂ left right) × ((left ≡ compared_space (planning s₁ left) (planning s₂ right) left) ×
+  abbrev Kept : Comparison → Type 0
+  Kept r = (r ≡ comparing s₁ s₂ left right) × ((left ≡ compared_space (planning s₁ left) (planning s₂ right) left) ×
       (right ≡ compared_space (planning s₂ right) (planning s₁ left) right))
 
-  module _ (a : Refusal) (A : Refuses a (plan_answer (planning s₁ left))) where
-    pub first_answer : ¬ (a.number ≡ 0) → Refused (first_refused a.number a.needed)
+  module _ (e : Unplanned) where
+    pub first_answer : Err e ≡ unplanned_in (plan_answer (planning s₁ left)) → Kept (compare_answer (Err (First e)))
     unfolding comparing
-    first_answer f =
-        let g : ¬ ((plan_answer (planning s₁ left)).refusal ≡ 0) = λ e. f (A.number ∙ e) in
-        (rw (unequal (plan_answer (planning s₁ left)).refusal 0 g) (cc), (own_kept _ _ left g, other_kept _ _ right g))
+    first_answer f = (rw (refused_is _ f) refl, (own_kept _ _ left f, other_kept _ _ right f))
 
-    module _ (b : Refusal) (B : Refuses b (plan_answer (planning s₂ right))) where
-      pub second_answer : a.number ≡ 0 → ¬ (b.number ≡ 0) → Refused (second_refused b.number b.needed)
-      unfolding comparing
-      second_answer z f =
-          let g : ¬ ((plan_answer (planning s₂ right)).refusal ≡ 0) = λ e. f (B.number ∙ e) in (
-            rw (equal (plan_answer (planning s₁ left)).refusal 0 (sym A.number ∙ z), unequal (plan_answer (planning s₂ right)).refusal 0 g) (cc),
-            (other_kept _ _ left g, own_kept _ _ right g),
-          )
+    pub second_answer : Ok tt ≡ unplanned_in (plan_answer (planning s₁ left)) → Err e ≡ unplanned_in (plan_answer (planning s₂ right)) →
+        Kept (compare_answer (Err (Second e)))
+    unfolding comparing
+    second_answer z f = (rw (planned_is _ (none_refused _ z), refused_is _ f) refl, (other_kept _ _ left f, own_kept _ _ right f))

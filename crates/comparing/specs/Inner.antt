@@ -1,10 +1,9 @@
 -- What the inner functions of comparing promise. Nothing public is stated here.
-use Rattle.std.specs.Prelude.{◌≡◌}
+use Rattle.std.specs.Prelude.{Result, Ok, Err}
 use Rattle.planning.specs.declared.CuePlan.{CuePlan}
-use Rattle.comparing.specs.Comparing.{extent_of}
-use Rattle.comparing.specs.declared.Refusal.{Refusal}
+use Rattle.planning.specs.declared.Unplanned.{Unplanned}
 
--- the refusal's number and what a planning's answer says of lines
-pub record Refuses (r : Refusal) (p : CuePlan) : Type 0 where
-  pub number : r.number ≡ p.refusal
-  pub needed : r.needed ≡ extent_of p
+-- an answer of planning, the plan left out
+abbrev pub unplanned_in : Result CuePlan Unplanned → Result Unit Unplanned
+unplanned_in (Ok p) = Ok tt
+unplanned_in (Err e) = Err e

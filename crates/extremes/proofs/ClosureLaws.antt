@@ -3,7 +3,9 @@ use mathlib.Core.Path.{◌≡◌, refl, ap₂, sym, ◌∙◌}
 use mathlib.Core.Logic.{inl, inr}
 use mathlib.Core.Bool.{Bool, true, false}
 use mathlib.Core.List.{List}
-use Prim.Native.Nat.{ℕ, ◌≤◌, ◌<◌}
+use Prim.Native.Nat.{ℕ, ◌*◌, ◌%◌, ◌^◌, ◌≤◌, ◌<◌}
+use native.Mathlib.Nat.{pow-le-pow_right}
+use lib.Dec.{lit<}
 use native.Mathlib.Omega.{arith}
 use lib.Bits.{bit_or}
 use Rattle.maxplus.specs.Whole.{◌+z◌}
@@ -23,6 +25,10 @@ flag_present e r p q = present?_yes e (rw (← p, q) tt)
 
 pub flag_absent : (e : E) (r : Bool) → r ≡ present? e → r ≡ false → ¬ (Present e)
 flag_absent e r p q h = absurd (rw (← p, q) at (present?_of e h))
+
+-- ---- the set of one place
+pub bit_shifted : (j : ℕ) → j < 6 → 1 * 2 ^ j % 256 ≡ 2 ^ j
+bit_shifted j h = let k : j ≤ 5 = omega arith in let l : 2 ^ j ≤ 2 ^ 5 = pow-le-pow_right (lit< tt) k in omega arith
 
 -- ---- places that reach a, and none beyond
 module _ (n : ℕ) (t : Vec) (a : E) where

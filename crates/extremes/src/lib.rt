@@ -17,30 +17,33 @@ ghost use Rattle.candidates.specs.Drawable.{Drawable, MarksNear};
 ghost use Rattle.cue.specs.Sizes.{size_limit};
 
 use crate::sums::{places, reached};
-use candidates::Marks;
+use candidates::Sources;
 use tables::largest::largest;
 use words::LineWords;
 
 mod sums;
 
-// In the place of a panel's set where the panel is not tight: six bits never hold it.
+// In the place of a panel's set where the panel is not tight: six bits never hold it, so that one test serves both; an Option would be asked for
+// apart.
 const NEVER: u8 = 64;
 
 // Whether some trigger is in the closure of every trigger of the line.
-pub fn extreme(line: LineWords, marks: Marks, star: &[[u64; 6]; 6], lag: &[[u64; 6]; 6]) -> bool
-    requires { MarksNear line.count marks star.now lag.now × (line.count ≡ marks.triggers)
+pub fn extreme(line: LineWords, sources: Sources) -> bool
+    requires { MarksNear line.count sources.marks.now sources.star.now sources.lag.now × (line.count ≡ sources.marks.now.triggers)
         × CloselyV line.count shifted_size line.at }
-    ensures { (n : ℕ) (P : Cue) (needs : List (List ℕ)) → Drawable n P marks star.now lag.now needs →
+    ensures { (n : ℕ) (P : Cue) (needs : List (List ℕ)) →
+        Drawable n P sources.entry.marks.now sources.entry.star.now sources.entry.lag.now needs →
         Says (Common n P (least n P) (line_of n line.at)) result }
 {
-    let due = marks.due;
-    let asks = marks.asks;
+    let due = sources.marks.due;
+    let asks = sources.marks.asks;
+    let panels = sources.marks.panels;
     let late = lateness(line, due);
     let most = largest(late, line.count);
-    let held = held_sets(star, line);
+    let held = held_sets(sources.star, line);
     let front = joined(held, late, most, line.count);
-    let tight = tight_sets(lag, asks, line, most, marks.panels);
-    common(line, held, tight, front, marks.panels) != 0
+    let tight = tight_sets(sources.lag, asks, line, most, panels);
+    common(line, held, tight, front, panels) != 0
 }
 
 // c(j) − q(j)
@@ -51,10 +54,8 @@ fn lateness(line: LineWords, due: [u64; 6]) -> [u64; 6]
 {
     let n = line.count;
     let mut r = [0u64; 6];
-    let mut j: usize = 0;
-    while j < n && j < 6 {
+    for j in 0..n {
         r[j] = words::minus(line.at[j], due[j]);
-        j += 1;
     }
     r
 }
@@ -67,10 +68,8 @@ fn held_sets(star: &[[u64; 6]; 6], line: LineWords) -> [u8; 6]
 {
     let n = line.count;
     let mut r = [0u8; 6];
-    let mut k: usize = 0;
-    while k < n && k < 6 {
+    for k in 0..n {
         r[k] = held_by(star, k, line);
-        k += 1;
     }
     r
 }
@@ -94,12 +93,10 @@ fn joined(held: [u8; 6], late: [u64; 6], most: u64, n: usize) -> u8
     ensures { SetOf (λ j. (l : ℕ) × (l < n) × ((get_or late l 0 ≡ most) × Has (get_or held l 0) j)) result }
 {
     let mut set: u8 = 0;
-    let mut l: usize = 0;
-    while l < n && l < 6 {
+    for l in 0..n {
         if late[l] == most {
-            set = set | held[l];
+            set |= held[l];
         }
-        l += 1;
     }
     set
 }
@@ -117,10 +114,8 @@ fn tight_sets(
     ensures { TightSets panels line.count (meant lag.now) (meant_v asks) (meant_v line.at) (entry most) result }
 {
     let mut r = [NEVER; 6];
-    let mut i: usize = 0;
-    while i < panels {
+    for i in 0..panels {
         r[i] = reaching(lag, i, asks[i], line, most);
-        i += 1;
     }
     r
 }
@@ -143,14 +138,7 @@ fn fires(tight: [u8; 6], held: u8, panels: usize) -> bool
     requires { panels ≤ size_limit }
     ensures { Says (Inside tight panels held) result }
 {
-    let mut i: usize = 0;
-    while i < panels {
-        if tight[i] & held == tight[i] {
-            return true;
-        }
-        i += 1;
-    }
-    false
+    tight.iter().take(panels).any(|set| *set & held == *set)
 }
 
 // cl(k): A(k), with A(R) where some panel fires.
@@ -172,15 +160,13 @@ fn common(line: LineWords, held: [u8; 6], tight: [u8; 6], front: u8, panels: usi
 {
     let n = line.count;
     let mut all: u8 = 63;
-    let mut k: usize = 0;
-    while k < n && k < 6 {
+    for k in 0..n {
         if words::present(line.at[k]) {
             all = all & closed(held[k], tight, front, panels);
             if all == 0 {
                 return 0;
             }
         }
-        k += 1;
     }
     all
 }

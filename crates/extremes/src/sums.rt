@@ -16,14 +16,10 @@ pub fn places(table: &[[u64; 6]; 6], i: usize, line: LineWords, word: u64) -> u8
 {
     let n = line.count;
     let mut set: u8 = 0;
-    let mut bit: u8 = 1;
-    let mut j: usize = 0;
-    while j < n && j < 6 {
+    for j in 0..n {
         if words::plus(table[i][j], line.at[j]) == word {
-            set = set | bit;
+            set |= 1 << j;
         }
-        bit += bit;
-        j += 1;
     }
     set
 }
@@ -35,18 +31,14 @@ pub fn reached(table: &[[u64; 6]; 6], i: usize, line: LineWords, word: u64) -> u
 {
     let n = line.count;
     let mut set: u8 = 0;
-    let mut bit: u8 = 1;
-    let mut j: usize = 0;
-    while j < n && j < 6 {
+    for j in 0..n {
         let sum = words::plus(table[i][j], line.at[j]);
         if word < sum {
             return 0;
         }
         if sum == word {
-            set = set | bit;
+            set |= 1 << j;
         }
-        bit += bit;
-        j += 1;
     }
     set
 }

@@ -2,7 +2,7 @@
 -- there is one, and so the lines of each trigger's rays generate the cone.
 use mathlib.Core.Path.{◌≡◌, refl, ap, ap₂, sym, subst, ◌∙◌}
 use mathlib.Core.Logic.{inl, inr}
-use mathlib.Core.Bool.{Bool, true, false, not}
+use mathlib.Core.Bool.{Bool, true, false}
 use mathlib.Core.List.{List, [], ◌∷◌, ◌++◌, append_assoc, append-nil}
 use Prim.Native.Nat.{ℕ, ◌+◌, ◌≤◌, ◌<◌}
 use native.Mathlib.Omega.{arith}
@@ -209,23 +209,20 @@ module _ {M : Marks} {stars needs first : List (List ℕ)} where
   carried_none z r = record { so_far = omega arith; few = omega arith; size = z; words = r; whole = λ t w. w }
 
   module _ {level many : ℕ} {s after : List (List ℕ)} where
-    pub carried_more : {r : ℕ} (done : Bool) → level < M.levels → not done ≡ false →
-        Added s many (get_or M.kept level 0) (get_or needs level []) stars M.triggers after done r → CarriedTo M stars needs first s level many →
+    pub carried_more : {r : ℕ} → level < M.levels →
+        Added s many (get_or M.kept level 0) (get_or needs level []) stars M.triggers after r true → CarriedTo M stars needs first s level many →
         CarriedTo M stars needs first after (level + 1) r
-    carried_more true hl e x v = record {
+    carried_more hl x v = record {
       so_far = omega arith;
       few = x.few;
       size = x.size;
       words = next_rows v.words x;
       whole = λ t w. whole_more hl x (v.whole t w);
     }
-    carried_more false hl e x v = let z : ◌≡◌ {A = ℕ} 0 1 = cc in let x : ⊥ = omega arith in absurd x
 
-    pub carried_same : (done : Bool) (r : ℕ) → not done ≡ true →
-        Added s many (get_or M.kept level 0) (get_or needs level []) stars M.triggers after done r → CarriedTo M stars needs first s level many →
-        CarriedTo M stars needs first after level many
-    carried_same true r e x v = let z : ◌≡◌ {A = ℕ} 0 1 = cc in let x : ⊥ = omega arith in absurd x
-    carried_same false r e x v = rw x v
+  pub carried_end : {level many : ℕ} {s : List (List ℕ)} → level ≡ M.levels → CarriedTo M stars needs first s level many →
+      CarriedTo M stars needs first s M.levels many
+  carried_end {level} {many} {s} e v = subst (λ l. CarriedTo M stars needs first s l many) e v
 
 -- words that lie below others by their entries
 below_under : {n : ℕ} {a w : List ℕ} → Sized n a → Sized n w → Below n a (meant_v w) → Under a w

@@ -15,263 +15,178 @@ ghost use Rattle.buffer.specs.Buffer.{room, row};
 ghost use Rattle.rays.specs.Rays.{places, Rows};
 ghost use Rattle.gather.specs.Gathering.{Gathered, drawn, Sure, Spread, Whole, CarriedTo, Considered, Filled};
 
-use buffer::{ROOM, fresh, insert, place};
-use candidates::Marks;
+use buffer::{Buffer, Store};
+use candidates::Sources;
 use candidates::drawing::{first_ray, normal};
 use candidates::order::below;
 use extremes::extreme;
-use rays::{PLACES, add_panel, all_meet, expand};
+use rays::{PLACES, Panel, Rays, add_panel, all_meet, expand};
 use words::LineWords;
-
-// How many levels the rays of a set have, and how many rays there are.
-#[derive(Clone, Copy)]
-struct Carried {
-    level: usize,
-    many: usize,
-}
 
 // Puts a line in at its place if it is above the last one, new and extreme, which may be known. Most lines are there already, so a line is
 // looked up before it is tested.
-fn consider(
-    buf: &mut [[u64; 6]; ROOM],
-    len: usize,
-    last: LineWords,
-    line: LineWords,
-    known: bool,
-    marks: Marks,
-    star: &[[u64; 6]; 6],
-    lag: &[[u64; 6]; 6],
-) -> usize
-    requires { ((P : Cue) × (needs : List (List ℕ)) × (C : List (maxplus.Line marks.triggers))
-        × Drawable marks.triggers P marks star.now lag.now needs × Gathered marks.triggers P last.at C len buf.old)
-        × Sized marks.triggers last.at × (line.count ≡ marks.triggers) × Sized marks.triggers line.at
-        × CloselyV marks.triggers shifted_size line.at }
-    ensures { (P : Cue) (needs : List (List ℕ)) (C : List (maxplus.Line marks.triggers)) →
-        Drawable marks.triggers P marks star.now lag.now needs →
-        (known ≡ true → Common marks.triggers P (least marks.triggers P) (line_of marks.triggers line.at)) →
-        Gathered marks.triggers P last.at C len buf.old →
-        Gathered marks.triggers P last.at (C ++ line_of marks.triggers line.at ∷ []) result buf.new }
+fn consider(buffer: &mut Buffer, last: LineWords, line: LineWords, known: bool, sources: Sources)
+    requires { let M = sources.marks.now in ((P : Cue) × (needs : List (List ℕ)) × (C : List (maxplus.Line M.triggers))
+        × Drawable M.triggers P M sources.star.now sources.lag.now needs × Gathered M.triggers P last.at C buffer.old.len buffer.old.rows)
+        × Sized M.triggers last.at × (line.count ≡ M.triggers) × Sized M.triggers line.at
+        × CloselyV M.triggers shifted_size line.at }
+    ensures { let M = sources.entry.marks.now in (P : Cue) (needs : List (List ℕ)) (C : List (maxplus.Line M.triggers)) →
+        Drawable M.triggers P M sources.entry.star.now sources.entry.lag.now needs →
+        (known ≡ true → Common M.triggers P (least M.triggers P) (line_of M.triggers line.at)) →
+        Gathered M.triggers P last.at C buffer.old.len buffer.old.rows →
+        Gathered M.triggers P last.at (C ++ line_of M.triggers line.at ∷ []) buffer.new.len buffer.new.rows }
 {
     if !below(last, line) {
-        return len;
+        return;
     }
-    let at = place(buf, len, line);
-    if !fresh(buf, len, at, line) {
-        return len;
+    let at = buffer.place(line);
+    if !buffer.fresh(at, line) {
+        return;
     }
     if known {
-        return insert(buf, len, at, line);
+        buffer.insert(at, line);
+        return;
     }
-    if !extreme(line, marks, star, lag) {
-        return len;
+    if !extreme(line, sources) {
+        return;
     }
-    insert(buf, len, at, line)
+    buffer.insert(at, line);
 }
 
 // The lines of a set of rays, which may be known to be extreme.
-fn consider_rays(
-    buf: &mut [[u64; 6]; ROOM],
-    len: usize,
-    last: LineWords,
-    set: &[[u64; 6]; PLACES],
-    many: usize,
-    known: bool,
-    marks: Marks,
-    star: &[[u64; 6]; 6],
-    lag: &[[u64; 6]; 6],
-) -> usize
-    requires { ((P : Cue) × (needs : List (List ℕ)) × (C : List (maxplus.Line marks.triggers))
-        × Drawable marks.triggers P marks star.now lag.now needs × Sure known marks.triggers P set.now many
-        × Gathered marks.triggers P last.at C len buf.old)
-        × Sized marks.triggers last.at × (many ≤ places) × (length set.now ≡ places)
-        × ((k : ℕ) → k < many → CloselyV marks.triggers starred_size (row set.now k)) }
-    ensures { (P : Cue) (needs : List (List ℕ)) (C : List (maxplus.Line marks.triggers)) →
-        Drawable marks.triggers P marks star.now lag.now needs →
-        Sure known marks.triggers P set.now many →
-        Gathered marks.triggers P last.at C len buf.old → Gathered marks.triggers P last.at
-        (C ++ map_l (drawn marks.triggers) (take many set.now)) result buf.new }
+fn consider_rays(buffer: &mut Buffer, last: LineWords, set: &Rays, known: bool, sources: Sources)
+    requires { let M = sources.marks.now in ((P : Cue) × (needs : List (List ℕ)) × (C : List (maxplus.Line M.triggers))
+        × Drawable M.triggers P M sources.star.now sources.lag.now needs × Sure known M.triggers P set.now.rows set.now.len
+        × Gathered M.triggers P last.at C buffer.old.len buffer.old.rows)
+        × Sized M.triggers last.at × (set.now.len ≤ places) × (length set.now.rows ≡ places)
+        × ((k : ℕ) → k < set.now.len → CloselyV M.triggers starred_size (row set.now.rows k)) }
+    ensures { let M = sources.entry.marks.now in (P : Cue) (needs : List (List ℕ)) (C : List (maxplus.Line M.triggers)) →
+        Drawable M.triggers P M sources.entry.star.now sources.entry.lag.now needs →
+        Sure known M.triggers P set.now.rows set.now.len →
+        Gathered M.triggers P last.at C buffer.old.len buffer.old.rows → Gathered M.triggers P last.at
+        (C ++ map_l (drawn M.triggers) (take set.now.len set.now.rows)) buffer.new.len buffer.new.rows }
 {
-    let mut held = len;
-    let mut k: usize = 0;
-    while k < many {
-        let at = set[k];
-        let ray = LineWords {
-            count: marks.triggers,
-            at,
-        };
-        let line = normal(ray);
-        held = consider(buf, held, last, line, known, marks, star, lag);
-        k += 1;
+    let count = sources.marks.triggers;
+    for k in 0..set.len {
+        let at = set.rows[k];
+        let line = normal(LineWords { count, at });
+        consider(buffer, last, line, known, sources);
     }
-    held
 }
 
 // Level by level: the rays from a place on, with the panels from a level on. Where what comes of them has no room they are taken in parts, whose
 // lines need not be extreme.
 fn spread(
-    buf: &mut [[u64; 6]; ROOM],
-    len: usize,
+    buffer: &mut Buffer,
     last: LineWords,
-    set: &[[u64; 6]; PLACES],
+    set: &Rays,
     from: usize,
-    many: usize,
     level: usize,
-    marks: Marks,
-    star: &[[u64; 6]; 6],
-    lag: &[[u64; 6]; 6],
-    needs: &[[u64; 6]; 6],
-) -> usize
-    requires { ((P : Cue) × (C : List (maxplus.Line marks.triggers))
-        × Drawable marks.triggers P marks star.now lag.now needs.now × Gathered marks.triggers P last.at C len buf.old)
-        × Sized marks.triggers last.at × (many ≤ places) × (length set.now ≡ places) × (level ≤ marks.levels)
-        × Rows marks.triggers many set.now }
-    ensures { Spread marks star.now lag.now needs.now last.at set.now from many level
-        len buf.old result buf.new }
+    sources: Sources,
+)
+    requires { let M = sources.marks.now in ((P : Cue) × (C : List (maxplus.Line M.triggers))
+        × Drawable M.triggers P M sources.star.now sources.lag.now sources.needs.now
+        × Gathered M.triggers P last.at C buffer.old.len buffer.old.rows)
+        × Sized M.triggers last.at × (set.now.len ≤ places) × (length set.now.rows ≡ places) × (level ≤ M.levels)
+        × Rows M.triggers set.now.len set.now.rows }
+    ensures { Spread sources.entry.marks.now sources.entry.star.now sources.entry.lag.now sources.entry.needs.now last.at
+        set.now.rows from set.now.len level buffer.old.len buffer.old.rows buffer.new.len buffer.new.rows }
 {
-    if level == marks.levels {
-        return consider_rays(buf, len, last, set, many, false, marks, star, lag);
+    if level == sources.marks.levels {
+        consider_rays(buffer, last, set, false, sources);
+        return;
     }
-    if many <= from {
-        return len;
+    if set.len <= from {
+        return;
     }
-    let kept = marks.kept;
-    let n = marks.triggers;
+    let panel = Panel {
+        count: sources.marks.triggers,
+        mask: sources.marks.kept[level],
+        wants: &sources.needs[level],
+        star: sources.star,
+    };
     // Rays that all meet the panel are carried on as they are.
-    if from == 0 && all_meet(set, many, kept[level], needs[level], n) {
-        return spread(
-            buf,
-            len,
-            last,
-            set,
-            0,
-            many,
-            level + 1,
-            marks,
-            star,
-            lag,
-            needs,
-        );
+    if from == 0 && all_meet(set, panel) {
+        spread(buffer, last, set, 0, level + 1, sources);
+        return;
     }
-    let mut next = [[0u64; 6]; PLACES];
-    let part = expand(
-        &mut next,
-        set,
-        from,
-        many,
-        kept[level],
-        needs[level],
-        star,
-        n,
-    );
-    let held = spread(
-        buf,
-        len,
-        last,
-        &next,
-        0,
-        part.found,
-        level + 1,
-        marks,
-        star,
-        lag,
-        needs,
-    );
-    spread(
-        buf, held, last, set, part.to, many, level, marks, star, lag, needs,
-    )
+    let mut next = Store {
+        rows: [[0u64; 6]; PLACES],
+        len: 0,
+    };
+    let to = expand(&mut next, set, from, panel);
+    spread(buffer, last, &next, 0, level + 1, sources);
+    spread(buffer, last, set, to, level, sources);
 }
 
-// A trigger's first ray, alone in a set, with one level after the other; to the end, or to a level with which not all rays have room.
-fn carry(
-    set: &mut [[u64; 6]; PLACES],
-    next: &mut [[u64; 6]; PLACES],
-    marks: Marks,
-    star: &[[u64; 6]; 6],
-    needs: &[[u64; 6]; 6],
-) -> Carried
-    requires { ((P : Cue) × (lags : List (List ℕ)) × Drawable marks.triggers P marks star.now lags needs.now)
-        × (length set.old ≡ places) × (length next.old ≡ places) × Rows marks.triggers 1 set.old }
-    ensures { (length next.new ≡ places) ×
-        CarriedTo marks star.now needs.now set.old set.new result.level result.many }
+// A trigger's first ray, alone in a set, with one level after the other; to the end, or to a level with which not all rays have room. How many
+// levels the rays then have.
+fn carry(set: &mut Rays, next: &mut Rays, sources: Sources) -> usize
+    requires { let M = sources.marks.now in ((P : Cue) × (lags : List (List ℕ)) × Drawable M.triggers P M sources.star.now lags sources.needs.now)
+        × (length set.old.rows ≡ places) × (length next.old.rows ≡ places) × Rows M.triggers 1 set.old.rows }
+    ensures { (length next.new.rows ≡ places) ×
+        CarriedTo sources.entry.marks.now sources.entry.star.now sources.entry.needs.now set.old.rows set.new.rows result set.new.len }
 {
-    let kept = marks.kept;
-    let n = marks.triggers;
-    let mut many: usize = 1;
-    let mut level: usize = 0;
-    while level < marks.levels {
-        let added = add_panel(set, next, many, kept[level], needs[level], star, n);
-        if !added.done {
-            return Carried {
-                level: level,
-                many: many,
-            };
+    set.len = 1;
+    for level in 0..sources.marks.levels {
+        let panel = Panel {
+            count: sources.marks.triggers,
+            mask: sources.marks.kept[level],
+            wants: &sources.needs[level],
+            star: sources.star,
+        };
+        if !add_panel(set, next, panel) {
+            return level;
         }
-        many = added.many;
-        level += 1;
     }
-    Carried {
-        level: level,
-        many: many,
-    }
+    sources.marks.levels
 }
 
 // The lines of a trigger's least rays, which are extreme; or where these have not got all levels, of what comes of them.
-fn conclude(
-    buf: &mut [[u64; 6]; ROOM],
-    len: usize,
-    last: LineWords,
-    set: &[[u64; 6]; PLACES],
-    carried: Carried,
-    marks: Marks,
-    star: &[[u64; 6]; 6],
-    lag: &[[u64; 6]; 6],
-    needs: &[[u64; 6]; 6],
-) -> usize
-    requires { ((P : Cue) × (C : List (maxplus.Line marks.triggers))
-        × Drawable marks.triggers P marks star.now lag.now needs.now × Gathered marks.triggers P last.at C len buf.old)
-        × Sized marks.triggers last.at
-        × ((t : ℕ) × (t < marks.triggers) × Whole marks star.now needs.now t carried.level set.now carried.many)
-        × (carried.level ≤ marks.levels) × (carried.many ≤ places) × (length set.now ≡ places) }
-    ensures { (t : ℕ) → t < marks.triggers →
-        Whole marks star.now needs.now t carried.level set.now carried.many →
-        Considered marks star.now lag.now needs.now last.at t len buf.old result buf.new }
+fn conclude(buffer: &mut Buffer, last: LineWords, set: &Rays, level: usize, sources: Sources)
+    requires { let M = sources.marks.now in ((P : Cue) × (C : List (maxplus.Line M.triggers))
+        × Drawable M.triggers P M sources.star.now sources.lag.now sources.needs.now
+        × Gathered M.triggers P last.at C buffer.old.len buffer.old.rows)
+        × Sized M.triggers last.at
+        × ((t : ℕ) × (t < M.triggers) × Whole M sources.star.now sources.needs.now t level set.now.rows set.now.len)
+        × (level ≤ M.levels) × (set.now.len ≤ places) × (length set.now.rows ≡ places) }
+    ensures { let M = sources.entry.marks.now in (t : ℕ) → t < M.triggers →
+        Whole M sources.entry.star.now sources.entry.needs.now t level set.now.rows set.now.len →
+        Considered M sources.entry.star.now sources.entry.lag.now sources.entry.needs.now last.at t
+        buffer.old.len buffer.old.rows buffer.new.len buffer.new.rows }
 {
-    let many = carried.many;
-    let level = carried.level;
-    if level == marks.levels {
-        return consider_rays(buf, len, last, set, many, true, marks, star, lag);
+    if level == sources.marks.levels {
+        consider_rays(buffer, last, set, true, sources);
+    } else {
+        spread(buffer, last, set, 0, level, sources);
     }
-    spread(buf, len, last, set, 0, many, level, marks, star, lag, needs)
 }
 
 // The least lines above the last one, as many as there is room for: those of each trigger's rays. Six words of 0, no component at all, stand
 // below every line.
-pub fn gather(
-    buf: &mut [[u64; 6]; ROOM],
-    last: LineWords,
-    marks: Marks,
-    star: &[[u64; 6]; 6],
-    lag: &[[u64; 6]; 6],
-    needs: &[[u64; 6]; 6],
-) -> usize
-    requires { ((P : Cue) × Drawable marks.triggers P marks star.now lag.now needs.now) × Sized marks.triggers last.at ×
-        (length buf.old ≡ room) }
-    ensures { (P : Cue) → Drawable marks.triggers P marks star.now lag.now needs.now →
-        Filled marks.triggers P last.at result buf.new }
+pub fn gather(buffer: &mut Buffer, last: LineWords, sources: Sources)
+    requires { let M = sources.marks.now in ((P : Cue) × Drawable M.triggers P M sources.star.now sources.lag.now sources.needs.now)
+        × Sized M.triggers last.at × (length buffer.old.rows ≡ room) }
+    ensures { let M = sources.entry.marks.now in (P : Cue) →
+        Drawable M.triggers P M sources.entry.star.now sources.entry.lag.now sources.entry.needs.now →
+        Filled M.triggers P last.at buffer.new.len buffer.new.rows }
 {
-    let n = marks.triggers;
-    let pulls = marks.pulls;
-    let mut set = [[0u64; 6]; PLACES];
-    let mut next = [[0u64; 6]; PLACES];
-    let mut len: usize = 0;
-    let mut t: usize = 0;
-    while t < n {
-        let first = first_ray(star, pulls[t], t, n);
+    let n = sources.marks.triggers;
+    let pulls = sources.marks.pulls;
+    let mut set = Store {
+        rows: [[0u64; 6]; PLACES],
+        len: 0,
+    };
+    let mut next = Store {
+        rows: [[0u64; 6]; PLACES],
+        len: 0,
+    };
+    buffer.len = 0;
+    for t in 0..n {
+        let first = first_ray(sources.star, pulls[t], t, n);
         let words = first.at;
-        set[0] = words;
-        let carried = carry(&mut set, &mut next, marks, star, needs);
-        len = conclude(buf, len, last, &set, carried, marks, star, lag, needs);
-        t += 1;
+        set.rows[0] = words;
+        let level = carry(&mut set, &mut next, sources);
+        conclude(buffer, last, &set, level, sources);
     }
-    len
 }

@@ -1,6 +1,6 @@
 -- What is known of the outcome: a sheet, or 12, or 13. So the text of the answer in a program is the text of the outcome, and every refusal gets a
 -- sentence; with good sizes the program writes the sheet.
-use Rattle.std.proofs.Common.{◌≡◌, ℕ, ◌%◌, ◌^◌, ◌<◌, ◌≤◌, min, Bool, true, false, cond, ◌&&◌, leb, List, [], length, drop, sym, refl, ap, ◌∙◌, subst, ap₂, arith, length-append, take_at, le-leb}
+use Rattle.std.proofs.Common.{◌≡◌, ℕ, ◌%◌, ◌^◌, ◌<◌, ◌≤◌, min, Bool, true, false, cond, ◌&&◌, leb, List, [], Some, length, drop, sym, refl, ap, ◌∙◌, subst, ap₂, arith, length-append, take_at, le-leb}
 use native.Mathlib.Decide.{dec_le}
 use borrow.Author.Tests.{lt-leb}
 use Rattle.cue.specs.Sizes.{size_limit}
@@ -13,12 +13,19 @@ use Rattle.advice.specs.Advice.{advice}
 use Rattle.advice.proofs.AdviceLaws.{advised}
 use Rattle.hiring.specs.Hiring.{drawn, sheet_from, draws, chained, HireOutcome, hired, refused, size?, hiring, bytes_after, hire_answer}
 use Rattle.hiring.specs.declared.Hired.{Hired}
-use Rattle.hiring.proofs.HireLaws.{size_there, no_panels, no_triggers}
+use Rattle.std.specs.Prelude.{Result, Ok, Err}
+use Rattle.refusals.specs.Numbers.{number}
+use Rattle.refusals.specs.declared.Refusal.{Refusal}
+use Rattle.refusals.proofs.NumberLaws as numbers
+use Rattle.refusals.proofs.NumberLaws.{number_of}
+use Rattle.refusals.proofs.ResultLaws.{ok_not_err, same_ok, same_err}
+use Rattle.hiring.proofs.HireLaws.{size_there, no_panels, no_triggers, refused_known}
 use Rattle.hiring.proofs.Loads.{room_enough}
 use Rattle.hire.specs.Call.{Wanted}
 use Rattle.hire.specs.Output.{hire_text, hire_complaint, program_hire}
-use Rattle.hire.specs.Inner.{held}
-use Rattle.hire.specs.declared.Call.{Call}
+use Rattle.hire.specs.Inner.{call, held}
+use Rattle.hire.specs.declared.asking.Call.{Call}
+use Rattle.hire.proofs.CallLaws.{some_same}
 
 -- ---- the outcome
 abbrev Known : HireOutcome → Type 0
@@ -46,25 +53,30 @@ explained w k e = go (program_hire w) (program_known w) e
     go (refused j) h e = advised j (let a = h.0 in omega arith) (let a = h.1 in omega arith)
 
 -- ---- the answer's texts are the outcome's
-module _ (r : Hired) where
-  pub refusal_out : (o : HireOutcome) → r ≡ hire_answer o → ¬ (r.refusal ≡ 0) → refusal_text r.refusal ≡ hire_text o
-  refusal_out (hired t x) e h = absurd (h (ap (λ (r : Hired). r.refusal) e))
-  refusal_out (refused k) e h = ap (λ (r : Hired). refusal_text r.refusal) e
+sheet_out : (h : Hired) (lent after : List ℕ) (o : HireOutcome) → Ok h ≡ hire_answer o → after ≡ bytes_after o lent →
+    Writes after h.length (hire_text o) × (hire_complaint o ≡ [])
+sheet_out h lent after (hired t x) e q = rw (q, same_ok h _ e) (
+  record { within = omega (arith, length-append t (drop (length t) lent)); text = take_at t (drop (length t) lent) (length t) refl },
+  refl,
+)
+sheet_out h lent after (refused k) e q = ok_not_err h _ e
 
-  pub complaint_out : (o : HireOutcome) → r ≡ hire_answer o → advice r.refusal ≡ hire_complaint o
-  unfolding advice
-  complaint_out (hired t x) e = ap (λ (r : Hired). advice r.refusal) e
-  complaint_out (refused k) e = ap (λ (r : Hired). advice r.refusal) e
+refused_is : (r : Refusal) (o : HireOutcome) → ((k : ℕ) → o ≡ refused k → numbers.Known k) → Err r ≡ hire_answer o → o ≡ refused (number r)
+refused_is r (hired t x) f e = ok_not_err _ r (sym e)
+refused_is r (refused k) f e = ap refused (sym (ap number (same_err r _ e) ∙ number_of k (f k refl)))
 
-  pub sheet_out : (lent after : List ℕ) (o : HireOutcome) → Known o → r ≡ hire_answer o → r.refusal ≡ 0 → after ≡ bytes_after o lent →
-      Writes after r.length (hire_text o)
-  sheet_out lent after (hired t x) k e h q = rw (q, ap (λ (r : Hired). r.length) e)
-      (record { within = omega (arith, length-append t (drop (length t) lent)); text = take_at t (drop (length t) lent) (length t) refl })
-  sheet_out lent after (refused j) k e h q =
-      let f : r.refusal ≡ j = ap (λ (r : Hired). r.refusal) e in
-      let a = k.0 in
-      let x : ⊥ = omega arith in
-      absurd x
+module _ (w : Wanted) {a : Result Hired Refusal} (e : a ≡ hire_answer (program_hire w)) where
+  pub good_texts : (lent : List ℕ) {after errors : List ℕ} (h : Hired) → a ≡ Ok h → after ≡ bytes_after (program_hire w) lent →
+      Writes after h.length (hire_text (program_hire w)) × Writes errors 0 (hire_complaint (program_hire w))
+  good_texts lent {after} {errors} h is q =
+      let (t, n) = sheet_out h lent after (program_hire w) (sym is ∙ e) q in
+      (t, rw n (record { within = omega arith; text = refl }))
+
+  pub refused_texts : {out errors : List ℕ} {n m : ℕ} (r : Refusal) → a ≡ Err r → Writes out n (refusal_text (number r)) →
+      Writes errors m (advice (number r)) → Writes out n (hire_text (program_hire w)) × Writes errors m (hire_complaint (program_hire w))
+  refused_texts r is t u =
+      let o = refused_is r (program_hire w) (refused_known w.panels w.triggers _ 2048) (sym is ∙ e) in
+      (rw o t, rw o u)
 
 -- ---- the call as the program holds it: a size of 2^32 is none, as the size is none that stands behind it
 held_small : (m : ℕ) → size? m ≡ true → min m word_limit ≡ m
@@ -108,10 +120,10 @@ abbrev Starts : Call → ℕ → Type 0
 Starts a x = (k : ℕ) → a.before ≡ k % 2 ^ 32 → a.panels ≤ size_limit → a.triggers ≤ size_limit →
     x ≡ chained a.panels a.triggers a.state k
 
-pub called : (w : Wanted) (x room : ℕ) (a : Call) → a ≡ held (got w []) → room ≡ 2048 → Starts a x →
+pub called : (w : Wanted) (x room : ℕ) (a : Call) → Some a ≡ held (got w []) → room ≡ 2048 → Starts a x →
     hiring a.panels a.triggers x room ≡ program_hire w
 called w x room a e r later =
-    subst (λ (a : Call). Starts a x → hiring a.panels a.triggers x room ≡ program_hire w) (sym e)
+    subst (λ (a : Call). Starts a x → hiring a.panels a.triggers x room ≡ program_hire w) (sym (some_same a (call w) e))
     (λ later. ap (hiring (min w.panels word_limit) (min w.triggers word_limit) x) r ∙ program_hired w x later) later
 
 -- ---- "a generator writes one sheet": with sizes 1 to 6 the program's space is enough

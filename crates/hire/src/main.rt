@@ -1,33 +1,22 @@
 // A sheet of a load that can be repeated, on standard output; for a refusal also a sentence on standard error.
 #![tactic(auto)]
 
-ghost use Rattle.std.specs.Prelude.{◌≡◌, ℕ, min, List, [], take, ℤ};
-ghost use Rattle.maxplus.specs.Whole.{up};
+ghost use Rattle.std.specs.Prelude.{◌≡◌, [], take};
 ghost use Rattle.io.specs.Counts.{IsPrefixLen};
-ghost use Rattle.sheet.specs.Sheet.{Got, got, refused};
-ghost use Rattle.argument.specs.Whole.{word_limit};
-ghost use Rattle.argument.specs.Inner.{whole_of};
+ghost use Rattle.sheet.specs.Sheet.{got};
 ghost use Rattle.writing.specs.Writing.{Writes};
-ghost use Rattle.hire.specs.Call.{Wanted, state?, place?, looked_at};
+ghost use Rattle.hire.specs.Call.{Wanted};
 ghost use Rattle.hire.specs.Output.{hire_text, hire_complaint, program_hire, usage, program_text, program_complaint};
-ghost use Rattle.hire.specs.Inner.{passes, held};
+ghost use Rattle.hire.specs.Inner.{held};
 
 use argument::call;
-use argument::whole::{WORD_LIMIT, Whole, read_whole};
+use asking::{Call, call_of};
 use hiring::chain::later_state;
 use std::env::Env;
 use text::Ends;
 use writing::put_bytes;
 
-// The numbers of a call; or that it is a wrong one.
-#[derive(Clone, Copy)]
-struct Call {
-    good: bool,
-    panels: usize,
-    triggers: usize,
-    state: u32,
-    before: u32,
-}
+mod asking;
 
 // What the program writes for its arguments; the places behind the two texts.
 fn answers(
@@ -45,18 +34,13 @@ fn answers(
     ensures errors_after { take result.complaint errors.new ≡
         program_complaint panels.now triggers.now state.now number.now }
 {
-    let m = read_whole(panels);
-    let n = read_whole(triggers);
-    let s = read_whole(state);
-    let k = read_whole(number);
-    let asked = call_of(m, n, s, k);
-    if !asked.good {
+    let Some(asked) = call_of(panels, triggers, state, number) else {
         let usage = usage_text(errors);
         return Ends {
             text: 0,
             complaint: usage,
         };
-    }
+    };
     hired_text(asked, out, errors)
 }
 
@@ -74,98 +58,24 @@ fn usage_text(errors: &mut [u8; 400]) -> usize
 
 // What the program writes for a good call.
 fn hired_text(asked: Call, out: &mut [u8; 2048], errors: &mut [u8; 400]) -> Ends
-    ensures { (w : Wanted) → asked ≡ held (got w []) → (Writes out.new result.text (hire_text (program_hire w)) ×
+    ensures { (w : Wanted) → Some asked ≡ held (got w []) → (Writes out.new result.text (hire_text (program_hire w)) ×
         Writes errors.new result.complaint (hire_complaint (program_hire w))) }
 {
     let state = later_state(asked.panels, asked.triggers, asked.state, asked.before);
-    let hired = hiring::hire(asked.panels, asked.triggers, state, out);
-    let complaint = advice::advice_text(errors, hired.refusal);
-    if hired.refusal != 0 {
-        let refused = text::refusal_text(out, hired.refusal);
-        return Ends {
-            text: refused,
-            complaint: complaint,
-        };
+    match hiring::hire(asked.panels, asked.triggers, state, out) {
+        Ok(hired) => Ends {
+            text: hired.length,
+            complaint: 0,
+        },
+        Err(refusal) => {
+            let complaint = advice::advice_text(errors, refusal.number());
+            let refused = text::refusal_text(out, refusal.number());
+            Ends {
+                text: refused,
+                complaint,
+            }
+        }
     }
-    Ends {
-        text: hired.length,
-        complaint: complaint,
-    }
-}
-
-// The numbers that the arguments give.
-fn call_of(panels: Whole, triggers: Whole, state: Whole, number: Whole) -> Call
-    ensures { (P T S K : Got ℤ) → panels ≡ whole_of P → triggers ≡ whole_of T → state ≡ whole_of S → number ≡ whole_of K →
-        result ≡ held (looked_at P T S K) }
-{
-    if !panels.numeral {
-        return wrong_call();
-    }
-    if !triggers.numeral {
-        return wrong_call();
-    }
-    if !is_state(state) {
-        return wrong_call();
-    }
-    if !is_place(number) {
-        return wrong_call();
-    }
-    Call {
-        good: true,
-        panels: size_of(panels),
-        triggers: size_of(triggers),
-        state: state.rest,
-        before: std::num::wrapping_sub_u32(number.rest, 1),
-    }
-}
-
-// The answer for a call that is none.
-fn wrong_call() -> Call
-    ensures { (k : ℕ) → result ≡ held (refused k) }
-{
-    Call {
-        good: false,
-        panels: 0,
-        triggers: 0,
-        state: 0,
-        before: 0,
-    }
-}
-
-// A number from 0 to 2^32 - 1.
-fn is_state(w: Whole) -> bool
-    ensures { (g : Got ℤ) → w ≡ whole_of g → result ≡ passes state? g }
-{
-    if !w.numeral {
-        return false;
-    }
-    if w.negative {
-        return false;
-    }
-    w.size < WORD_LIMIT
-}
-
-// A number from 1 on.
-fn is_place(w: Whole) -> bool
-    ensures { (g : Got ℤ) → w ≡ whole_of g → result ≡ passes place? g }
-{
-    if !w.numeral {
-        return false;
-    }
-    if w.negative {
-        return false;
-    }
-    0 < w.size
-}
-
-// A size as far as it counts: 0 for one below 0, 2^32 for one beyond that.
-fn size_of(w: Whole) -> usize
-    ensures { (z : ℤ) (s : List ℕ) → w ≡ whole_of (got z s) → result ≡ min (up z) word_limit }
-{
-    if w.negative {
-        return 0;
-    }
-    w.size as usize
 }
 
 // Writes what the other arguments and this number ask for. The space of each is longer than any argument that the system hands over.
@@ -186,12 +96,7 @@ fn write_sheet<R: Env>(rt: &R, number: &[u8]) {
         &mut out,
         &mut errors,
     );
-    let text = ends.text;
-    io::write_all(1, &out[..text]);
-    let complaint = ends.complaint;
-    if complaint != 0 {
-        io::write_all(2, &errors[..complaint]);
-    }
+    ends.write(&out, &errors);
 }
 
 // A program has no exit status of its own to choose, so a wrong call shows in standard output being empty.

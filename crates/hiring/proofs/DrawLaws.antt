@@ -1,9 +1,7 @@
 -- Laws of draws: an item's word by its cases; one draw behind others; a row and rows of items, as a loop draws them.
-use Rattle.std.proofs.Common.{◌≡◌, ℕ, zero, suc, ◌+◌, ◌-◌, ◌*◌, ◌%◌, ◌<◌, ◌≤◌, List, [], length, get_or, set, pos, sym, refl, ap, ◌∙◌, add-zero, add-suc, suc-mul, zero-mul, add-one, arith, length-set, get_or-set_other, get_or-set_same, le-ltb, lt-ltb, eq-eqb, ne_eqb}
+use Rattle.std.proofs.Common.{◌≡◌, ℕ, zero, suc, ◌+◌, ◌*◌, ◌%◌, ◌<◌, ◌≤◌, List, [], length, get_or, set, sym, refl, ap, ◌∙◌, add-zero, add-suc, suc-mul, zero-mul, add-one, arith, length-set, get_or-set_other, get_or-set_same, le-ltb, lt-ltb, eq-eqb, ne_eqb}
 use native.Mathlib.Decide.{ℕ_discrete}
-use Rattle.maxplus.specs.Whole.{neg}
 use Rattle.maxplus.specs.Entry.{num}
-use Rattle.maxplus.proofs.WholeLaws.{z_eq, up_sub, up_neg}
 use Rattle.words.specs.Words.{word}
 use Rattle.tables.specs.Held.{cell}
 use Rattle.hiring.specs.Hiring.{next, upper, drawn, drawn_number, drawn_item, absence, by_sevens}
@@ -12,14 +10,6 @@ use Rattle.hiring.specs.Inner.{RowDrawn, RowsDrawn}
 
 -- ---- one item
 module _ (u : ℕ) where
-  pub number_low : u % 2001 < 1000 → word (num (neg (pos (1000 - u % 2001)))) ≡ word (num (drawn_number u))
-  unfolding drawn_number
-  number_low h = ap (λ z. word (num z)) (z_eq _ _ (omega (arith, up_neg (pos (1000 - u % 2001)), up_sub (u % 2001) 1000)))
-
-  pub number_high : 1000 ≤ u % 2001 → word (num (pos (u % 2001 - 1000))) ≡ word (num (drawn_number u))
-  unfolding drawn_number
-  number_high h = ap (λ z. word (num z)) (z_eq _ _ (omega (arith, up_sub (u % 2001) 1000)))
-
   pub seventh : u % 7 ≡ 0 → 0 ≡ word (drawn_item by_sevens u)
   unfolding drawn_item word
   seventh h = rw (eq-eqb (u % 7) 0 h)

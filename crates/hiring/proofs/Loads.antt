@@ -12,7 +12,7 @@ use Rattle.sheet_text.proofs.ItemOnly.{both}
 use Rattle.sheet_text.proofs.ReadBack.{read_back}
 use Rattle.planning.specs.Planning.{plan_of, planning}
 use Rattle.planning.specs.Demands.{Planned}
-use Rattle.hiring.specs.Hiring.{drawn, sheet_from, draws, hired, refused, size?, hiring, hire_answer}
+use Rattle.hiring.specs.Hiring.{drawn, sheet_from, draws, hired, refused, size?, hiring, hire_answer, hired_in}
 use Rattle.hiring.specs.Loads.{front, EveryAccepted, RoomEnough}
 use Rattle.hiring.proofs.HireLaws.{size_there, room_there}
 use Rattle.hiring.proofs.MadeLaws.{made_sound, made_short, made_keeps}
@@ -68,12 +68,12 @@ room_enough m n s room p q h =
     room_there m n s room p q (omega (arith, longest_is))
 
 -- no more bytes are written than a good sheet can have
-pub hired_few : (m n s room : ℕ) → (hire_answer (hiring m n s room)).length ≤ longest
+pub hired_few : (m n s room : ℕ) → (hired_in (hire_answer (hiring m n s room))).length ≤ longest
 unfolding hiring
 hired_few m n s room = go (size? m) refl (size? n) refl (leb (length (sheet_text (sheet_from m n s))) room)
   where
     go : (a : Bool) → size? m ≡ a → (b : Bool) → size? n ≡ b → (c : Bool) →
-        (hire_answer (cond (a && b) (cond c (hired (sheet_text (sheet_from m n s)) (drawn s (draws m n))) (refused 13)) (refused 12))).length ≤ longest
+        (hired_in (hire_answer (cond (a && b) (cond c (hired (sheet_text (sheet_from m n s)) (drawn s (draws m n))) (refused 13)) (refused 12)))).length ≤ longest
     go true p true q true =
         let (some-m, few-m) = size_there m p in
         let (some-n, few-n) = size_there n q in

@@ -1,12 +1,13 @@
 -- The parts of a sheet, put one behind the other, are the text of the load's tables; the state behind them is that after all draws.
-use Rattle.std.proofs.Common.{◌≡◌, ℕ, ◌+◌, ◌*◌, ◌≤◌, List, [], ◌++◌, refl, ap, ◌∙◌, ap₂, append_assoc, append-nil, one-mul}
+use Rattle.std.proofs.Common.{◌≡◌, ℕ, ◌+◌, ◌*◌, List, [], ◌++◌, refl, ap, ◌∙◌, ap₂, append_assoc, append-nil, one-mul}
 use Rattle.maxplus.specs.Entry.{val}
 use Rattle.maxplus.specs.Finite.{each}
 use Rattle.sheet.specs.Text.{bytes}
 use Rattle.writing.specs.Numerals.{natural}
 use Rattle.writing.specs.Texts.{field, joined}
-use Rattle.writing.specs.Writing.{Puts}
-use Rattle.writing.proofs.PutLaws.{then, put_as}
+use Rattle.writing.specs.Writing.{Put}
+use Rattle.writing.specs.declared.Writer.{Writer}
+use Rattle.writing.proofs.WriterLaws.{then, put_as}
 use Rattle.sheet_text.specs.SheetText.{rows_text, sheet_text}
 use Rattle.hiring.specs.Hiring.{drawn, drawn_item, absence, drawn_items, sheet_from, draws, first_there, all_there, below_diagonal}
 use Rattle.hiring.proofs.DrawLaws.{drawn_add}
@@ -23,10 +24,10 @@ module _ (m n : ℕ) where
   abbrev due_text : ℕ → List ℕ
   due_text x = rows_text (bytes "due=") 1 n (drawn_items all_there n x)
 
-  pub marks_put : {a b c : List ℕ} {at q r floors dues : ℕ} (s : ℕ) → Puts a b at q (floor_text s) → floors ≡ drawn s (1 * m) →
-      Puts b c q r (due_text floors) → dues ≡ drawn floors (1 * n) → r ≤ at + 120 →
-      Puts a c at r (floor_text s ++ due_text (drawn s (1 * m))) × ((r ≤ at + 120) × (dues ≡ drawn (drawn s (1 * m)) (1 * n)))
-  marks_put s F ef D ed h = (then F (put_as (ap due_text ef) D), (h, ed ∙ ap (λ x. drawn x (1 * n)) ef))
+  pub marks_put : {a b c : Writer} {floors dues : ℕ} (s : ℕ) → Put a b (floor_text s) → floors ≡ drawn s (1 * m) →
+      Put b c (due_text floors) → dues ≡ drawn floors (1 * n) →
+      Put a c (floor_text s ++ due_text (drawn s (1 * m))) × (dues ≡ drawn (drawn s (1 * m)) (1 * n))
+  marks_put s F ef D ed = (then F (put_as (ap due_text ef) D), ed ∙ ap (λ x. drawn x (1 * n)) ef)
 
 module _ (m n s : ℕ) where
   -- the states behind the lag lines, the floor line and the due line
@@ -57,10 +58,10 @@ module _ (m n s : ℕ) where
   parts = in_two panels_text triggers_text (lag_text s) (floor_text m n past_lags) (due_text m n past_floors) (after_text past_dues)
 
   -- each kind of line is drawn from the state that the one before left
-  pub sheet_put : {a b c d e : List ℕ} {q r t u lags dues afters : ℕ} → Puts a b 0 q (panels_text ++ triggers_text) →
-      Puts b c q r (lag_text s) → lags ≡ past_lags → Puts c d r t (floor_text m n lags ++ due_text m n (drawn lags (1 * m))) →
-      dues ≡ drawn (drawn lags (1 * m)) (1 * n) → Puts d e t u (after_text dues) → afters ≡ drawn dues (n * n) →
-      Puts a e 0 u (sheet_text (sheet_from m n s)) × (afters ≡ drawn s (draws m n))
+  pub sheet_put : {a b c d e : Writer} {lags dues afters : ℕ} → Put a b (panels_text ++ triggers_text) →
+      Put b c (lag_text s) → lags ≡ past_lags → Put c d (floor_text m n lags ++ due_text m n (drawn lags (1 * m))) →
+      dues ≡ drawn (drawn lags (1 * m)) (1 * n) → Put d e (after_text dues) → afters ≡ drawn dues (n * n) →
+      Put a e (sheet_text (sheet_from m n s)) × (afters ≡ drawn s (draws m n))
   sheet_put {lags = lags} {dues} {afters} P L el M ed A ea = (
     put_as parts (then (then (then P L) (put_as marks M)) (put_as (ap after_text dues_behind) A)),
     ea ∙ ap (λ x. drawn x (n * n)) dues_behind ∙ drawn_add s (m * n + m + n) (n * n),

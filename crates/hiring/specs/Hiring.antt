@@ -1,12 +1,14 @@
 -- A load that the hire shop can repeat (document 02, No. 6): the sheet that m, n and a state make, the next state, and what the generator returns and
 -- leaves in the lent bytes.
-use Rattle.std.specs.Prelude.{ℕ, zero, suc, ◌+◌, ◌*◌, ◌/◌, ◌%◌, ◌^◌, Bool, cond, ◌&&◌, List, ◌++◌, length, drop, ℤ, pos, ◌-ℤ◌, ◌==◌, nat_le, nat_lt}
+use Rattle.std.specs.Prelude.{ℕ, zero, suc, ◌+◌, ◌*◌, ◌/◌, ◌%◌, ◌^◌, Bool, cond, ◌&&◌, List, ◌++◌, length, drop, ℤ, pos, ◌-ℤ◌, ◌==◌, nat_le, nat_lt, Result, Ok, Err}
 use Rattle.std.proofs.Math.Option.{none}
 use Rattle.maxplus.specs.Entry.{E, absent, num, val}
 use Rattle.maxplus.specs.Tables.{Mat}
 use Rattle.cue.specs.Sizes.{size_limit}
 use Rattle.sheet.specs.Sheet.{Sheet, by_marks}
 use Rattle.sheet_text.specs.SheetText.{sheet_text}
+use Rattle.refusals.specs.Numbers.{refusal_of}
+use Rattle.refusals.specs.declared.Refusal.{Refusal}
 use Rattle.hiring.specs.declared.Hired.{Hired}
 
 -- ---- draws
@@ -99,7 +101,12 @@ abbrev pub bytes_after : HireOutcome → List ℕ → List ℕ
 bytes_after (hired t x) lent = t ++ drop (length t) lent
 bytes_after (refused k) lent = lent
 
--- the answer in a program: how much was written, the next state, and 0 for both where a refusal leaves nothing
-abbrev pub hire_answer : HireOutcome → Hired
-hire_answer (hired t x) = record { refusal = 0; length = length t; state = x }
-hire_answer (refused k) = record { refusal = k; length = 0; state = 0 }
+-- the answer in a program: how much was written and the next state, or the refusal
+abbrev pub hire_answer : HireOutcome → Result Hired Refusal
+hire_answer (hired t x) = Ok (record { length = length t; state = x })
+hire_answer (refused k) = Err (refusal_of k)
+
+-- what is returned of a sheet; 0 for both where there is none
+abbrev pub hired_in : Result Hired Refusal → Hired
+hired_in (Ok r) = r
+hired_in (Err e) = record { length = 0; state = 0 }

@@ -7,11 +7,11 @@ use Rattle.sheet.specs.Cue.{sheet_caps, sheet_lines}
 use Rattle.sheet_text.specs.SheetText.{sheet_text, trimmed}
 use Rattle.planning.specs.Planning.{planning}
 use Rattle.planning.specs.Demands.{Planned}
-use Rattle.hiring.specs.Hiring.{drawn, sheet_from, draws, HireOutcome, hired, size?, hiring, bytes_after, hire_answer}
+use Rattle.hiring.specs.Hiring.{drawn, sheet_from, draws, HireOutcome, hired, size?, hiring, bytes_after, hire_answer, hired_in}
 
 -- the bytes of the sheet: as many as were written, at the front of those lent
 abbrev pub front : HireOutcome → List ℕ → List ℕ
-front o lent = take (hire_answer o).length (bytes_after o lent)
+front o lent = take (hired_in (hire_answer o)).length (bytes_after o lent)
 
 -- reading gives the tables t; some times keep the order; planning with room for the lines is no refusal
 pub record Accepted (t : Sheet) (sheet : List ℕ) : Type 0 where

@@ -20,7 +20,7 @@ pub fn later_state(panels: usize, triggers: usize, state: u32, before: u32) -> u
     if MOST < triggers {
         return state;
     }
-    let steps = (before as u64) * draws_of(panels, triggers) % STATES;
+    let steps = u64::from(before) * draws_of(panels, triggers) % STATES;
     advanced(state, steps)
 }
 
@@ -38,5 +38,5 @@ fn advanced(state: u32, steps: u64) -> u32
     requires { steps < 2 ^ 32 }
     ensures { result ≡ (state + steps * stride) % 2 ^ 32 }
 {
-    ((state as u64 + steps * (STRIDE as u64) % STATES) % STATES) as u32
+    ((u64::from(state) + steps * u64::from(STRIDE) % STATES) % STATES) as u32
 }

@@ -8,15 +8,16 @@ ghost use Rattle.words.specs.Words.{word};
 ghost use Rattle.sheet.specs.Text.{bytes};
 ghost use Rattle.writing.specs.Numerals.{natural};
 ghost use Rattle.writing.specs.Texts.{field};
-ghost use Rattle.writing.specs.Writing.{Puts};
+ghost use Rattle.writing.specs.Writing.{Put};
 ghost use Rattle.sheet_text.specs.SheetText.{rows_text, sheet_text};
-ghost use Rattle.hiring.specs.Hiring as hiring;
 ghost use Rattle.hiring.specs.Hiring.{next, drawn, drawn_item, absence, drawn_items, by_sevens, first_there, all_there, sheet_from};
+ghost use Rattle.hiring.specs.Hiring.{drawn_number, size?};
 ghost use Rattle.hiring.specs.Hiring.{draws, hiring, bytes_after, hire_answer};
 ghost use Rattle.hiring.specs.Inner.{kind_of, RowDrawn, RowsDrawn};
 
+use refusals::Refusal;
 use table_text::put_rows;
-use writing::{natural_field, put_bytes};
+use writing::{Writer, put_bytes};
 
 pub mod chain;
 
@@ -29,10 +30,9 @@ pub const MOST: usize = 6;
 // No sheet of a load has more bytes.
 const LONGEST: usize = 1024;
 
-// 12 or 13 and nothing else; or 0, how many bytes were written, and the next state.
-#[derive(Clone, Copy)]
+// How many bytes were written, and the next state.
+#[derive(Clone, Copy, PartialEq, Eq, Debug)]
 pub struct Hired {
-    pub refusal: u8,
     pub length: usize,
     pub state: u32,
 }
@@ -53,138 +53,94 @@ struct DrawnRow {
     at: [u64; 6],
 }
 
-// The place behind what was put, and the state behind it.
-#[derive(Clone, Copy)]
-struct Put {
-    state: u32,
-    end: usize,
-}
-
-// Writes one sheet at the front of the lent bytes. It is made apart first, since whether it fits is known at its end alone.
-pub fn hire(panels: usize, triggers: usize, state: u32, out: &mut [u8]) -> Hired
+// Writes one sheet at the front of the lent bytes; or 12 or 13. It is made apart first, since whether it fits is known at its end alone.
+pub fn hire(panels: usize, triggers: usize, state: u32, out: &mut [u8]) -> Result<Hired, Refusal>
     ensures returned { result ≡ hire_answer (hiring panels triggers state (length out.old)) }
     ensures written { out.new ≡ bytes_after (hiring panels triggers state (length out.old)) out.old }
 {
-    if !is_size(panels) {
-        return refused(12);
-    }
-    if !is_size(triggers) {
-        return refused(12);
+    if !is_size(panels) || !is_size(triggers) {
+        return Err(Refusal::NoLoadSize);
     }
     let mut text = [0u8; LONGEST];
-    let sheet = put_sheet(&mut text, panels, triggers, state);
-    let length = sheet.end;
+    let mut sheet = Writer::new(&mut text);
+    let next = put_sheet(&mut sheet, panels, triggers, state);
+    let length = sheet.at;
     if out.len() < length {
-        return refused(13);
+        return Err(Refusal::SpaceTooShort);
     }
     put_bytes(out, 0, &text[..length]);
-    Hired {
-        refusal: 0,
-        length: length,
-        state: sheet.state,
-    }
-}
-
-// The answer of a refusal: its number and nothing else.
-fn refused(refusal: u8) -> Hired
-    ensures { result ≡ hire_answer (hiring.refused refusal) }
-{
-    Hired {
-        refusal: refusal,
-        length: 0,
-        state: 0,
-    }
+    Ok(Hired {
+        length,
+        state: next,
+    })
 }
 
 fn is_size(k: usize) -> bool
-    ensures { result ≡ hiring.size? k }
+    ensures { result ≡ size? k }
 {
-    if k < 1 { false } else { k <= MOST }
+    1 <= k && k <= MOST
 }
 
 // The lines of the sizes.
-fn put_sizes(text: &mut [u8], panels: usize, triggers: usize) -> usize
-    requires { 100 ≤ length text.old }
-    ensures puts { Puts text.old text.new 0 result
-        (field (bytes "panels=") (natural panels) ++ field (bytes "triggers=") (natural triggers)) }
-    ensures short { result ≤ 58 }
+fn put_sizes(w: &mut Writer<'_>, panels: usize, triggers: usize)
+    requires { w.old.at + 100 ≤ length w.old.out.now }
+    ensures puts { Put w.old w.new (field (bytes "panels=") (natural panels) ++ field (bytes "triggers=") (natural triggers)) }
+    ensures short { w.new.at ≤ w.old.at + 58 }
 {
-    let end = natural_field(text, 0, b"panels=", panels as u64);
-    natural_field(text, end, b"triggers=", triggers as u64)
+    w.put_field(b"panels=", panels as u64);
+    w.put_field(b"triggers=", triggers as u64);
 }
 
-// The sheet, kind of line by kind of line: the sizes take at most 58 bytes, each other line at most 60.
-fn put_sheet(text: &mut [u8], panels: usize, triggers: usize, state: u32) -> Put
-    requires { (1024 ≤ length text.old) × (panels ≤ size_limit) × (triggers ≤ size_limit) }
-    ensures text { Puts text.old text.new 0 result.end (sheet_text (sheet_from panels triggers state)) }
-    ensures state { result.state ≡ drawn state (draws panels triggers) }
+// The sheet, kind of line by kind of line: the sizes take at most 58 bytes, each other line at most 60. The state behind it.
+fn put_sheet(w: &mut Writer<'_>, panels: usize, triggers: usize, state: u32) -> u32
+    requires { (w.old.at + 1024 ≤ length w.old.out.now) × (panels ≤ size_limit) × (triggers ≤ size_limit) }
+    ensures text { Put w.old w.new (sheet_text (sheet_from panels triggers state)) }
+    ensures state { result ≡ drawn state (draws panels triggers) }
 {
-    let end = put_sizes(text, panels, triggers);
-    let lag = put_lines(
-        text,
-        end,
-        b"lag=",
-        Lines::FirstThere,
-        panels,
-        triggers,
-        state,
-    );
-    let marks = put_marks(text, lag.end, panels, triggers, lag.state);
+    put_sizes(w, panels, triggers);
+    let past_lag = put_lines(w, b"lag=", Lines::FirstThere, panels, triggers, state);
+    let past_marks = put_marks(w, panels, triggers, past_lag);
     put_lines(
-        text,
-        marks.end,
+        w,
         b"after=",
         Lines::BelowDiagonal,
         triggers,
         triggers,
-        marks.state,
+        past_marks,
     )
 }
 
-// The floor line and the due line.
-fn put_marks(text: &mut [u8], at: usize, panels: usize, triggers: usize, state: u32) -> Put
-    requires { (at + 160 ≤ length text.old) × (panels ≤ size_limit) × (triggers ≤ size_limit) }
-    ensures text { Puts text.old text.new at result.end
+// The floor line and the due line; the state behind them.
+fn put_marks(w: &mut Writer<'_>, panels: usize, triggers: usize, state: u32) -> u32
+    requires { (w.old.at + 160 ≤ length w.old.out.now) × (panels ≤ size_limit) × (triggers ≤ size_limit) }
+    ensures text { Put w.old w.new
         (rows_text (bytes "floor=") 1 panels (drawn_items first_there panels state) ++
         rows_text (bytes "due=") 1 triggers (drawn_items all_there triggers (drawn state (1 * panels)))) }
-    ensures short { result.end ≤ at + 120 }
-    ensures state { result.state ≡ drawn (drawn state (1 * panels)) (1 * triggers) }
+    ensures short { w.new.at ≤ w.old.at + 120 }
+    ensures state { result ≡ drawn (drawn state (1 * panels)) (1 * triggers) }
 {
-    let floor = put_lines(text, at, b"floor=", Lines::FirstThere, 1, panels, state);
-    put_lines(
-        text,
-        floor.end,
-        b"due=",
-        Lines::AllThere,
-        1,
-        triggers,
-        floor.state,
-    )
+    let past_floor = put_lines(w, b"floor=", Lines::FirstThere, 1, panels, state);
+    put_lines(w, b"due=", Lines::AllThere, 1, triggers, past_floor)
 }
 
-// The lines of one kind: drawn, then put.
+// The lines of one kind: drawn, then put; the state behind them. The lag lines and the floor line share a kind, so key and sizes stand beside it.
 fn put_lines(
-    text: &mut [u8],
-    at: usize,
+    w: &mut Writer<'_>,
     key: &[u8],
     kind: Lines,
     lines: usize,
     count: usize,
     state: u32,
-) -> Put
-    requires { (at + 60 * lines + 40 ≤ length text.old) × (length key.now ≤ 11) × (lines ≤ size_limit) × (count ≤ size_limit) }
-    ensures text { Puts text.old text.new at result.end
-        (rows_text key.now lines count (drawn_items (kind_of kind) count state)) }
-    ensures short { result.end ≤ at + 60 * lines }
-    ensures state { result.state ≡ drawn state (lines * count) }
+) -> u32
+    requires { (w.old.at + 60 * lines + 40 ≤ length w.old.out.now) × (length key.now ≤ 11) × (lines ≤ size_limit) × (count ≤ size_limit) }
+    ensures text { Put w.old w.new (rows_text key.now lines count (drawn_items (kind_of kind) count state)) }
+    ensures short { w.new.at ≤ w.old.at + 60 * lines }
+    ensures state { result ≡ drawn state (lines * count) }
 {
     let mut rows = [[0u64; 6]; 6];
     let next = draw_rows(kind, lines, count, state, &mut rows);
-    let end = put_rows(text, at, key, &rows, lines, count);
-    Put {
-        state: next,
-        end: end,
-    }
+    put_rows(w, key, &rows, lines, count);
+    next
 }
 
 // Draws the items of the lines of one kind; the state behind them.
@@ -193,13 +149,11 @@ fn draw_rows(kind: Lines, lines: usize, count: usize, state: u32, rows: &mut [[u
     ensures { RowsDrawn (kind_of kind) count state rows.new result lines }
 {
     let mut now = state;
-    let mut i: usize = 0;
-    while i < lines {
+    for i in 0..lines {
         let drawn = draw_row(kind, i, count, now);
         let row = drawn.at;
         rows[i] = row;
         now = drawn.state;
-        i += 1;
     }
     now
 }
@@ -211,20 +165,18 @@ fn draw_row(kind: Lines, i: usize, count: usize, state: u32) -> DrawnRow
 {
     let mut at = [0u64; 6];
     let mut now = state;
-    let mut j: usize = 0;
-    while j < count {
+    for j in 0..count {
         now = draw(now);
         at[j] = item(kind, i, j, now >> 16);
-        j += 1;
     }
-    DrawnRow { state: now, at: at }
+    DrawnRow { state: now, at }
 }
 
 // One draw.
 fn draw(state: u32) -> u32
     ensures { result ≡ next state }
 {
-    std::num::wrapping_add_u32(state, STRIDE)
+    state.wrapping_add(STRIDE)
 }
 
 // The j-th item of the i-th line, made of a draw.
@@ -245,13 +197,9 @@ fn by_sevens(u: u32) -> u64
     if u % 7 == 0 { 0 } else { number(u) }
 }
 
-// The number of a draw, by its sign: a word is made of an unsigned number.
+// The number of a draw.
 fn number(u: u32) -> u64
-    ensures { result ≡ word (num (hiring.drawn_number u)) }
+    ensures { result ≡ word (num (drawn_number u)) }
 {
-    let rest = (u % 2001) as u64;
-    if rest < 1000 {
-        return words::negative(1000 - rest);
-    }
-    words::positive(rest - 1000)
+    words::of_number(i64::from(u % 2001) - 1000)
 }

@@ -1,11 +1,12 @@
 -- Laws of numerals and items at a place of the bytes.
 use mathlib.Core.Path.{◌≡◌, refl, ap, sym, ◌∙◌}
 use mathlib.Core.List.{List, [], ◌∷◌}
+use Rattle.std.proofs.Common.{Option, Some, None}
 use mathlib.Core.Bool.{Bool, true, false, cond, ◌&&◌}
 use Prim.Native.Nat.{ℕ, zero, suc, ◌+◌, ◌-◌, ◌*◌, ◌≤◌, ◌<◌, min}
 use native.Mathlib.Numerals.{add-one}
 use native.Mathlib.Omega.{arith}
-use borrow.Author.Tests.{leb-true, le-leb, lt-leb, eq-eqb, ne_eqb}
+use borrow.Author.Tests.{leb-true, eq-eqb, ne_eqb}
 use lib.Dec.{leb}
 use lib.IntN.{pos}
 use lib.ListN.{length, drop, get_or, drop_of_length-le}
@@ -18,15 +19,8 @@ use Rattle.sheet.specs.Text.{bytes}
 use Rattle.items.specs.Inner.{clip, NumeralAt, ItemIs}
 use Rattle.items.specs.declared.Numeral.{Numeral}
 use Rattle.items.specs.declared.Item.{Item}
-use Rattle.items.specs.declared.Item.TheVariants.{Entry, Faulty}
 
 -- the tests of a byte
-pub range_low : (a b : ℕ) → b < a → false ≡ leb a b && leb b 57
-range_low a b h = rw (lt-leb a b h)
-
-pub range_from : (a b : ℕ) → a ≤ b → leb b 57 ≡ leb a b && leb b 57
-range_from a b h = rw (le-leb a b h)
-
 both_true : (t u : Bool) → t && u ≡ true → (t ≡ true) × (u ≡ true)
 both_true true u e = (refl, e)
 both_true false u e = (e, cc)
@@ -35,12 +29,6 @@ pub range_bounds : (a b : ℕ) → leb a b && leb b 57 ≡ true → (a ≤ b) ×
 range_bounds a b e =
     let p = both_true (leb a b) (leb b 57) e in
     (leb-true a b p.0, leb-true b 57 p.1)
-
-pub leading_digit : (b : ℕ) → leading b ≡ true → 48 ≤ b
-leading_digit b e = omega (arith, range_bounds 49 b e)
-
-pub leading_worth : (w b : ℕ) → leading b ≡ true → w ≡ b - 48 → w ≤ 9
-leading_worth w b e q = omega (arith, range_bounds 49 b e)
 
 module _ (most : ℕ) where
   cond_capped : (t : Bool) (a b x y : ℕ) → min a (suc most) ≡ min b (suc most) → min x (suc most) ≡ min y (suc most)
@@ -91,9 +79,6 @@ module _ (s : List ℕ) (at : ℕ) where
     behind_digit e = rw (add-one, drop-cons s at 0 h, e)
 
 module _ {most : ℕ} {s : List ℕ} {from first : ℕ} where
-  pub read_first : from ≤ length s → first ≤ 9 → 9 ≤ most → ReadTo most s from first from first
-  read_first h k m = record { within = h; small = omega arith; value_on = refl; behind_on = refl }
-
   module _ {at v : ℕ} (r : ReadTo most s from first at v) where
     pub read_digit : (w : ℕ) → at < length s → digit (get_or s at 0) ≡ true → w ≡ min (v * 10 + (get_or s at 0 - 48)) (suc most)
         → ReadTo most s from first (at + 1) w
@@ -119,6 +104,9 @@ module _ {most : ℕ} {s : List ℕ} {from first : ℕ} where
         }
 
 -- items
+abbrev pub stands : ℕ → ℕ → Option Item
+stands w next = Some (record { word = w; next = next })
+
 clip_neg : (most n : ℕ) → clip most (num (neg (pos n))) ≡ num (neg (pos (min n (suc most))))
 unfolding neg
 clip_neg most zero = let e : min 0 (suc most) ≡ 0 = omega arith in rw e
@@ -135,11 +123,11 @@ module _ (s : List ℕ) (at : ℕ) where
   unfolding signed
   signed_nil h = rw (drop_of_length-le s h)
 
-  lone_minus : (most : ℕ) → at ≤ length s → signed (drop at s) ≡ got absent (drop at s) → ItemIs most signed s at (Entry 0 at)
+  lone_minus : (most : ℕ) → at ≤ length s → signed (drop at s) ≡ got absent (drop at s) → ItemIs most signed s at (stands 0 at)
   unfolding word
   lone_minus most h e = (absent, e, refl, h)
 
-  pub signed_end : (most : ℕ) → at ≤ length s → length s ≤ at → ItemIs most signed s at (Entry 0 at)
+  pub signed_end : (most : ℕ) → at ≤ length s → length s ≤ at → ItemIs most signed s at (stands 0 at)
   signed_end most k h = lone_minus most k (signed_nil h)
 
   module _ (h : at < length s) where
@@ -152,11 +140,11 @@ module _ (s : List ℕ) (at : ℕ) where
     unfolding signed
     signed_none e = rw (drop-cons s at 0 h, e)
 
-    pub signed_other : (most : ℕ) → leading (get_or s at 0) ≡ false → ItemIs most signed s at (Entry 0 at)
+    pub signed_other : (most : ℕ) → leading (get_or s at 0) ≡ false → ItemIs most signed s at (stands 0 at)
     signed_other most e = lone_minus most (omega arith) (signed_none e)
 
     pub signed_numeral : {most : ℕ} {m : Numeral} (w : ℕ) → leading (get_or s at 0) ≡ true → NumeralAt most s (at + 1) (get_or s at 0 - 48) m
-        → w ≡ word (num (neg (pos m.value))) → ItemIs most signed s at (Entry w m.next)
+        → w ≡ word (num (neg (pos m.value))) → ItemIs most signed s at (stands w m.next)
     signed_numeral {most} w e r q =
         let v = value (get_or s at 0 - 48) (drop (at + 1) s) in
         let clipped = ap (λ n. num (neg (pos n))) r.value_is ∙ sym (clip_neg most v) in
@@ -166,15 +154,15 @@ module _ (s : List ℕ) (at : ℕ) where
     unfolding item
     item_minus e = rw (add-one, drop-cons s at 0 h, e)
 
-    pub item_signed : (most : ℕ) → get_or s at 0 ≡ 45 → (r : Item) → ItemIs most signed s (at + 1) r → ItemIs most item s at r
-    item_signed most e (Entry w next) (x, q, v, k) = (x, item_minus e ∙ q, v, k)
-    item_signed most e Faulty q = item_minus e ∙ q
+    pub item_signed : (most : ℕ) → get_or s at 0 ≡ 45 → (r : Option Item) → ItemIs most signed s (at + 1) r → ItemIs most item s at r
+    item_signed most e (Some r) (x, q, v, k) = (x, item_minus e ∙ q, v, k)
+    item_signed most e None q = item_minus e ∙ q
 
     item_nought : get_or s at 0 ≡ 48 → item (drop at s) ≡ got (num (pos 0)) (drop (at + 1) s)
     unfolding item
     item_nought e = rw (add-one, drop-cons s at 0 h, eq-eqb _ _ e)
 
-    pub item_zero : (most : ℕ) → get_or s at 0 ≡ 48 → (w : ℕ) → w ≡ word (num (pos 0)) → ItemIs most item s at (Entry w (at + 1))
+    pub item_zero : (most : ℕ) → get_or s at 0 ≡ 48 → (w : ℕ) → w ≡ word (num (pos 0)) → ItemIs most item s at (stands w (at + 1))
     item_zero most e w q =
         let none : min 0 (suc most) ≡ 0 = omega arith in
         (num (pos 0), item_nought e, rw none q, omega arith)
@@ -186,7 +174,7 @@ module _ (s : List ℕ) (at : ℕ) where
       item_leading e = rw (add-one, drop-cons s at 0 h, ne_eqb _ _ n, ne_eqb _ _ k, e)
 
       pub item_numeral : {most : ℕ} {m : Numeral} (w : ℕ) → leading (get_or s at 0) ≡ true → NumeralAt most s (at + 1) (get_or s at 0 - 48) m
-          → w ≡ word (num (pos m.value)) → ItemIs most item s at (Entry w m.next)
+          → w ≡ word (num (pos m.value)) → ItemIs most item s at (stands w m.next)
       item_numeral w e r q =
           let v = value (get_or s at 0 - 48) (drop (at + 1) s) in
           (num (pos v), item_leading e ∙ rw r.rest, q ∙ ap (λ n. word (num (pos n))) r.value_is, r.within)
@@ -209,7 +197,7 @@ pub ended_none : (left : ℕ) (s : List ℕ) → item s ≡ refused 2 → ended 
 unfolding ended
 ended_none left s e = rw e
 
-module _ (most left : ℕ) (s : List ℕ) (at next : ℕ) {w : ℕ} (i : ItemIs most item s at (Entry w next)) {b : ℕ} (end : ending left ≡ b ∷ []) where
+module _ (most left : ℕ) (s : List ℕ) (at next : ℕ) {w : ℕ} (i : ItemIs most item s at (stands w next)) {b : ℕ} (end : ending left ≡ b ∷ []) where
   pub ended_short : length s ≤ next → ended left (drop at s) ≡ refused 2
   unfolding ended literal
   ended_short h = rw (i.1, end, drop_of_length-le s h)
@@ -219,6 +207,6 @@ module _ (most left : ℕ) (s : List ℕ) (at next : ℕ) {w : ℕ} (i : ItemIs 
     unfolding ended literal
     ended_differs n = rw (i.1, end, drop-cons s next 0 h, ne_eqb _ _ n)
 
-    pub ended_whole : get_or s next 0 ≡ b → ItemIs most (ended left) s at (Entry w (next + 1))
+    pub ended_whole : get_or s next 0 ≡ b → ItemIs most (ended left) s at (stands w (next + 1))
     unfolding ended literal
     ended_whole e = (i.0, rw (i.1, end, add-one, drop-cons s next 0 h, eq-eqb _ _ e), i.2, omega arith)

@@ -1,5 +1,5 @@
 -- What the kept table's answer says: its bytes and counts are those of document 01's panels, 0 past the last.
-use mathlib.Core.Path.{◌≡◌, ap, sym, ◌∙◌}
+use mathlib.Core.Path.{◌≡◌, refl, ap, sym, subst, ◌∙◌}
 use mathlib.Core.Logic.{◌⊎◌, inl, inr}
 use mathlib.Core.Bool.{false, not}
 use mathlib.Core.List.{List, [], ◌∷◌}
@@ -8,6 +8,8 @@ use native.Mathlib.Omega.{arith}
 use native.Mathlib.Decide.{dec_lt}
 use borrow.Author.Tests.{lt-ltb}
 use lib.Count.{ones}
+use Rattle.std.specs.Prelude.{Result, Ok}
+use Rattle.refusals.specs.declared.Refusal.{Refusal}
 use lib.Dec.{T}
 use lib.ListN.{length, get_or, get_or-eq_default}
 use lib.Seq.{ext_get_or}
@@ -26,6 +28,8 @@ use Rattle.sheet.specs.Cue.{most_steps}
 use Rattle.sheet.proofs.OrderedLaws.{ordered_by}
 use Rattle.sheet.proofs.Fits.{all_fit}
 use Rattle.preparing.proofs.Results.{kept_bit}
+use Rattle.reading.proofs.Refusals.{ordered_is}
+use Rattle.refusals.proofs.NumberLaws.{Known}
 use Rattle.trigger_sets.specs.Sets.{bit}
 use Rattle.trigger_sets.proofs.BitLaws.{bit_none}
 use Rattle.trigger_sets.proofs.ByteLaws.{byte_ext, byte_empty, byte_ones}
@@ -40,7 +44,7 @@ use Rattle.walk.proofs.Stepping.{Walked, step_remembers}
 use Rattle.walk.proofs.Follows.{counts_follow}
 use Rattle.preparing.specs.Prepared.{MarkedAs}
 use Rattle.preparing.specs.declared.Marked.{Marked}
-use Rattle.keeping.specs.Keeping.{kept_of, keeping, six_counts, kept_answer, StepsAtMost}
+use Rattle.keeping.specs.Keeping.{refused, kept_of, keeping, six_counts, kept_answer, table_in, StepsAtMost}
 use Rattle.sheet.specs.Ordered.{ordered}
 use Rattle.keeping.specs.declared.KeptTable.{KeptTable}
 use Rattle.cue.specs.Sizes.{size_limit, six}
@@ -131,22 +135,22 @@ module _ (t : spec.Sheet) (few : t.triggers ≤ size_limit) where
 
 -- ---- the whole answer
 same_table : {D E : ℤ} {p q : ℕ} {b c x y : List ℕ} {k l i j : ℕ} → D ≡ E → p ≡ q → b ≡ c → x ≡ y → k ≡ l → i ≡ j →
-    ◌≡◌ {A = KeptTable} (record { refusal = 0; deviation = D; panels = p; kept = b; counts = x; steps = k; selections = i })
-    (record { refusal = 0; deviation = E; panels = q; kept = c; counts = y; steps = l; selections = j })
+    ◌≡◌ {A = KeptTable} (record { deviation = D; panels = p; kept = b; counts = x; steps = k; selections = i })
+    (record { deviation = E; panels = q; kept = c; counts = y; steps = l; selections = j })
 same_table d p b x k i = cc
 
 pub walked_answer : (t : spec.Sheet) (x : List ℕ) → t.triggers ≤ size_limit → {lags stars gains needs : List (List ℕ)} {r : Marked} →
     MarkedAs (cue_size t) (cue_of t) lags stars gains needs r → (D : ℤ) → D ≡ sheet_least t →
     (b : List ℕ) → b ≡ six (λ i. byte_of t.triggers (filled (used t) (λ j. false) (bit (get_or r.kept i 0)))) →
     (ns : List ℕ) → ns ≡ six_counts b → (k : Counts) → k ≡ counts_of r.marks.kept gains r.marks.levels →
-    ◌≡◌ {A = KeptTable}
-    (record { refusal = 0; deviation = D; panels = r.marks.panels; kept = b; counts = ns; steps = k.steps; selections = k.selections })
+    ◌≡◌ {A = Result KeptTable Refusal}
+    (Ok (record { deviation = D; panels = r.marks.panels; kept = b; counts = ns; steps = k.steps; selections = k.selections }))
     (kept_answer (kept_of (got t x)))
 walked_answer t x six-triggers {r} M D d b h ns e k f =
-    same_table d (M.prepared.panels ∙ sym (length_each t.panels (pair (sheet_byte t) (sheet_count t))))
+    ap Ok (same_table d (M.prepared.panels ∙ sym (length_each t.panels (pair (sheet_byte t) (sheet_count t))))
     (bytes_answer t.panels _ _ b few long here past (ones_laid t six-triggers))
     (e ∙ counts_answer t.panels _ _ b few long here past (ones_laid t six-triggers))
-    (ap (λ c. c.steps) counted) (ap (λ c. c.selections) counted)
+    (ap (λ c. c.steps) counted) (ap (λ c. c.selections) counted))
   where
     laid : ℕ → ℕ
     laid i = laid_byte t six-triggers (get_or r.kept i 0)
@@ -188,12 +192,21 @@ pub keeping_of : (s : List ℕ) {g : Got spec.Sheet} → ordered s ≡ g → kep
 unfolding keeping
 keeping_of s e = sym (ap kept_of e)
 
+-- what is refused is one of `refusals`
+pub refused_known : (s : List ℕ) (k : ℕ) → keeping s ≡ refused k → Known k
+unfolding keeping
+refused_known s k = go (ordered s) refl
+  where
+    go : (g : Got spec.Sheet) → ordered s ≡ g → kept_of g ≡ refused k → Known k
+    go (spec.refused j) q e = let h : j ≡ k = cc in subst Known h (ordered_is s j q)
+    go (got t r) q e = let z : ◌≡◌ {A = ℕ} 0 1 = cc in let x : ⊥ = omega arith in absurd x
+
 -- ---- "steps is at most n + n² + ... + n to the power f"
 pub steps_at_most : StepsAtMost
 unfolding keeping
 steps_at_most s t r e = go (orderly? t) (ordered_by s t r e)
   where
     go : (d : Dec (Orderly t)) → ordered s ≡ elim d [ yes h ↦ got t r | no h ↦ spec.refused 8 ] →
-        (kept_answer (kept_of (ordered s))).steps ≤ most_steps t
+        (table_in (kept_answer (kept_of (ordered s)))).steps ≤ most_steps t
     go (yes o) q = rw q (all_fit s t r e).steps_most
     go (no o) q = rw q (omega arith)

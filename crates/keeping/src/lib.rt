@@ -7,16 +7,18 @@ ghost use Rattle.maxplus.specs.Packing.{filled};
 ghost use Rattle.cue.specs.Sizes.{six};
 ghost use Rattle.trigger_sets.specs.Sets.{bit};
 ghost use Rattle.spares.specs.Using.{PlacesOf};
-ghost use Rattle.keeping.specs.Keeping as outcome;
 ghost use Rattle.keeping.specs.Keeping.{keeping, kept_answer, six_counts};
 
+use preparing::{Tables, prepare};
+use reading::read_sheet;
+use refusals::Refusal;
 use spares::{Places, laid_set};
+use walk::Levels;
 
-// Document 01's refusal, 1 to 8, and nothing else; or 0, Δ, for each panel the byte of its kept triggers and their number (0 and 0 without a
-// floor and past the last panel), the walk's fixings and its selections.
-#[derive(Clone, Copy)]
+// Δ, for each panel the byte of its kept triggers and their number (0 and 0 without a floor and past the last panel), the walk's fixings and
+// its selections.
+#[derive(Clone, Copy, PartialEq, Eq, Debug)]
 pub struct KeptTable {
-    pub refusal: u8,
     pub deviation: i64,
     pub panels: usize,
     pub kept: [u8; 6],
@@ -25,40 +27,32 @@ pub struct KeptTable {
     pub selections: u32,
 }
 
-// The kept table and the walk's numbers for a sheet.
-pub fn kept_table(bytes: &[u8]) -> KeptTable
+// The kept table and the walk's numbers for a sheet; or document 01's refusal, 1 to 8 or 14.
+pub fn kept_table(bytes: &[u8]) -> Result<KeptTable, Refusal>
     ensures { result ≡ kept_answer (keeping bytes.now) }
 {
-    let blank = [0u64; 6];
-    let mut order = [blank; 6];
-    let mut lag = [blank; 6];
-    let mut star = [blank; 6];
-    let mut gains = [blank; 6];
-    let mut needs = [blank; 6];
-    let reading = reading::read_sheet(bytes);
-    let prepared = preparing::prepare(
-        reading, &mut order, &mut lag, &mut star, &mut gains, &mut needs,
-    );
-    if prepared.refusal != 0 {
-        return no_table(prepared.refusal);
-    }
+    let sheet = read_sheet(bytes)?;
+    let mut tables = Tables::blank();
+    let prepared = prepare(&sheet, &mut tables)?;
     let marked = prepared.marked;
-    let marks = marked.marks;
-    let f = marks.levels;
-    let masks = marks.kept;
-    let counts = walk::count(f, &masks, &gains, &needs, marks.triggers);
-    let places = prepared.cue.places;
+    let masks = marked.marks.kept;
+    let levels = Levels {
+        count: marked.marks.levels,
+        kept: &masks,
+        gains: &tables.gains,
+        needs: &tables.needs,
+    };
+    let counts = walk::count(&levels, marked.marks.triggers);
     let sets = marked.kept;
-    let kept = laid_sets(sets, places);
-    KeptTable {
-        refusal: 0,
+    let kept = laid_sets(sets, prepared.cue.places);
+    Ok(KeptTable {
         deviation: words::number(marked.least),
-        panels: marks.panels,
-        kept: kept,
+        panels: marked.marks.panels,
+        kept,
         counts: ones_of(kept),
         steps: counts.steps,
         selections: counts.selections,
-    }
+    })
 }
 
 // The kept triggers of six panels over all triggers of the sheet, each at its own bit.
@@ -68,27 +62,10 @@ fn laid_sets(sets: [u8; 6], p: Places) -> [u8; 6]
         result ≡ six (λ i. byte_of n (filled s (λ j. false) (bit (get_or sets i 0)))) }
 {
     let mut r = [0u8; 6];
-    let mut i: usize = 0;
-    while i < 6 {
+    for i in 0..6 {
         r[i] = laid_set(sets[i], p);
-        i += 1;
     }
     r
-}
-
-// The answer of a refusal: its number and nothing else.
-fn no_table(refusal: u8) -> KeptTable
-    ensures { result ≡ kept_answer (outcome.refused refusal) }
-{
-    KeptTable {
-        refusal: refusal,
-        deviation: 0,
-        panels: 0,
-        kept: [0u8; 6],
-        counts: [0u8; 6],
-        steps: 0,
-        selections: 0,
-    }
 }
 
 // "the number of bits set is reported with it"
@@ -96,10 +73,8 @@ fn ones_of(kept: [u8; 6]) -> [u8; 6]
     ensures { result ≡ six_counts kept }
 {
     let mut r = [0u8; 6];
-    let mut i: usize = 0;
-    while i < 6 {
+    for i in 0..6 {
         r[i] = trigger_sets::ones(kept[i]);
-        i += 1;
     }
     r
 }

@@ -1,6 +1,6 @@
--- What is known of a kept table's outcome: a refusal has a number from 1 on, a table at most six panels. So the text of the answer in a
+-- What is known of a kept table's outcome: a refusal is one of `refusals`, a table has at most six panels. So the text of the answer in a
 -- program is the text of the outcome.
-use mathlib.Core.Path.{◌≡◌, refl, ap, sym, subst, ◌∙◌}
+use mathlib.Core.Path.{◌≡◌, refl, ap, sym, ◌∙◌}
 use mathlib.Core.List.{List, [], ◌∷◌}
 use Prim.Native.Nat.{ℕ, ◌≤◌, ◌<◌}
 use native.Mathlib.Omega.{arith}
@@ -12,15 +12,21 @@ use mir.Syntax.{w64}
 use mir.Val.{SFits, to_z, of_z}
 use Rattle.maxplus.specs.Finite.{each}
 use Rattle.maxplus.proofs.EachLaws.{length_each, each_at}
-use Rattle.sheet.specs.Sheet.{Got, got, Sheet, ◌>>=◌, read}
+use Rattle.sheet.specs.Sheet.{Got, got, Sheet}
 use Rattle.sheet.specs.Sheet as sheet
-use Rattle.reading.proofs.Refusals.{refusal_known}
+use Rattle.std.specs.Prelude.{Result, Ok, Err}
+use Rattle.refusals.specs.Numbers.{number}
+use Rattle.refusals.specs.declared.Refusal.{Refusal}
+use Rattle.refusals.proofs.NumberLaws.{Known, number_of, known_within}
+use Rattle.refusals.proofs.ResultLaws.{ok_not_err, same_ok, same_err}
+use Rattle.keeping.proofs.KeptLaws.{refused_known}
+use Rattle.reading.proofs.Refusals.{ordered_is}
 use Rattle.sheet.proofs.Good.{read_good}
 use Rattle.advice.specs.Advice.{advice}
 use Rattle.writing.specs.Texts.{kept_text, refusal_text}
 use Rattle.keeping.specs.Keeping.{KeptOutcome, kept, refused, kept_of, keeping, kept_answer}
 use Rattle.cue.specs.Sizes.{six}
-use Rattle.sheet.specs.Cue.{Orderly, orderly?}
+use Rattle.sheet.proofs.OrderedLaws.{ordered_read}
 use Rattle.sheet.specs.Ordered.{ordered}
 use Rattle.keeping.specs.declared.KeptTable.{KeptTable}
 use Rattle.advice.proofs.AdviceLaws.{advised}
@@ -29,22 +35,15 @@ use Rattle.cue.specs.Sizes.{size_limit}
 
 abbrev pub Sound : KeptOutcome → Type 0
 Sound (kept D panels k l) = length panels ≤ size_limit
-Sound (refused k) = (1 ≤ k) × (k ≤ 14)
-
--- a sheet that was read, whether or not its order can be kept
-ordered_sound : (s : List ℕ) (t : Sheet) (r : List ℕ) → read s ≡ got t r → (d : Dec (Orderly t)) →
-    Sound (kept_of (elim d [ yes h ↦ got t r | no h ↦ sheet.refused 8 ]))
-ordered_sound s t r e (yes h) = simp length_each (read_good s t r e).panels_few
-ordered_sound s t r e (no h) = (omega arith, omega arith)
+Sound (refused k) = Known k
 
 pub keeping_sound : (s : List ℕ) → Sound (keeping s)
-unfolding keeping ordered
-keeping_sound s = go (read s) refl
+unfolding keeping
+keeping_sound s = go (ordered s) refl
   where
-    go : (g : Got Sheet) → read s ≡ g →
-        Sound (kept_of (g >>= λ t r. elim (orderly? t) [ yes h ↦ got t r | no h ↦ sheet.refused 8 ]))
-    go (sheet.refused k) e = let n = refusal_known s k e in (n.0, let m = n.1 in omega arith)
-    go (got t r) e = ordered_sound s t r e (orderly? t)
+    go : (g : Got Sheet) → ordered s ≡ g → Sound (kept_of g)
+    go (sheet.refused k) e = ordered_is s k e
+    go (got t r) e = simp length_each (read_good s t r (ordered_read s t r e)).panels_few
 
 -- the first six pairs, part by part, are the pairs again
 module _ (P : List (ℕ × ℕ)) (few : length P ≤ size_limit) where
@@ -68,36 +67,32 @@ module _ (P : List (ℕ × ℕ)) (few : length P ≤ size_limit) where
 abbrev table_text : KeptTable → List ℕ
 table_text t = kept_text t.deviation (each t.panels (λ i. (get_or t.kept i 0, get_or t.counts i 0) ∷ [])) t.steps t.selections
 
-refused_out : (o : KeptOutcome) → ¬ ((kept_answer o).refusal ≡ 0) → refusal_text (kept_answer o).refusal ≡ kept_output o
-refused_out (kept D P k l) h = absurd (h refl)
-refused_out (refused k) h = refl
+table_is : (o : KeptOutcome) → Sound o → (t : KeptTable) → Ok t ≡ kept_answer o →
+    (t.panels ≤ size_limit) × (table_text t ≡ kept_output o) × (kept_complaint o ≡ [])
+table_is (kept D P k l) few t e = rw (same_ok t _ e) (few, ap (λ p. kept_text D p k l) (panels_again P few), refl)
+table_is (refused k) q t e = ok_not_err t _ e
 
-few_kept : (o : KeptOutcome) → Sound o → (kept_answer o).panels ≤ size_limit
-few_kept (kept D P k l) h = h
-few_kept (refused k) h = omega arith
+refused_is : (o : KeptOutcome) → Sound o → (r : Refusal) → Err r ≡ kept_answer o → o ≡ refused (number r)
+refused_is (kept D P k l) q r e = ok_not_err _ r (sym e)
+refused_is (refused k) q r e = ap refused (sym (ap number (same_err r _ e) ∙ number_of k q))
 
-kept_out : (o : KeptOutcome) → Sound o → (kept_answer o).refusal ≡ 0 → table_text (kept_answer o) ≡ kept_output o
-kept_out (kept D P k l) few h = ap (λ p. kept_text D p k l) (panels_again P few)
-kept_out (refused k) numbered h = let n = numbered.0 in let e : ⊥ = omega arith in absurd e
+module _ (s : List ℕ) {a : Result KeptTable Refusal} (e : a ≡ kept_answer (keeping s)) where
+  module _ (t : KeptTable) (is : a ≡ Ok t) where
+    pub few_out : t.panels ≤ size_limit
+    few_out = (table_is (keeping s) (keeping_sound s) t (sym is ∙ e)).0
 
-complained : (o : KeptOutcome) → advice (kept_answer o).refusal ≡ kept_complaint o
-unfolding advice
-complained (kept D P k l) = refl
-complained (refused k) = refl
+    pub table_out : table_text t ≡ kept_output (keeping s)
+    table_out = (table_is (keeping s) (keeping_sound s) t (sym is ∙ e)).1
 
-module _ (s : List ℕ) (t : KeptTable) (e : t ≡ kept_answer (keeping s)) where
-  pub refusal_out : ¬ (t.refusal ≡ 0) → refusal_text t.refusal ≡ kept_output (keeping s)
-  refusal_out h =
-      subst (λ (t : KeptTable). ¬ (t.refusal ≡ 0) → refusal_text t.refusal ≡ kept_output (keeping s)) (sym e) (refused_out (keeping s)) h
+    pub quiet : [] ≡ kept_complaint (keeping s)
+    quiet = sym (table_is (keeping s) (keeping_sound s) t (sym is ∙ e)).2
 
-  pub few_out : t.panels ≤ size_limit
-  few_out = subst (λ (t : KeptTable). t.panels ≤ size_limit) (sym e) (few_kept (keeping s) (keeping_sound s))
+  module _ (r : Refusal) (is : a ≡ Err r) where
+    pub refusal_out : refusal_text (number r) ≡ kept_output (keeping s)
+    refusal_out = sym (ap kept_output (refused_is (keeping s) (keeping_sound s) r (sym is ∙ e)))
 
-  pub table_out : t.refusal ≡ 0 → table_text t ≡ kept_output (keeping s)
-  table_out h = subst (λ (t : KeptTable). t.refusal ≡ 0 → table_text t ≡ kept_output (keeping s)) (sym e) (kept_out (keeping s) (keeping_sound s)) h
-
-  pub complaint_out : advice t.refusal ≡ kept_complaint (keeping s)
-  complaint_out = ap (λ (t : KeptTable). advice t.refusal) e ∙ complained (keeping s)
+    pub complaint_out : advice (number r) ≡ kept_complaint (keeping s)
+    complaint_out = sym (ap kept_complaint (refused_is (keeping s) (keeping_sound s) r (sym is ∙ e)))
 
 -- the deviation as a signed word is the deviation
 pub deviation_back : {D : ℤ} (P : List (ℕ × ℕ)) (k l : ℕ) → SFits w64 D → kept_text (to_z w64 (of_z w64 D)) P k l ≡ kept_text D P k l
@@ -106,5 +101,5 @@ deviation_back P k l f = ap (λ z. kept_text z P k l) (to_z-of_z f)
 -- a refusal gets a sentence
 pub explained : (s : List ℕ) (k : ℕ) → keeping s ≡ refused k → 0 < length (kept_complaint (keeping s))
 explained s k e =
-    let n = subst Sound e (keeping_sound s) in
-    rw e (advised k n.0 (let m = n.1 in omega arith))
+    let n = known_within k (refused_known s k e) in
+    rw e (advised k n.0 n.1)

@@ -15,15 +15,17 @@ fn answer(bytes: &[u8], out: &mut [u8; 256], errors: &mut [u8; 400]) -> Ends
     ensures prefix_len_2 { IsPrefixLen result.complaint errors.new }
     ensures errors_after { take result.complaint errors.new ≡ kept_complaint (keeping bytes.now) }
 {
-    let table = keeping::kept_table(bytes);
-    let complaint = advice::advice_text(errors, table.refusal);
-    if table.refusal != 0 {
-        let refused = text::refusal_text(out, table.refusal);
-        return Ends {
-            text: refused,
-            complaint: complaint,
-        };
-    }
+    let table = match keeping::kept_table(bytes) {
+        Ok(table) => table,
+        Err(refusal) => {
+            let complaint = advice::advice_text(errors, refusal.number());
+            let refused = text::refusal_text(out, refusal.number());
+            return Ends {
+                text: refused,
+                complaint,
+            };
+        }
+    };
     let kept = table.kept;
     let counts = table.counts;
     let listed = text::kept_text(
@@ -32,12 +34,12 @@ fn answer(bytes: &[u8], out: &mut [u8; 256], errors: &mut [u8; 400]) -> Ends
         table.panels,
         kept,
         counts,
-        table.steps as u64,
-        table.selections as u64,
+        u64::from(table.steps),
+        u64::from(table.selections),
     );
     Ends {
         text: listed,
-        complaint: complaint,
+        complaint: 0,
     }
 }
 
@@ -48,10 +50,5 @@ fn main() {
     let mut out = [0u8; 256];
     let mut errors = [0u8; 400];
     let ends = answer(&sheet[..length], &mut out, &mut errors);
-    let text = ends.text;
-    io::write_all(1, &out[..text]);
-    let complaint = ends.complaint;
-    if complaint != 0 {
-        io::write_all(2, &errors[..complaint]);
-    }
+    ends.write(&out, &errors);
 }

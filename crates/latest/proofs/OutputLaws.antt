@@ -1,4 +1,4 @@
--- What is known of the outcome: a timing has at most six components; 9 has a count; any other refusal has a number from 1 to 11. So the text of the
+-- What is known of the outcome: a timing has at most six components; 9 has a count; any other refusal is one of `refusals`. So the text of the
 -- answer in a program is the text of the outcome, and every refusal gets a sentence.
 use mathlib.Core.Path.{◌≡◌, refl, ap, sym, ◌∙◌}
 use mathlib.Core.Bool.{Bool, true, false, cond}
@@ -6,6 +6,14 @@ use mathlib.Core.List.{List, [], ◌∷◌}
 use mathlib.Core.Option.{Option, none, some}
 use Prim.Native.Nat.{ℕ, ◌/◌, ◌≤◌, ◌<◌}
 use native.Mathlib.Omega.{arith}
+use native.Mathlib.Decide.{dec_lt}
+use Rattle.std.specs.Prelude.{Result, Ok, Err}
+use Rattle.refusals.specs.Numbers.{number}
+use Rattle.refusals.proofs.NumberLaws.{Known, number_of, known_within}
+use Rattle.refusals.proofs.ResultLaws.{ok_not_err, same_ok, same_err}
+use Rattle.planning.specs.Planning.{unplanned_number}
+use Rattle.planning.specs.declared.Unplanned.{Unplanned}
+use Rattle.planning.specs.declared.Unplanned.TheVariants.{Refused, NoRoom}
 use borrow.Author.Tests.{leb-true, leb-false}
 use lib.Dec.{leb}
 use lib.IntN.{ℤ}
@@ -23,26 +31,26 @@ use Rattle.sheet.specs.Admitted.{admitted}
 use Rattle.sheet.proofs.Good.{read_good}
 use Rattle.sheet.proofs.AdmittedLaws.{admitted_as}
 use Rattle.sheet.proofs.Latest.{latest_exists}
-use Rattle.admitting.proofs.Known.{admitted_known}
+use Rattle.admitting.proofs.Known.{admitted_is}
 use Rattle.timing.specs.Times.{component, timing_of}
 use Rattle.timing.proofs.NumberLaws.{component_of}
 use Rattle.writing.specs.Numerals.{numeral}
-use Rattle.writing.specs.Texts.{field, joined, latest_text, full_text, refusal_text}
+use Rattle.writing.specs.Texts.{field, joined, latest_text}
 use Rattle.advice.specs.Advice.{advice}
 use Rattle.advice.proofs.AdviceLaws.{advised}
-use Rattle.reaching.specs.Reaching.{ReachOutcome, reached, full, refused, reach_of, reaching, reach_answer}
+use Rattle.reaching.specs.Reaching.{ReachOutcome, reached, full, refused, reach_of, reaching, reach_answer, reach_extent}
 use Rattle.reaching.specs.Promise.{Succeeds}
 use Rattle.reaching.specs.declared.Reached.{Reached}
-use Rattle.latest.specs.Output.{reached_text, reached_complaint, program_reach, program_text, program_complaint}
+use Rattle.latest.specs.Output.{reached_text, unplanned_text, reached_complaint, program_reach, program_text, program_complaint}
 
 abbrev Sound : ReachOutcome → Type 0
 Sound (reached n X caps L) = n ≤ size_limit
 Sound (full w k) = 2000 < k
-Sound (refused k) = (1 ≤ k) × (k ≤ 14)
+Sound (refused k) = Known k
 
 module _ (s : List ℕ) (count : ℕ) (G : Timing) where
   reach_sound : (g : Got Sheet) (e : admitted s count G ≡ g) → Sound (reach_of s count G (λ wide. 2000) g e)
-  reach_sound (sheet.refused k) e = admitted_known s count G k e
+  reach_sound (sheet.refused k) e = admitted_is s count G k e
   reach_sound (got t r) e = go (leb (length (sheet_lines t)) 2000) (leb-false (length (sheet_lines t)) 2000)
     where
       go : (b : Bool) → (b ≡ false → 2000 < length (sheet_lines t)) →
@@ -62,7 +70,7 @@ module _ (s : List ℕ) (count : ℕ) (G : Timing) where
       go : (o : ReachOutcome) → Sound o → ¬ (Succeeds o) → 0 < length (reached_complaint o)
       go (reached n X caps L) q h = absurd (h tt)
       go (full w k) q h = advised 9 (omega arith) (omega arith)
-      go (refused k) q h = advised k q.0 (let m = q.1 in omega arith)
+      go (refused k) q h = let n = known_within k q in advised k n.0 n.1
 
 -- ---- the answer's text is the outcome's
 -- the words of a timing's first components are these
@@ -71,35 +79,39 @@ unfolding latest_text
 latest_words n X few =
     ap (λ l. field (bytes "latest=") (joined l)) (each_same n _ _ (λ j h. ap (λ z. numeral z ∷ []) (component_of n X j few h)))
 
-refusal_of : (o : ReachOutcome) → Sound o → (p : Reached) → p ≡ reach_answer o → ¬ (p.refusal ≡ 0) → p.count ≤ 2000 →
-    refusal_text p.refusal ≡ reached_text o
-refusal_of (reached n X caps L) q p e h g = absurd (h (ap (λ (p : Reached). p.refusal) e))
-refusal_of (full w k) q p e h g = let f = ap (λ (p : Reached). p.count) e in let x : ⊥ = omega arith in absurd x
-refusal_of (refused k) q p e h g = ap (λ (p : Reached). refusal_text p.refusal) e
+latest_of : (o : ReachOutcome) → Sound o → (p : Reached) → Ok p ≡ reach_answer o →
+    (p.timing.count ≤ size_limit) × (latest_text p.timing.count (component p.timing.at) ≡ reached_text o) × (reached_complaint o ≡ [])
+latest_of (reached n X caps L) q p e =
+    rw (same_ok p _ e) (q, latest_words n X q, refl)
+latest_of (full w k) q p e = ok_not_err p _ e
+latest_of (refused k) q p e = ok_not_err p _ e
 
-latest_of : (o : ReachOutcome) → Sound o → (p : Reached) → p ≡ reach_answer o → p.refusal ≡ 0 →
-    (p.timing.count ≤ size_limit) × (latest_text p.timing.count (component p.timing.at) ≡ reached_text o)
-latest_of (reached n X caps L) q p e h =
-    let f = ap (λ (p : Reached). p.timing.count) e in
-    (omega arith, ap (λ (p : Reached). latest_text p.timing.count (component p.timing.at)) e ∙ latest_words n X q)
-latest_of (full w k) q p e h = let f = ap (λ (p : Reached). p.refusal) e in let x : ⊥ = omega arith in absurd x
-latest_of (refused k) q p e h = let f = ap (λ (p : Reached). p.refusal) e in let n = q.0 in let x : ⊥ = omega arith in absurd x
+-- an answer with no timing
+abbrev outcome_of : Unplanned → ReachOutcome
+outcome_of (Refused r) = refused (number r)
+outcome_of (NoRoom needed) = full needed.width needed.count
 
--- the sentence of the answer's number is the outcome's
-complaint_of : (o : ReachOutcome) (p : Reached) → p ≡ reach_answer o → advice p.refusal ≡ reached_complaint o
-unfolding advice
-complaint_of (reached n X caps L) p e = ap (λ (p : Reached). advice p.refusal) e
-complaint_of (full w k) p e = ap (λ (p : Reached). advice p.refusal) e
-complaint_of (refused k) p e = ap (λ (p : Reached). advice p.refusal) e
+unplanned_is : (o : ReachOutcome) → Sound o → (u : Unplanned) → Err u ≡ reach_answer o → o ≡ outcome_of u
+unplanned_is (reached n X caps L) q u e = ok_not_err _ u (sym e)
+unplanned_is (full w k) q u e = rw (same_err u _ e) refl
+unplanned_is (refused k) q u e = rw (same_err u _ e) (ap refused (sym (number_of k q)))
+
+unplanned_out : (u : Unplanned) → unplanned_text u ≡ reached_text (outcome_of u)
+unplanned_out (Refused r) = refl
+unplanned_out (NoRoom needed) = refl
+
+unplanned_complaint : (u : Unplanned) → advice (unplanned_number u) ≡ reached_complaint (outcome_of u)
+unplanned_complaint (Refused r) = refl
+unplanned_complaint (NoRoom needed) = refl
 
 -- ---- in the program, which lends 16,000 words: room for 2,000 lines of eight words, or for more of seven, which it does not write
 abbrev lent : ℕ → ℕ
 lent wide = 16000 / wide
 
 -- the answer to the space lent, beside the outcome with room for 2,000 lines
-pub record Cut (p : Reached) (o : ReachOutcome) : Type 0 where
-  pub many : 2000 < p.count → (w : ℕ) × (o ≡ full w p.count)
-  pub few : p.count ≤ 2000 → p ≡ reach_answer o
+pub record Cut (p : Result Reached Unplanned) (o : ReachOutcome) : Type 0 where
+  pub many : 2000 < (reach_extent p).count → o ≡ full (reach_extent p).width (reach_extent p).count
+  pub few : (reach_extent p).count ≤ 2000 → p ≡ reach_answer o
 
 cut_by : (n : ℕ) (X : Timing) (caps : Option (Line n → ℤ)) (L : List (Line n)) (b c : Bool) → (b ≡ true → length L ≤ lent (width caps)) →
     (b ≡ false → lent (width caps) < length L) → (c ≡ true → length L ≤ 2000) → (c ≡ false → 2000 < length L) →
@@ -109,10 +121,10 @@ cut_by n X caps L true true f g h k r = record {
   many = λ q. let l = h refl in let x : ⊥ = omega arith in absurd x;
   few = λ q. refl;
 }
-cut_by n X caps L true false f g h k r = record { many = λ q. (width caps, refl); few = λ q. let l = k refl in let x : ⊥ = omega arith in absurd x }
+cut_by n X caps L true false f g h k r = record { many = λ q. refl; few = λ q. let l = k refl in let x : ⊥ = omega arith in absurd x }
 cut_by n X caps L false true f g h k r =
     let l = g refl in let m = h refl in let x : ⊥ = omega arith in absurd x
-cut_by n X caps L false false f g h k r = record { many = λ q. (width caps, refl); few = λ q. let l = k refl in let x : ⊥ = omega arith in absurd x }
+cut_by n X caps L false false f g h k r = record { many = λ q. refl; few = λ q. let l = k refl in let x : ⊥ = omega arith in absurd x }
 
 wide_enough : {A : Type 0} (o : Option A) → 2000 ≤ lent (width o)
 wide_enough none = omega arith
@@ -125,29 +137,53 @@ module _ (s : List ℕ) (count : ℕ) (G : Timing) where
       cut_by t.triggers _ (sheet_caps t) (sheet_lines t) (leb m w) (leb m 2000) (leb-true m w) (leb-false m w) (leb-true m 2000) (leb-false m 2000)
       (wide_enough (sheet_caps t))
 
-module _ (s : List ℕ) (count : ℕ) (G : Timing) (space : List ℤ) (sized : length space ≡ 16000) (p : Reached)
-    (e : p ≡ reach_answer (reaching s count G space)) where
-  cut : Cut p (program_reach s count G)
+module _ (s : List ℕ) (count : ℕ) (G : Timing) (space : List ℤ) (sized : length space ≡ 16000) {a : Result Reached Unplanned}
+    (e : a ≡ reach_answer (reaching s count G space)) where
+  cut : Cut a (program_reach s count G)
   unfolding reaching
   cut = rw (e, sized) (cut_of s count G (admitted s count G) refl)
 
-  pub full_out : 2000 < p.count → full_text p.count ≡ program_text s count G
-  unfolding program_text
-  full_out h = ap reached_text (sym (cut.many h).1)
+  -- there is no timing: more than 2,000 lines, or a refusal
+  module _ (u : Unplanned) (is : a ≡ Err u) where
+    none_is : program_reach s count G ≡ outcome_of u
+    none_is = go u (rw is at cut)
+      where
+        go : (u : Unplanned) → Cut (Err u) (program_reach s count G) → program_reach s count G ≡ outcome_of u
+        go (Refused r) c = unplanned_is (program_reach s count G) (program_sound s count G) (Refused r) (c.few (omega arith))
+        go (NoRoom needed) c = elim (dec_lt 2000 needed.count) [
+          | yes h ↦ c.many h
+          | no h ↦ unplanned_is (program_reach s count G) (program_sound s count G) (NoRoom needed) (c.few (omega arith))
+        ]
 
-  pub full_complaint : 2000 < p.count → advice 9 ≡ program_complaint s count G
-  unfolding program_complaint
-  full_complaint h = ap reached_complaint (sym (cut.many h).1)
+    pub none_out : unplanned_text u ≡ program_text s count G
+    unfolding program_text
+    none_out = unplanned_out u ∙ sym (ap reached_text none_is)
 
-  pub refusal_out : p.count ≤ 2000 → ¬ (p.refusal ≡ 0) → refusal_text p.refusal ≡ program_text s count G
-  unfolding program_text
-  refusal_out h r = refusal_of (program_reach s count G) (program_sound s count G) p (cut.few h) r h
+    pub none_complaint : advice (unplanned_number u) ≡ program_complaint s count G
+    unfolding program_complaint
+    none_complaint = unplanned_complaint u ∙ sym (ap reached_complaint none_is)
 
-  pub latest_out : p.count ≤ 2000 → p.refusal ≡ 0 → (p.timing.count ≤ size_limit) ×
-      (latest_text p.timing.count (component p.timing.at) ≡ program_text s count G)
-  unfolding program_text
-  latest_out h r = latest_of (program_reach s count G) (program_sound s count G) p (cut.few h) r
+  module _ (p : Reached) (is : a ≡ Ok p) where
+    own : Cut (Ok p) (program_reach s count G)
+    own = rw is at cut
 
-  pub complaint_out : p.count ≤ 2000 → advice p.refusal ≡ program_complaint s count G
-  unfolding program_complaint
-  complaint_out h = complaint_of (program_reach s count G) p (cut.few h)
+    module _ (over : 2000 < p.count) where
+      pub full_out : unplanned_text (NoRoom (record { count = p.count; width = p.width })) ≡ program_text s count G
+      unfolding program_text
+      full_out = ap reached_text (sym (own.many over))
+
+      pub full_complaint : advice (unplanned_number (NoRoom (record { count = p.count; width = p.width }))) ≡ program_complaint s count G
+      unfolding program_complaint
+      full_complaint = ap reached_complaint (sym (own.many over))
+
+    module _ (few : p.count ≤ 2000) where
+      pub latest_few : p.timing.count ≤ size_limit
+      latest_few = (latest_of (program_reach s count G) (program_sound s count G) p (own.few few)).0
+
+      pub latest_out : latest_text p.timing.count (component p.timing.at) ≡ program_text s count G
+      unfolding program_text
+      latest_out = (latest_of (program_reach s count G) (program_sound s count G) p (own.few few)).1
+
+      pub quiet_out : [] ≡ program_complaint s count G
+      unfolding program_complaint
+      quiet_out = sym (latest_of (program_reach s count G) (program_sound s count G) p (own.few few)).2

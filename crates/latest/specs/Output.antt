@@ -5,12 +5,20 @@ use Rattle.sheet.specs.Admitted.{admitted}
 use Rattle.sheet.specs.Meaning.{Timing}
 use Rattle.writing.specs.Texts.{latest_text, full_text, refusal_text}
 use Rattle.advice.specs.Advice.{advice}
+use Rattle.refusals.specs.Numbers.{number}
+use Rattle.planning.specs.declared.Unplanned.{Unplanned}
+use Rattle.planning.specs.declared.Unplanned.TheVariants.{Refused, NoRoom}
 use Rattle.reaching.specs.Reaching.{ReachOutcome, reached, full, refused, reach_of}
 
 abbrev pub reached_text : ReachOutcome → List ℕ
 reached_text (reached n X caps L) = latest_text n X
 reached_text (full w k) = full_text k
 reached_text (refused k) = refusal_text k
+
+-- the text where there is no timing
+abbrev pub unplanned_text : Unplanned → List ℕ
+unplanned_text (Refused r) = refusal_text (number r)
+unplanned_text (NoRoom needed) = full_text needed.count
 
 abbrev pub reached_complaint : ReachOutcome → List ℕ
 reached_complaint (reached n X caps L) = []

@@ -5,15 +5,19 @@
 ghost use Rattle.std.specs.Prelude.{◌≡◌, take};
 ghost use Rattle.io.specs.Counts.{IsPrefixLen};
 ghost use Rattle.timing.specs.Times.{component};
-ghost use Rattle.latest.specs.Output.{program_text, program_complaint};
+ghost use Rattle.planning.specs.Planning.{unplanned_number};
+ghost use Rattle.advice.specs.Advice.{advice};
+ghost use Rattle.writing.specs.Writing.{Writes};
+ghost use Rattle.latest.specs.Output.{unplanned_text, program_text, program_complaint};
 
+use planning::{Extent, Unplanned};
 use text::Ends;
 use timing::Timing;
 
 // "The program lends space for 2,000 lines", as `plan` does: of eight words each. A sheet whose lines take seven gets no more of them.
 const LINES: usize = 2000;
 
-// What the program writes for a sheet and the times given; the places behind the two texts. Only 9 is a refusal with a count.
+// What the program writes for a sheet and the times given; the places behind the two texts.
 fn answers(
     bytes: &[u8],
     wish: Timing,
@@ -27,30 +31,38 @@ fn answers(
     ensures errors_after { take result.complaint errors.new ≡
         program_complaint bytes.now wish.count (component wish.at) }
 {
-    let reached = reaching::latest_timing(bytes, wish, space);
+    let reached = match reaching::latest_timing(bytes, wish, space) {
+        Ok(reached) => reached,
+        Err(unplanned) => return refused(unplanned, out, errors),
+    };
     if LINES < reached.count {
-        let full = text::full_text(out, reached.count as u64);
-        let complaint = advice::advice_text(errors, 9);
-        return Ends {
-            text: full,
-            complaint: complaint,
+        let needed = Extent {
+            count: reached.count,
+            width: reached.width,
         };
-    }
-    let complaint = advice::advice_text(errors, reached.refusal);
-    if reached.refusal != 0 {
-        let refused = text::refusal_text(out, reached.refusal);
-        return Ends {
-            text: refused,
-            complaint: complaint,
-        };
+        return refused(Unplanned::NoRoom(needed), out, errors);
     }
     let timing = reached.timing;
     let times = timing.at;
     let latest = text::latest_text(out, timing.count, times);
     Ends {
         text: latest,
-        complaint: complaint,
+        complaint: 0,
     }
+}
+
+// What it writes where there is no timing: the refusal, with 9 the count needed, and its sentence. The plan's program has one like it
+// for longer texts; a crate for both would stand above the texts and the plan only to hold these lines.
+fn refused(unplanned: Unplanned, out: &mut [u8; 200], errors: &mut [u8; 400]) -> Ends
+    ensures text { Writes out.new result.text (unplanned_text unplanned) }
+    ensures complaint { Writes errors.new result.complaint (advice (unplanned_number unplanned)) }
+{
+    let complaint = advice::advice_text(errors, unplanned.number());
+    let text = match unplanned {
+        Unplanned::Refused(refusal) => text::refusal_text(out, refusal.number()),
+        Unplanned::NoRoom(needed) => text::full_text(out, needed.count as u64),
+    };
+    Ends { text, complaint }
 }
 
 // One byte more than a sheet may have is enough to refuse it, so no more is read.
@@ -61,33 +73,18 @@ fn reach_input(wish: Timing) {
     let mut out = [0u8; 200];
     let mut errors = [0u8; 400];
     let ends = answers(&sheet[..length], wish, &mut space, &mut out, &mut errors);
-    let text = ends.text;
-    io::write_all(1, &out[..text]);
-    let complaint = ends.complaint;
-    if complaint != 0 {
-        io::write_all(2, &errors[..complaint]);
-    }
+    ends.write(&out, &errors);
 }
 
-// The space is longer than any argument that the system hands over. A program has no exit status of its own to choose, so a wrong call shows in
-// standard output being empty.
+// A program has no exit status of its own to choose, so a wrong call shows in standard output being empty.
 fn main(rt: HostRuntime) {
-    if argument::call::count(&rt, 2) == 1 {
-        let mut argument = [0u8; 131072];
-        let length = argument::call::copied(&rt, 1, &mut argument);
-        let read = argument::times(&argument[..length]);
-        if read.numerals {
-            let at = read.at;
-            let wish = Timing {
-                count: read.count,
-                at: at,
-            };
-            reach_input(wish);
-            return;
+    match argument::call::times(&rt) {
+        Some(wish) => reach_input(wish),
+        None => {
+            io::write_all(
+                2,
+                b"usage: latest TIMES < SHEET, where TIMES are whole numbers of milliseconds split by commas, such as 0,1\n",
+            );
         }
     }
-    io::write_all(
-        2,
-        b"usage: latest TIMES < SHEET, where TIMES are whole numbers of milliseconds split by commas, such as 0,1\n",
-    );
 }

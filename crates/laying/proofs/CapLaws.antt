@@ -5,13 +5,15 @@ use mathlib.Core.Path.{◌≡◌, refl, ap, ap₂, sym, ◌∙◌}
 use mathlib.Core.Logic.{inl, inr}
 use mathlib.Core.List.{List, [], ◌∷◌, ◌++◌, append_assoc}
 use mathlib.Core.Option.{some}
-use Prim.Native.Nat.{ℕ, suc, ◌+◌, ◌*◌, ◌≤◌, ◌<◌}
+use Prim.Native.Nat.{ℕ, suc, ◌+◌, ◌-◌, ◌*◌, ◌≤◌, ◌<◌}
 use native.Mathlib.Omega.{arith}
 use native.Mathlib.Numerals.{add-one}
 use lib.IntN.{ℤ, pos}
-use lib.ListN.{length, get_or, take, drop, set, length-append, length-set, get_or-append, drop_of_length-le}
-use lib.Seq.{paste, paste-zero, take_all, take-suc, take-suc-set, drop-cons, drop-set-lt, append_snoc, take_at, drop_at, take-take, take-add, take-append-le}
+use lib.ListN.{length, get_or, take, drop, set, length-append, length-set, drop_of_length-le}
+use lib.Seq.{paste, take_all, take-suc, take-suc-set, drop-cons, drop-set-lt, append_snoc, take_at, drop_at, take-take, take-add, take-append-le}
 use lib.Seq.{get_or_at, get_or-drop, length-take-le}
+use borrow.Rule.Slice.PartMut.{put_mid}
+use Rattle.std.proofs.lemmas.Slice.{put_mid-paste}
 use Rattle.maxplus.specs.Entry.{absent, num, ◌⊗◌, inv}
 use Rattle.maxplus.specs.Finite.{In}
 use Rattle.maxplus.specs.Tables.{sup}
@@ -34,50 +36,32 @@ use Rattle.buffer.proofs.SpaceLaws.{list_words_more, list_words_single}
 use Rattle.laying.specs.Laying.{CappableLine, Cappable}
 use Rattle.laying.proofs.LayLaws.{component_word, word_set}
 
--- ---- the words of a line with its cap, one after the other: j of the six components and the cap are written behind the count
-pub record Putting (components : List ℤ) (cap : ℤ) (first : List ℤ) (from : ℕ) (out : List ℤ) (j : ℕ) : Type 0 where
-  pub size : length out ≡ length first
-  pub words : out ≡ paste first (from + 1) (components ++ (cap ∷ [])) j
-
-pub putting_none : {components : List ℤ} {cap : ℤ} {first : List ℤ} {from : ℕ} → Putting components cap first from first 0
-putting_none {components} {cap} {first} {from} = record { size = refl; words = paste-zero first (from + 1) (components ++ (cap ∷ [])) }
-
-tail_length : (components : List ℤ) (cap : ℤ) → length components ≡ 6 → length (components ++ (cap ∷ [])) ≡ 7
-tail_length components cap l = length-append components (cap ∷ []) ∙ omega arith
-
-module _ {components : List ℤ} {cap : ℤ} {first : List ℤ} {from : ℕ} {out : List ℤ} {j : ℕ} (l : length components ≡ 6)
-    (room : from + capped_size ≤ length first) (y : Putting components cap first from out j) where
-  pub putting_more : {z : ℤ} → j < 6 → z ≡ get_or components j (pos 0) → Putting components cap first from (set out (from + 1 + j) z) (j + 1)
-  putting_more {z} h e = record {
-    size = length-set out (from + 1 + j) z ∙ y.size;
-    words = ap (λ o. set o (from + 1 + j) z) y.words ∙
-        word_set first (from + 1) (components ++ (cap ∷ [])) j (omega (arith, tail_length components cap l)) (omega (arith, tail_length components cap l))
-        (e ∙ sym (get_or-append components (cap ∷ []) (pos 0) j (omega arith)));
-  }
-
-  putting_cap : j ≡ 6 → set out (from + 7) cap ≡ paste first (from + 1) (components ++ (cap ∷ [])) 7
-  putting_cap h = ap₂ (λ o k. set o k cap) (y.words ∙ ap (paste first (from + 1) _) h) (let f : from + 7 ≡ from + 1 + 6 = omega arith in f) ∙
-      word_set first (from + 1) (components ++ (cap ∷ [])) 6 (omega (arith, tail_length components cap l)) (omega (arith, tail_length components cap l))
-      (sym (get_or_at components cap [] (pos 0) 6 l))
-
--- all of them: n and cap are the words of the count and the cap as they are stored
-pub putting_all : (before : List ℤ) (from : ℕ) {components : List ℤ} {n v cap w : ℤ} {out : List ℤ} {j : ℕ} → length components ≡ 6 →
-    from + capped_size ≤ length before → j ≡ 6 → n ≡ v → cap ≡ w → Putting components cap (set before from n) from out j →
-    set out (from + 7) cap ≡ laid before from (v ∷ components ++ (w ∷ []))
+-- ---- the words of a line with its cap: the six components and the cap are written behind the count, which is written as n and the cap as cap
+pub put_all : (before : List ℤ) (from : ℕ) {components written : List ℤ} {n v cap w : ℤ} → length components ≡ 6 →
+    from + capped_size ≤ length before → n ≡ v → cap ≡ w → written ≡ components →
+    set (put_mid (from + 1) (from + 7 - (from + 1)) (set before from n) written) (from + 7) cap ≡ laid before from (v ∷ components ++ (w ∷ []))
 unfolding laid
-putting_all before from {components} {n} {v} {cap} {w} l h k p q y =
-    putting_cap l (rw (length-set before from n) h) y k ∙
-    ap₂ ◌++◌ (ap₂ ◌++◌ (ap (λ k. take k (set before from n)) (add-one from) ∙ take-suc-set before from n (omega arith))
+put_all before from {components} {written} {n} {v} {cap} {w} l h p q e =
+    ap₂ (λ o k. set o k cap) copied (let f : from + 7 ≡ from + 1 + 6 = omega arith in f) ∙
+    word_set first (from + 1) tail 6 (omega (arith, size, length-set before from n)) (omega (arith, size)) (sym (get_or_at components cap [] (pos 0) 6 l)) ∙
+    ap₂ ◌++◌ (ap₂ ◌++◌ (ap (λ k. take k first) (add-one from) ∙ take-suc-set before from n (omega arith))
     (take_all 7 tail (omega (arith, size))) ∙ append_snoc (take from before) n tail)
     (drop-set-lt (from + 1 + 7) before from n (omega arith) ∙
-    ap (λ k. drop k before) (let e : from + 1 + 7 ≡ from + suc (length tail) = omega (arith, size) in e)) ∙
+    ap (λ k. drop k before) (let f : from + 1 + 7 ≡ from + suc (length tail) = omega (arith, size) in f)) ∙
     ap₂ (λ a b. laid before from (a ∷ components ++ (b ∷ []))) p q
   where
+    first : List ℤ
+    first = set before from n
+
     tail : List ℤ
     tail = components ++ (cap ∷ [])
 
     size : length tail ≡ 7
-    size = tail_length components cap l
+    size = length-append components (cap ∷ []) ∙ omega arith
+
+    copied : put_mid (from + 1) (from + 7 - (from + 1)) first written ≡ paste first (from + 1) tail 6
+    copied = put_mid-paste (from + 1) (from + 7 - (from + 1)) first written components 6 e (omega arith) (omega arith) ∙
+        ap (λ m. take (from + 1) first ++ m ++ drop (from + 1 + 6) first) (sym (take-append-le 6 components (cap ∷ []) (omega arith)))
 
 -- ---- one line by its words
 module _ (w : List ℤ) (from n : ℕ) (c : Line n) (e : take line_size (drop from w) ≡ line_words n c) where

@@ -3,7 +3,8 @@
 use mathlib.Core.Path.{◌≡◌, refl, ap, ap₂, sym, subst, ◌∙◌}
 use mathlib.Core.Bool.{Bool, true, false, true≢false}
 use mathlib.Core.List.{List, ◌++◌}
-use mathlib.Core.Option.{Option, none, some}
+use mathlib.Core.Option as maybe
+use mathlib.Core.Option.{some}
 use Prim.Native.Nat.{ℕ, ◌+◌, ◌*◌, ◌≤◌}
 use native.Mathlib.Omega.{arith}
 use lib.IntN.{ℤ}
@@ -26,17 +27,18 @@ use Rattle.sheet.proofs.Caps.{cap_overruns}
 use Rattle.sheet.proofs.Fits.{cap_within}
 use Rattle.sheet.proofs.ListLaws.{fitting, lines_many}
 use Rattle.tables.specs.Held.{meant_v}
-use Rattle.moments.specs.declared.Moments.{Moments}
+use Rattle.moments.specs.Moments.{MomentsOf}
+use Rattle.std.specs.Prelude.{Option, Some, None}
 use Rattle.spares.specs.declared.Places.{Places}
 use Rattle.spares.specs.Using.{PlacesOf}
 use Rattle.laying.specs.Laying.{CapOf, Cappable, Listing}
 
 -- a last line is there
-last_there : (last : Option (ℕ → ℤ)) → given last ≡ true → (b : ℕ → ℤ) × (last ≡ some b)
-last_there none e = absurd (true≢false (sym e))
+last_there : (last : maybe.Option (ℕ → ℤ)) → given last ≡ true → (b : ℕ → ℤ) × (last ≡ some b)
+last_there maybe.none e = absurd (true≢false (sym e))
 last_there (some b) e = (b, refl)
 
-module _ {t : Sheet} {before : List ℤ} {count : ℕ} {space : List ℤ} {p : Places} {r : Moments} (l : Listing t before count space p r) where
+module _ {t : Sheet} {before : List ℤ} {count : ℕ} {space : List ℤ} {p : Places} {r : Option (List ℕ)} (l : Listing t before count space p r) where
   abbrev n : ℕ
   n = t.triggers
 
@@ -64,23 +66,26 @@ module _ {t : Sheet} {before : List ℤ} {count : ℕ} {space : List ℤ} {p : P
     front_length = list_words_length n L ∙ ap (λ k. line_size * k) many
 
     -- ---- without a last line
-    plain_by : (last : Option (ℕ → ℤ)) → given last ≡ false → out ≡ with_list n (caps_by t last) L before
-    plain_by none e = out_words ∙ ap₂ (λ w k. w ++ drop (line_size * k) before) (sym (lent_none n L)) (sym many)
+    plain_by : (last : maybe.Option (ℕ → ℤ)) → given last ≡ false → out ≡ with_list n (caps_by t last) L before
+    plain_by maybe.none e = out_words ∙ ap₂ (λ w k. w ++ drop (line_size * k) before) (sym (lent_none n L)) (sym many)
     plain_by (some b) e = absurd (true≢false e)
 
-    pub finished_plain : r.given ≡ false → out ≡ with_list n (sheet_caps t) L before
-    finished_plain e = plain_by t.last (sym l.moments.given_is ∙ e)
+    pub finished_plain : r ≡ None → out ≡ with_list n (sheet_caps t) L before
+    finished_plain e = plain_by t.last (subst (MomentsOf t) e l.moments)
 
     -- ---- with one
-    module _ (b : ℕ → ℤ) (e : t.last ≡ some b) where
-      cap_of : (c : Line n) → In c L → CapOf n (meant_v r.overruns) c (cap t b c)
+    module _ {overruns : List ℕ} (g : r ≡ Some overruns) (b : ℕ → ℤ) (e : t.last ≡ some b) where
+      late : MomentsOf t (Some overruns)
+      late = subst (MomentsOf t) g l.moments
+
+      cap_of : (c : Line n) → In c L → CapOf n (meant_v overruns) c (cap t b c)
       cap_of c h = record {
         is = cap_overruns t l.good l.order b c h ∙
-            ap inv (sup_ext n (λ j q. ap (λ x. x ⊗ at n c j) (sym (l.moments.holds.at j q ∙ ap (λ o. overruns_by t o j) e))));
+            ap inv (sup_ext n (λ j q. ap (λ x. x ⊗ at n c j) (sym (late.holds.at j q ∙ ap (λ o. overruns_by t o j) e))));
         fits = signed32 (omega arith) (omega arith) (cap_within t l.good l.order b e c h);
       }
 
-      cappable : Cappable n r.overruns count out (cap t b) L
+      cappable : Cappable n overruns count out (cap t b) L
       cappable = record {
         few = l.placed.few;
         stands = record {
@@ -88,7 +93,7 @@ module _ {t : Sheet} {before : List ℤ} {count : ℕ} {space : List ℤ} {p : P
           words = ap (take (line_size * count)) out_words ∙ take_at (list_words n L) _ (line_size * count) front_length;
           fitting = fitting t l.good l.order;
         };
-        close = l.moments.close;
+        close = late.close;
         cap = cap_of;
       }
 
@@ -105,21 +110,21 @@ module _ {t : Sheet} {before : List ℤ} {count : ℕ} {space : List ℤ} {p : P
           ap (λ k. drop k before) (let q : line_size * count + count ≡ capped_size * length L = omega (arith, many) in q)
 
     -- by any name m of the number of triggers
-    module _ {m : ℕ} (same : m ≡ n) (g : r.given ≡ true) where
+    module _ {m : ℕ} (same : m ≡ n) {overruns : List ℕ} (g : r ≡ Some overruns) where
       there : (b : ℕ → ℤ) × (t.last ≡ some b)
-      there = last_there t.last (sym l.moments.given_is ∙ g)
+      there = last_there t.last (subst (MomentsOf t) g l.moments).given_is
 
       pub caps_ready : (capped_size * count ≤ length out) ×
-          ((caps : Line m → ℤ) × (L : List (Line m)) × Cappable m r.overruns count out caps L)
+          ((caps : Line m → ℤ) × (L : List (Line m)) × Cappable m overruns count out caps L)
       caps_ready = let (b, e) = there in (
-        omega (arith, room b e, out_length b e),
-        subst (λ m. (caps : Line m → ℤ) × (L : List (Line m)) × Cappable m r.overruns count out caps L) (sym same) (cap t b, L, cappable b e),
+        omega (arith, room g b e, out_length g b e),
+        subst (λ m. (caps : Line m → ℤ) × (L : List (Line m)) × Cappable m overruns count out caps L) (sym same) (cap t b, L, cappable g b e),
       )
 
-      pub finished_capped : {after : List ℤ} → ((caps : Line m → ℤ) (L : List (Line m)) → Cappable m r.overruns count out caps L →
+      pub finished_capped : {after : List ℤ} → ((caps : Line m → ℤ) (L : List (Line m)) → Cappable m overruns count out caps L →
           after ≡ lent_words m (some caps) L ++ drop (capped_size * count) out) → after ≡ with_list n (sheet_caps t) L before
       finished_capped {after} f =
           let (b, e) = there in
-          subst (λ m. (caps : Line m → ℤ) (L : List (Line m)) → Cappable m r.overruns count out caps L →
-          after ≡ lent_words m (some caps) L ++ drop (capped_size * count) out) same f (cap t b) L (cappable b e) ∙
-          ap (λ x. lent_words n (some (cap t b)) L ++ x) (rest b e) ∙ ap (λ o. with_list n (caps_by t o) L before) (sym e)
+          subst (λ m. (caps : Line m → ℤ) (L : List (Line m)) → Cappable m overruns count out caps L →
+          after ≡ lent_words m (some caps) L ++ drop (capped_size * count) out) same f (cap t b) L (cappable g b e) ∙
+          ap (λ x. lent_words n (some (cap t b)) L ++ x) (rest g b e) ∙ ap (λ o. with_list n (caps_by t o) L before) (sym e)

@@ -3,20 +3,20 @@
 use mathlib.Core.Path.{◌≡◌, refl, ap, ap₂, sym, ◌∙◌}
 use mathlib.Core.Bool.{Bool, true, false}
 use mathlib.Core.List.{List, [], ◌∷◌, ◌++◌, append_assoc}
-use Prim.Native.Nat.{ℕ, suc, ◌+◌, ◌*◌, ◌≤◌, ◌<◌}
+use Prim.Native.Nat.{ℕ, suc, ◌+◌, ◌-◌, ◌*◌, ◌≤◌, ◌<◌}
 use native.Mathlib.Omega.{arith}
 use native.Mathlib.Decide.{dec_lt}
-use native.Mathlib.Numerals.{add-one, unary_clauses}
+use native.Mathlib.Numerals.{add-one}
 use lib.IntN.{ℤ, pos}
 use lib.Signed.{mag}
-use lib.ListN.{length, get_or, take, drop, set, drop_of_length-le, length-set}
+use lib.ListN.{length, get_or, take, drop, set, drop_of_length-le, length-set, length-drop}
 use lib.Seq.{paste, paste-zero, paste-suc, take-suc, drop-cons, take_all, take-append_seam, drop-append_seam, drop-append-add, drop_at}
-use lib.Seq.{length-take-le, get_or-take, get_or-drop}
+use lib.Seq.{ext_get_or, length-take-le, get_or-take, get_or-drop}
 use mir.Syntax.{w32}
 use mir.Val.{to_z, of_z}
 use mir.Facts.{to_z-of_z}
 use Rattle.maxplus.specs.Entry.{absent}
-use Rattle.maxplus.specs.Finite.{each, map_l, sum}
+use Rattle.maxplus.specs.Finite.{map_l, sum}
 use Rattle.maxplus.specs.Line.{Line, at, line}
 use Rattle.maxplus.specs.Packing.{rank, filled, layout}
 use Rattle.maxplus.proofs.EachLaws.{length_each, each_same, each_at, map_append, map_length}
@@ -38,12 +38,19 @@ use Rattle.spares.proofs.PlaceLaws.{used_bit, no_spare, own_rank}
 pub read_back : {z : ℤ} → mag z < 0x8000_0000 → to_z w32 (of_z w32 z) ≡ z
 read_back h = to_z-of_z {w = w32} (record { sfits = h })
 
--- ---- the six words after a line's count, read one by one
-pub six_read : (w : List ℤ) (from : ℕ) {a b c d e f : ℤ} → a ≡ get_or w (from + 1) (pos 0) → b ≡ get_or w (from + 2) (pos 0) →
-    c ≡ get_or w (from + 3) (pos 0) → d ≡ get_or w (from + 4) (pos 0) → e ≡ get_or w (from + 5) (pos 0) → f ≡ get_or w (from + 6) (pos 0) →
-    a ∷ b ∷ c ∷ d ∷ e ∷ f ∷ [] ≡ six (λ j. get_or w (from + 1 + j) (pos 0))
-unfolding each
-six_read w from p q r s t u = rw (p, q, r, s, t, u) (simp unary_clauses refl)
+-- ---- the six words after a line's count
+pub six_copied : (w : List ℤ) (from : ℕ) → from + line_size ≤ length w →
+    take (from + 7 - (from + 1)) (drop (from + 1) w) ≡ six (λ j. get_or w (from + 1 + j) (pos 0))
+six_copied w from h = ext_get_or (pos 0) _ _ (sizes ∙ sym full)
+    (λ i k. let l : i < 6 = omega (arith, sizes) in
+    get_or-take (from + 7 - (from + 1)) (drop (from + 1) w) i (pos 0) (omega (arith, sizes)) ∙ get_or-drop (from + 1) w i (pos 0) ∙
+    sym (each_at 6 i (λ j. get_or w (from + 1 + j) (pos 0)) (pos 0) l))
+  where
+    sizes : length (take (from + 7 - (from + 1)) (drop (from + 1) w)) ≡ 6
+    sizes = length-take-le (from + 7 - (from + 1)) (drop (from + 1) w) (omega (arith, length-drop (from + 1) w)) ∙ omega arith
+
+    full : length (six (λ j. get_or w (from + 1 + j) (pos 0))) ≡ 6
+    full = length_each 6 (λ j. get_or w (from + 1 + j) (pos 0))
 
 -- of a line they are its components
 pub component_word : (w : List ℤ) (from m : ℕ) (c : Line m) → take line_size (drop from w) ≡ line_words m c → (k : ℕ) → k < 6 →

@@ -1,6 +1,6 @@
 -- The sheet's list in a lent space, and what is known of the cue's lines there before they are laid out over the sheet's triggers and get their
 -- caps.
-use Rattle.std.specs.Prelude.{◌≡◌, List, ◌++◌, ℕ, ◌*◌, ◌/◌, ◌≤◌, ◌<◌, ℤ, length, take, drop}
+use Rattle.std.specs.Prelude.{◌≡◌, List, ◌++◌, ℕ, ◌*◌, ◌/◌, ◌≤◌, ◌<◌, ℤ, length, take, drop, Option, Result, Ok, Err}
 use Rattle.maxplus.specs.Entry.{num, ◌⊗◌, inv}
 use Rattle.maxplus.specs.Finite.{In}
 use Rattle.maxplus.specs.Tables.{sup, Vec}
@@ -17,18 +17,16 @@ use Rattle.sheet.specs.Sizes.{cap_down}
 use Rattle.tables.specs.Held.{meant_v, CloselyV}
 use Rattle.spares.specs.declared.Places.{Places}
 use Rattle.spares.specs.Using.{PlacesOf}
-use Rattle.moments.specs.declared.Moments.{Moments}
 use Rattle.moments.specs.Moments.{MomentsOf}
-use Rattle.lines.specs.declared.Listed.{Listed}
-use Rattle.lines.specs.declared.Listed.TheVariants.{Lines, NoRoom}
+use Rattle.lines.specs.declared.NoRoom.{NoRoom}
 
 -- "writes exactly the list at the front of the space and leaves the rest", or "the list has more lines than the lent space holds" and no word
 -- changes
-abbrev pub Lists : Sheet → List ℤ → List ℤ → Listed → Type 0
-Lists t before after (Lines k) = (k ≡ length (sheet_lines t)) × (length (sheet_lines t) ≤ length before / width (sheet_caps t)) ×
+abbrev pub Lists : Sheet → List ℤ → List ℤ → Result ℕ NoRoom → Type 0
+Lists t before after (Ok k) = (k ≡ length (sheet_lines t)) × (length (sheet_lines t) ≤ length before / width (sheet_caps t)) ×
     (after ≡ with_list t.triggers (sheet_caps t) (sheet_lines t) before)
-Lists t before after (NoRoom k) =
-    (k ≡ length (sheet_lines t)) × (length before / width (sheet_caps t) < length (sheet_lines t)) × (after ≡ before)
+Lists t before after (Err e) =
+    (e.count ≡ length (sheet_lines t)) × (length before / width (sheet_caps t) < length (sheet_lines t)) × (after ≡ before)
 
 -- z is the cap of the line c by the overruns o, minus the largest sum of an overrun and a component, and it fits a word
 pub record CapOf (n : ℕ) (o : Vec) (c : Line n) (z : ℤ) : Type 0 where
@@ -51,7 +49,7 @@ pub record Cappable (n : ℕ) (overruns : List ℕ) (count : ℕ) (space : List 
   pub cap : (c : Line n) → In c L → CapOf n (meant_v overruns) c (caps c)
 
 -- the list of the cue of t stands in a space that was lent, and there is room for the sheet's, with its caps if it has any
-pub record Listing (t : Sheet) (before : List ℤ) (count : ℕ) (space : List ℤ) (p : Places) (r : Moments) : Type 0 where
+pub record Listing (t : Sheet) (before : List ℤ) (count : ℕ) (space : List ℤ) (p : Places) (r : Option (List ℕ)) : Type 0 where
   pub good : Good t
   pub order : Orderly t
   pub placed : PlacesOf (used t) t.triggers p

@@ -20,10 +20,8 @@ pub fn line_at(space: &[i32], from: usize, n: usize) -> LineWords
     ensures { Carries n signed_far (at n (line_at n space.now from)) result }
 {
     let mut r = [0u64; 6];
-    let mut j: usize = 0;
-    while j < n {
+    for j in 0..n {
         r[j] = words::of_signed(space[from + 1 + j]);
-        j += 1;
     }
     LineWords { count: n, at: r }
 }
@@ -34,11 +32,7 @@ fn put_capped(space: &mut [i32], at: usize, n: usize, line: [i32; 6], cap: i32)
     ensures { space.new ≡ laid space.old at (pos n ∷ line ++ (cap ∷ [])) }
 {
     space[at] = n as i32;
-    let mut j: usize = 0;
-    while j < 6 {
-        space[at + 1 + j] = line[j];
-        j += 1;
-    }
+    space[at + 1..at + LINE_SIZE].copy_from_slice(&line);
     space[at + LINE_SIZE] = cap;
 }
 
@@ -63,9 +57,7 @@ pub fn add_caps(space: &mut [i32], count: usize, n: usize, overruns: [u64; 6])
     ensures { (caps : Line n → ℤ) (L : List (Line n)) → Cappable n overruns count space.old caps L →
         space.new ≡ lent_words n (some caps) L ++ drop (capped_size * count) space.old }
 {
-    let mut k = count;
-    while 0 < k {
-        k -= 1;
+    for k in (0..count).rev() {
         add_cap(space, k, n, overruns);
     }
 }

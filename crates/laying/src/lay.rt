@@ -18,14 +18,9 @@ pub fn components(space: &[i32], from: usize) -> [i32; 6]
     requires { from + line_size ≤ length space.now }
     ensures { result ≡ six (λ j. get_or space.now (from + 1 + j) (pos 0)) }
 {
-    [
-        space[from + 1],
-        space[from + 2],
-        space[from + 3],
-        space[from + 4],
-        space[from + 5],
-        space[from + 6],
-    ]
+    let mut r = [0i32; 6];
+    r.copy_from_slice(&space[from + 1..from + LINE_SIZE]);
+    r
 }
 
 // One line laid out.
@@ -39,15 +34,13 @@ fn lay_line(space: &mut [i32], from: usize, p: Places)
     let n = p.triggers;
     space[from] = n as i32;
     let mut k: usize = 0;
-    let mut j: usize = 0;
-    while j < 6 {
+    for j in 0..6 {
         if has(p.used, j) {
             space[from + 1 + j] = packed[k];
             k += 1;
         } else {
             space[from + 1 + j] = words::signed(0);
         }
-        j += 1;
     }
 }
 
@@ -61,9 +54,7 @@ pub fn lay_out(space: &mut [i32], count: usize, p: Places)
     if p.spares == 0 {
         return;
     }
-    let mut i: usize = 0;
-    while i < count {
+    for i in 0..count {
         lay_line(space, LINE_SIZE * i, p);
-        i += 1;
     }
 }

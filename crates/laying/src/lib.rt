@@ -10,7 +10,6 @@ ghost use Rattle.laying.specs.Laying.{Listing};
 
 use crate::cap::add_caps;
 use crate::lay::lay_out;
-use moments::Moments;
 use spares::Places;
 use words::{CAPPED_SIZE, LINE_SIZE};
 
@@ -25,14 +24,14 @@ pub fn width(capped: bool) -> usize
 }
 
 // The sheet's list in place of the cue's.
-pub fn finish(space: &mut [i32], count: usize, p: Places, moments: Moments)
+pub fn finish(space: &mut [i32], count: usize, p: Places, moments: Option<[u64; 6]>)
     requires { (t : Sheet) × (before : List ℤ) × Listing t before count space.old p moments }
     ensures { (t : Sheet) (before : List ℤ) → Listing t before count space.old p moments →
         space.new ≡ with_list t.triggers (sheet_caps t) (sheet_lines t) before }
 {
     lay_out(space, count, p);
-    let overruns = moments.overruns;
-    if moments.given {
-        add_caps(space, count, p.triggers, overruns);
+    match moments {
+        Some(overruns) => add_caps(space, count, p.triggers, overruns),
+        None => {}
     }
 }

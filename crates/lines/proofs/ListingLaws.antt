@@ -40,7 +40,7 @@ use Rattle.buffer.proofs.ListLaws.{in_take}
 use Rattle.buffer.proofs.HeldLaws.{stored_length, row_line}
 use Rattle.cue.specs.Sizes.{size_limit}
 use Rattle.lines.specs.Listing.{Answers}
-use Rattle.lines.specs.declared.Listed.TheVariants.{Lines}
+use Rattle.std.specs.Prelude.{Ok}
 
 -- ---- a line with no component stands below every line that has one
 below_some : (n : ℕ) (x : Vec) (c : Line n) (j : ℕ) → j < n → ((k : ℕ) → x k ≡ absent) → Present (at n c j) → lt_l n (line n x) c
@@ -136,7 +136,7 @@ held_close {n} {len} {P} {buf = buf} {last} p s w h = (
         (subst (λ l. In (line_of n w) l) s.stored.lines (in_map (line_of n) (take len buf) w h)))).0
 
 -- a list that was written has its words in the space
-pub listed_room : (n : ℕ) (L : List (Line n)) (room : ℕ) (before : List ℤ) {k : ℕ} {after : List ℤ} → Answers n L room before after (Lines k) →
+pub listed_room : (n : ℕ) (L : List (Line n)) (room : ℕ) (before : List ℤ) {k : ℕ} {after : List ℤ} → Answers n L room before after (Ok k) →
     line_size * k ≤ length after
 listed_room n L room before a =
     let l = length-append (list_words n L) (drop (line_size * length L) before) in

@@ -18,7 +18,7 @@ use Rattle.buffer.specs.Space.{laid}
 use Rattle.candidates.specs.Drawable.{Drawable}
 use Rattle.gather.specs.Gathering.{rest, Filled}
 use Rattle.lines.specs.Listing.{Answers}
-use Rattle.lines.specs.declared.Listed.TheVariants.{Lines}
+use Rattle.std.specs.Prelude.{Ok}
 use Rattle.buffer.proofs.SpaceLaws.{laid_none, laid_more, list_words_more}
 use Rattle.buffer.proofs.HeldLaws.{held_length, row_sized}
 use Rattle.lines.proofs.ListingLaws.{above_blank, filled_few, filled_all, filled_full, lines_few}
@@ -32,7 +32,7 @@ laid_front before n L = let e : 0 + length (list_words n L) ≡ line_size * leng
 
 -- a whole list at the front
 pub answers_lines : (n : ℕ) (L : List (Line n)) (most : ℕ) (before after : List ℤ) (k : ℕ) → k ≡ length L → k ≤ most →
-    after ≡ laid before 0 (list_words n L) → Answers n L most before after (Lines k)
+    after ≡ laid before 0 (list_words n L) → Answers n L most before after (Ok k)
 answers_lines n L most before after k e h o = (e, omega arith, o ∙ laid_front before n L)
 
 -- ---- counting: so many lines are not above last
@@ -177,6 +177,6 @@ module _ {M : Marks} {stars lags needs : List (List ℕ)} where
 
     pub answers_held : (most : ℕ) (before after : List ℤ) → len ≤ most →
         after ≡ laid before 0 (list_words M.triggers (held M.triggers len buf)) →
-        Answers M.triggers (lines M.triggers P) most before after (Lines len)
+        Answers M.triggers (lines M.triggers P) most before after (Ok len)
     answers_held most before after k e = answers_lines M.triggers (lines M.triggers P) most before after len whole_count k
         (e ∙ ap (λ L. laid before 0 (list_words M.triggers L)) whole_held)

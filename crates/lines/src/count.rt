@@ -4,34 +4,33 @@ ghost use Rattle.cue.specs.Cue.{Cue};
 ghost use Rattle.cue.specs.Method.{lines};
 ghost use Rattle.candidates.specs.Drawable.{Drawable};
 
-use buffer::ROOM;
-use candidates::Marks;
+use buffer::{ROOM, Store};
+use candidates::Sources;
 use gather::gather;
 use words::LineWords;
 
-pub fn count_lines(
-    marks: Marks,
-    star: &[[u64; 6]; 6],
-    lag: &[[u64; 6]; 6],
-    needs: &[[u64; 6]; 6],
-) -> usize
-    requires { (P : Cue) × Drawable marks.triggers P marks star.now lag.now needs.now }
-    ensures { (P : Cue) → Drawable marks.triggers P marks star.now lag.now needs.now →
-        result ≡ length (lines marks.triggers P) }
+pub fn count_lines(sources: Sources) -> usize
+    requires { let M = sources.marks.now in (P : Cue) × Drawable M.triggers P M sources.star.now sources.lag.now sources.needs.now }
+    ensures { let M = sources.entry.marks.now in (P : Cue) →
+        Drawable M.triggers P M sources.entry.star.now sources.entry.lag.now sources.entry.needs.now →
+        result ≡ length (lines M.triggers P) }
 {
-    let mut buf = [[0u64; 6]; ROOM];
+    let mut buffer = Store {
+        rows: [[0u64; 6]; ROOM],
+        len: 0,
+    };
     let mut last = LineWords {
-        count: marks.triggers,
+        count: sources.marks.triggers,
         at: [0u64; 6],
     };
     let mut count: usize = 0;
     loop {
-        let len = gather(&mut buf, last, marks, star, lag, needs);
-        count += len;
-        if len < ROOM {
+        gather(&mut buffer, last, sources);
+        count += buffer.len;
+        if buffer.len < ROOM {
             return count;
         }
-        let words = buf[ROOM - 1];
+        let words = buffer.rows[ROOM - 1];
         last.at = words;
     }
 }

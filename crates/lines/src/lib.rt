@@ -10,54 +10,50 @@ ghost use Rattle.lines.specs.Listing.{Answers};
 
 use crate::count::count_lines;
 use crate::write::{write_held, write_lines};
-use buffer::ROOM;
-use candidates::Marks;
+use buffer::{ROOM, Store};
+use candidates::Sources;
 use gather::gather;
 use words::LineWords;
 
 mod count;
 mod write;
 
-// The count of lines written, or of those that do not fit.
-#[derive(Clone, Copy)]
-pub enum Listed {
-    Lines(usize),
-    NoRoom(usize),
+// The lines do not fit: how many there are.
+#[derive(Clone, Copy, Debug, PartialEq, Eq)]
+pub struct NoRoom {
+    pub count: usize,
 }
 
-// The list at the front of the lent space, seven words a line, or its count and no change, where there is room for so many lines.
-pub fn list(
-    out: &mut [i32],
-    room: usize,
-    marks: Marks,
-    star: &[[u64; 6]; 6],
-    lag: &[[u64; 6]; 6],
-    needs: &[[u64; 6]; 6],
-) -> Listed
-    requires { (line_size * room ≤ length out.old) ×
-        ((P : Cue) × Drawable marks.triggers P marks star.now lag.now needs.now) }
-    ensures { (P : Cue) → Drawable marks.triggers P marks star.now lag.now needs.now →
-        Answers marks.triggers (lines marks.triggers P) room out.old out.new result }
+// The list at the front of the lent space, seven words a line, and how many lines it has, where there is room for so many; else no change.
+pub fn list(out: &mut [i32], room: usize, sources: Sources) -> Result<usize, NoRoom>
+    requires { let M = sources.marks.now in (line_size * room ≤ length out.old) ×
+        ((P : Cue) × Drawable M.triggers P M sources.star.now sources.lag.now sources.needs.now) }
+    ensures { let M = sources.entry.marks.now in (P : Cue) →
+        Drawable M.triggers P M sources.entry.star.now sources.entry.lag.now sources.entry.needs.now →
+        Answers M.triggers (lines M.triggers P) room out.old out.new result }
 {
-    let mut buf = [[0u64; 6]; ROOM];
-    let n = marks.triggers;
+    let mut buffer = Store {
+        rows: [[0u64; 6]; ROOM],
+        len: 0,
+    };
+    let n = sources.marks.triggers;
     let none = LineWords {
         count: n,
         at: [0u64; 6],
     };
-    let len = gather(&mut buf, none, marks, star, lag, needs);
+    gather(&mut buffer, none, sources);
     // A buffer that was not filled holds the whole list.
-    if len < ROOM {
-        if room < len {
-            return Listed::NoRoom(len);
+    if buffer.len < ROOM {
+        if room < buffer.len {
+            return Err(NoRoom { count: buffer.len });
         }
-        write_held(out, 0, &buf, len, n);
-        return Listed::Lines(len);
+        write_held(out, 0, &buffer, n);
+        return Ok(buffer.len);
     }
-    let count = count_lines(marks, star, lag, needs);
+    let count = count_lines(sources);
     if room < count {
-        return Listed::NoRoom(count);
+        return Err(NoRoom { count });
     }
-    write_lines(out, marks, star, lag, needs);
-    Listed::Lines(count)
+    write_lines(out, sources);
+    Ok(count)
 }

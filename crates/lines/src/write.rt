@@ -12,8 +12,8 @@ ghost use Rattle.candidates.specs.Drawable.{Drawable};
 ghost use Rattle.buffer.specs.Space.{laid};
 ghost use Rattle.cue.specs.Sizes.{size_limit};
 
-use buffer::ROOM;
-use candidates::Marks;
+use buffer::{Buffer, ROOM, Store};
+use candidates::Sources;
 use gather::gather;
 use words::{LINE_SIZE, LineWords};
 
@@ -25,59 +25,54 @@ fn write_line(out: &mut [i32], at: usize, line: LineWords)
 {
     let count = line.count;
     out[at] = count as i32;
-    let mut j: usize = 0;
-    while j < 6 {
+    for j in 0..6 {
         out[at + 1 + j] = words::signed(line.at[j]);
-        j += 1;
     }
 }
 
 // Those of the lines that the buffer holds.
-pub fn write_held(out: &mut [i32], at: usize, buf: &[[u64; 6]; ROOM], len: usize, n: usize)
-    requires { (n ≤ size_limit) × (len ≤ room) × (length buf.now ≡ room) × (at + line_size * len ≤ length out.old)
-        × ((w : List ℕ) → In w (take len buf.now) → Sized n w × CloselyV n line_down w) }
-    ensures { out.new ≡ laid out.old at (list_words n (held n len buf.now)) }
+pub fn write_held(out: &mut [i32], at: usize, buffer: &Buffer, n: usize)
+    requires { (n ≤ size_limit) × (buffer.now.len ≤ room) × (length buffer.now.rows ≡ room)
+        × (at + line_size * buffer.now.len ≤ length out.old)
+        × ((w : List ℕ) → In w (take buffer.now.len buffer.now.rows) → Sized n w × CloselyV n line_down w) }
+    ensures { out.new ≡ laid out.old at (list_words n (held n buffer.now.len buffer.now.rows)) }
 {
-    let mut k: usize = 0;
-    while k < len {
-        let words = buf[k];
+    for k in 0..buffer.len {
+        let words = buffer.rows[k];
         let line = LineWords {
             count: n,
             at: words,
         };
         write_line(out, at + LINE_SIZE * k, line);
-        k += 1;
     }
 }
 
 // The whole list from the front of a space that has room, one buffer-full after the other.
-pub fn write_lines(
-    out: &mut [i32],
-    marks: Marks,
-    star: &[[u64; 6]; 6],
-    lag: &[[u64; 6]; 6],
-    needs: &[[u64; 6]; 6],
-)
-    requires { (P : Cue) × Drawable marks.triggers P marks star.now lag.now needs.now
-        × (line_size * length (lines marks.triggers P) ≤ length out.old) }
-    ensures { (P : Cue) → Drawable marks.triggers P marks star.now lag.now needs.now →
-        line_size * length (lines marks.triggers P) ≤ length out.old →
-        out.new ≡ laid out.old 0 (list_words marks.triggers (lines marks.triggers P)) }
+pub fn write_lines(out: &mut [i32], sources: Sources)
+    requires { let M = sources.marks.now in (P : Cue) × Drawable M.triggers P M sources.star.now sources.lag.now sources.needs.now
+        × (line_size * length (lines M.triggers P) ≤ length out.old) }
+    ensures { let M = sources.entry.marks.now in (P : Cue) →
+        Drawable M.triggers P M sources.entry.star.now sources.entry.lag.now sources.entry.needs.now →
+        line_size * length (lines M.triggers P) ≤ length out.old →
+        out.new ≡ laid out.old 0 (list_words M.triggers (lines M.triggers P)) }
 {
-    let mut buf = [[0u64; 6]; ROOM];
+    let mut buffer = Store {
+        rows: [[0u64; 6]; ROOM],
+        len: 0,
+    };
     let mut last = LineWords {
-        count: marks.triggers,
+        count: sources.marks.triggers,
         at: [0u64; 6],
     };
     let mut at: usize = 0;
     loop {
-        let len = gather(&mut buf, last, marks, star, lag, needs);
-        write_held(out, at, &buf, len, marks.triggers);
-        if len < ROOM {
+        gather(&mut buffer, last, sources);
+        write_held(out, at, &buffer, sources.marks.triggers);
+        if buffer.len < ROOM {
             return;
         }
-        at += LINE_SIZE * len;
-        let words = buf[ROOM - 1];
+        at += LINE_SIZE * buffer.len;
+        let words = buffer.rows[ROOM - 1];
         last.at = words;
     }
 }

@@ -1,2 +1,3 @@
 -- Laws of last moments in words.
 pub mod MomentLaws
+pub mod GivenLaws

@@ -19,24 +19,15 @@ use tables::column;
 use tables::largest::overdue;
 use words::LineWords;
 
-// Whether a sheet has a last line, and for each of its triggers the overrun, absent throughout where it has none.
-#[derive(Clone, Copy)]
-pub struct Moments {
-    pub given: bool,
-    pub overruns: [u64; 6],
-}
-
 // For each trigger the largest a(i,j) − b(i) over the panels, where b are the last moments: absent where it reaches none.
 pub fn overruns(lag: &[[u64; 6]; 6], last: [u64; 6], m: usize, n: usize) -> [u64; 6]
     requires { (m ≤ size_limit) × (n ≤ size_limit) × Closely m n limit lag.now × CloselyV m limit last }
     ensures { HoldsV n (λ j. overdue m (meant_v last) (λ i. meant lag.now i j)) result }
 {
     let mut late = [0u64; 6];
-    let mut j: usize = 0;
-    while j < n {
+    for j in 0..n {
         let reach = column(lag, j);
         late[j] = overdue(last, reach, m);
-        j += 1;
     }
     late
 }
@@ -46,13 +37,10 @@ pub fn in_time(x: LineWords, overruns: [u64; 6]) -> bool
     requires { (x.count ≤ size_limit) × CloselyV x.count far_limit x.at × CloselyV x.count cap_down overruns }
     ensures { Says ((j : ℕ) → j < x.count → meant_v overruns j ⊗ meant_v x.at j ≼ unit) result }
 {
-    let n = x.count;
-    let mut j: usize = 0;
-    while j < n {
+    for j in 0..x.count {
         if words::of_number(0) < words::plus(overruns[j], x.at[j]) {
             return false;
         }
-        j += 1;
     }
     true
 }
@@ -75,14 +63,14 @@ pub fn lowered(x: LineWords, overruns: [u64; 6]) -> LineWords
     requires { (x.count ≤ size_limit) × CloselyV x.count far_limit x.at × CloselyV x.count cap_down overruns }
     ensures { (X : ℕ → ℤ) → TimingWords x.count X x → TimingWords x.count (λ j. lower (X j) (meant_v overruns j)) result }
 {
-    let n = x.count;
     let mut r = [0u64; 6];
-    let mut j: usize = 0;
-    while j < n {
+    for j in 0..x.count {
         r[j] = early(x.at[j], overruns[j]);
-        j += 1;
     }
-    LineWords { count: n, at: r }
+    LineWords {
+        count: x.count,
+        at: r,
+    }
 }
 
 // The cap of a line: minus the largest sum of an overrun and a component.
@@ -92,10 +80,8 @@ pub fn cap(line: [u64; 6], overruns: [u64; 6], n: usize) -> u64
     ensures near { Near result }
 {
     let mut late: u64 = 0;
-    let mut j: usize = 0;
-    while j < n {
+    for j in 0..n {
         late = words::larger(words::plus(overruns[j], line[j]), late);
-        j += 1;
     }
     words::minus(words::of_number(0), late)
 }

@@ -20,14 +20,12 @@ pub fn closed(order: &[[u64; 6]; 6], star: &mut [[u64; 6]; 6], n: usize) -> bool
     let unit = identity();
     *star = joined(&unit, order, n);
     let zero = words::positive(0);
-    let mut k: usize = 0;
-    while k < n {
+    for k in 0..n {
         let around = star[k][k];
         if zero < around {
             return false;
         }
         pass(star, k, n);
-        k += 1;
     }
     true
 }
@@ -38,10 +36,8 @@ fn pass(star: &mut [[u64; 6]; 6], k: usize, n: usize)
     ensures { Passed n k star.old star.new }
 {
     let through = star[k];
-    let mut i: usize = 0;
-    while i < n {
+    for i in 0..n {
         let shift = star[i][k];
         raise(&mut star[i], shift, through, n);
-        i += 1;
     }
 }

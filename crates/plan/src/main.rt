@@ -9,15 +9,18 @@ ghost use Rattle.cue.specs.Written.{line_size, width};
 ghost use Rattle.trigger_sets.specs.Sets.{bit};
 ghost use Rattle.writing.specs.Texts.{plan_text};
 ghost use Rattle.io.specs.Counts.{IsPrefixLen};
-ghost use Rattle.plan.specs.Output.{program_text, program_complaint};
+ghost use Rattle.planning.specs.Planning.{unplanned_number};
+ghost use Rattle.advice.specs.Advice.{advice};
+ghost use Rattle.writing.specs.Writing.{Writes};
+ghost use Rattle.plan.specs.Output.{unplanned_text, program_text, program_complaint};
 
-use planning::CuePlan;
+use planning::{CuePlan, Extent, Unplanned};
 use text::Ends;
 
 // "The program lends space for 2,000 lines": of eight words each. A sheet whose lines take seven gets no more of them.
 const LINES: usize = 2000;
 
-// What the program writes for a sheet; the places behind the two texts. A list of no more lines has room, so what planning refuses then is not 9.
+// What the program writes for a sheet; the places behind the two texts.
 fn answer(
     bytes: &[u8],
     space: &mut [i32; 16000],
@@ -29,28 +32,35 @@ fn answer(
     ensures prefix_len_2 { IsPrefixLen result.complaint errors.new }
     ensures errors_after { take result.complaint errors.new ≡ program_complaint bytes.now }
 {
-    let plan = planning::plan(bytes, space);
+    let plan = match planning::plan(bytes, space) {
+        Ok(plan) => plan,
+        Err(unplanned) => return refused(unplanned, out, errors),
+    };
     if LINES < plan.count {
-        let full = text::full_text(out, plan.count as u64);
-        let complaint = advice::advice_text(errors, 9);
-        return Ends {
-            text: full,
-            complaint: complaint,
+        let needed = Extent {
+            count: plan.count,
+            width: plan.width,
         };
-    }
-    let complaint = advice::advice_text(errors, plan.refusal);
-    if plan.refusal != 0 {
-        let refused = text::refusal_text(out, plan.refusal);
-        return Ends {
-            text: refused,
-            complaint: complaint,
-        };
+        return refused(Unplanned::NoRoom(needed), out, errors);
     }
     let planned = planned_text(out, plan, space);
     Ends {
         text: planned,
-        complaint: complaint,
+        complaint: 0,
     }
+}
+
+// What it writes where there is no plan: the refusal, with 9 the count needed, and its sentence.
+fn refused(unplanned: Unplanned, out: &mut [u8; 200200], errors: &mut [u8; 400]) -> Ends
+    ensures text { Writes out.new result.text (unplanned_text unplanned) }
+    ensures complaint { Writes errors.new result.complaint (advice (unplanned_number unplanned)) }
+{
+    let complaint = advice::advice_text(errors, unplanned.number());
+    let text = match unplanned {
+        Unplanned::Refused(refusal) => text::refusal_text(out, refusal.number()),
+        Unplanned::NoRoom(needed) => text::full_text(out, needed.count as u64),
+    };
+    Ends { text, complaint }
 }
 
 // The text of a plan whose lines stand in the space.
@@ -65,8 +75,8 @@ fn planned_text(out: &mut [u8], plan: CuePlan, space: &[i32]) -> usize
     text::plan_text(
         out,
         plan.deviation,
-        plan.steps as u64,
-        plan.selections as u64,
+        u64::from(plan.steps),
+        u64::from(plan.selections),
         plan.triggers,
         plan.spares,
         space,
@@ -83,10 +93,5 @@ fn main() {
     let mut out = [0u8; 200200];
     let mut errors = [0u8; 400];
     let ends = answer(&sheet[..length], &mut space, &mut out, &mut errors);
-    let text = ends.text;
-    io::write_all(1, &out[..text]);
-    let complaint = ends.complaint;
-    if complaint != 0 {
-        io::write_all(2, &errors[..complaint]);
-    }
+    ends.write(&out, &errors);
 }

@@ -6,24 +6,24 @@ use Prim.Native.Nat.{ℕ}
 use lib.Dec.{eqb}
 use lib.IntN.{ℤ}
 use Rattle.sheet.proofs.Decided.{alike?}
-use Rattle.planning.specs.Planning.{planning, plan_answer}
+use Rattle.std.specs.Prelude.{Result, Ok, Err}
+use Rattle.planning.specs.Planning.{planning, plan_answer, extent_of}
+use Rattle.planning.specs.declared.Unplanned.{Unplanned}
 use Rattle.planning.specs.declared.CuePlan.{CuePlan}
-use Rattle.comparing.specs.Comparing.{Comparison, answer, unlike, first_refused, second_refused, extent_of, compares, comparing}
+use Rattle.comparing.specs.Comparing.{Comparison, answer, unlike, compares, comparing}
 use Rattle.answer_words.specs.Words.{compare_number, compare_words}
 use Rattle.answer_words.specs.Inner.{Few, Counted}
 use Rattle.planner_c.proofs.Few.{plan_few}
 
 -- ---- the counts
-compares_counted : (p q : CuePlan) (same : Bool) → Few (extent_of p) → Few (extent_of q) → Counted (compares p q same)
-compares_counted p q same a b = go (not (eqb p.refusal 0)) (not (eqb q.refusal 0))
-    (not (eqb p.triggers q.triggers) || not (eqb p.spares q.spares))
+compares_counted : (p q : Result CuePlan Unplanned) (same : Bool) → Few (extent_of p) → Few (extent_of q) → Counted (compares p q same)
+compares_counted (Err e) q same a b = a
+compares_counted (Ok p) (Err e) same a b = b
+compares_counted (Ok p) (Ok q) same a b = go (not (eqb p.triggers q.triggers) || not (eqb p.spares q.spares))
   where
-    go : (x y z : Bool) → Counted (cond x (first_refused p.refusal (extent_of p)) (cond y (second_refused q.refusal (extent_of q))
-        (cond z (unlike (extent_of p) (extent_of q)) (answer same (extent_of p) (extent_of q)))))
-    go true y z = a
-    go false true z = b
-    go false false true = (a, b)
-    go false false false = (a, b)
+    go : (z : Bool) → Counted (cond z (unlike (extent_of (Ok p)) (extent_of (Ok q))) (answer same (extent_of (Ok p)) (extent_of (Ok q))))
+    go true = (a, b)
+    go false = (a, b)
 
 pub counted : (s₁ s₂ : List ℕ) (left right : List ℤ) {o : Comparison} → o ≡ comparing s₁ s₂ left right → Counted o
 unfolding comparing

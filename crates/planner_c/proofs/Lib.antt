@@ -3,3 +3,4 @@ pub mod Few
 pub mod TimesLaws
 pub mod CompareLaws
 pub mod ReachLaws
+pub mod Numbered

@@ -10,38 +10,36 @@ ghost use Rattle.comparing.specs.Comparing.{comparing, compared_space};
 ghost use Rattle.reaching.specs.Reaching.{reaching, reached_space, reach_answer};
 ghost use Rattle.hiring.specs.Hiring.{hiring, bytes_after, hire_answer};
 ghost use Rattle.timing.specs.Times.{component};
-ghost use Rattle.answer_words.specs.Words.{plan_words, kept_words, test_number, compare_number, compare_words, reach_words, hire_words};
+ghost use Rattle.answer_words.specs.Words.{plan_words, kept_words, compare_words, reach_words, hire_words};
+ghost use Rattle.answer_words.specs.Words.{plan_number, kept_number, test_number, compare_number, reach_number, hire_number};
 
 use answer_words::answers::{write_kept, write_plan};
 use answer_words::compared::answer_compared;
 use answer_words::hired::write_hired;
 use answer_words::reached::write_reached;
 use answer_words::times::lent_timing;
-use testing::Tested;
 
 // 0 or the refusal. The list goes to the front of the space; deviation, steps, selections, count, the spare triggers, bit 0 for trigger 1, and how
 // many words a line takes to the answer; for 9 count and words alone.
 #[unsafe(no_mangle)]
 pub extern "C" fn tuzhelar_plan(sheet: &[u8], space: &mut [i32], answer: &mut [i64]) -> u32
-    ensures returned { result ≡ (plan_answer (planning sheet.now space.old)).refusal }
+    ensures returned { result ≡ plan_number (planning sheet.now space.old) }
     ensures listed { space.new ≡ space_after (planning sheet.now space.old) space.old }
     ensures answered { answer.new ≡
         plan_words (plan_answer (planning sheet.now space.old)) answer.old }
 {
     let r = planning::plan(sheet, space);
-    write_plan(answer, r);
-    r.refusal as u32
+    write_plan(answer, r)
 }
 
 // 0 or the refusal. Deviation, steps, selections, panels, and byte and count for each of six panels go to the answer.
 #[unsafe(no_mangle)]
 pub extern "C" fn tuzhelar_kept(sheet: &[u8], answer: &mut [i64]) -> u32
-    ensures returned { result ≡ (kept_answer (keeping sheet.now)).refusal }
+    ensures returned { result ≡ kept_number (keeping sheet.now) }
     ensures answered { answer.new ≡ kept_words (kept_answer (keeping sheet.now)) answer.old }
 {
     let r = keeping::kept_table(sheet);
-    write_kept(answer, r);
-    r.refusal as u32
+    write_kept(answer, r)
 }
 
 // 100 if the times are tightest and in time, 101 if they are not, or the refusal.
@@ -50,9 +48,9 @@ pub extern "C" fn tuzhelar_test(sheet: &[u8], times: &[i64]) -> u32
     ensures { result ≡ test_number (testing sheet.now (length times.now) (component times.now)) }
 {
     match testing::test_timing(sheet, lent_timing(times)) {
-        Tested::Yes => 100,
-        Tested::No => 101,
-        Tested::Refused(k) => k as u32,
+        Ok(true) => 100,
+        Ok(false) => 101,
+        Err(refusal) => u32::from(refusal.number()),
     }
 }
 
@@ -65,8 +63,8 @@ pub extern "C" fn tuzhelar_latest(
     space: &mut [i32],
     answer: &mut [i64],
 ) -> u32
-    ensures returned { result ≡ (reach_answer
-        (reaching sheet.now (length times.now) (component times.now) space.old)).refusal }
+    ensures returned { result ≡ reach_number
+        (reaching sheet.now (length times.now) (component times.now) space.old) }
     ensures listed { space.new ≡ reached_space
         (reaching sheet.now (length times.now) (component times.now) space.old)
         space.old }
@@ -76,8 +74,7 @@ pub extern "C" fn tuzhelar_latest(
 {
     let wish = lent_timing(times);
     let r = reaching::latest_timing(sheet, wish, space);
-    write_reached(answer, r);
-    r.refusal as u32
+    write_reached(answer, r)
 }
 
 // 100 if the same timings are tightest on both sheets, 101 if they are not, 102 if the numbers of triggers or the spares differ; or the first
@@ -113,13 +110,12 @@ pub extern "C" fn tuzhelar_hire(
     bytes: &mut [u8],
     answer: &mut [i64],
 ) -> u32
-    ensures returned { result ≡ (hire_answer (hiring panels triggers state (length bytes.old))).refusal }
+    ensures returned { result ≡ hire_number (hiring panels triggers state (length bytes.old)) }
     ensures written { bytes.new ≡
         bytes_after (hiring panels triggers state (length bytes.old)) bytes.old }
     ensures answered { answer.new ≡
         hire_words (hire_answer (hiring panels triggers state (length bytes.old))) answer.old }
 {
     let r = hiring::hire(panels, triggers, state, bytes);
-    write_hired(answer, r);
-    r.refusal as u32
+    write_hired(answer, r)
 }

@@ -26,7 +26,7 @@ use Rattle.sheet.proofs.Fits.{all_fit}
 use Rattle.sheet.proofs.Spread.{least_not_negative}
 use Rattle.sheet.specs.Good.{Good}
 use Rattle.sheet.proofs.Good.{read_good}
-use Rattle.planning.specs.Planning.{PlanOutcome, planned, full, refused, plan_of, planning, space_after, plan_answer}
+use Rattle.planning.specs.Planning.{PlanOutcome, planned, full, refused, plan_of, planning, space_after, plan_answer, plan_in}
 use Rattle.sheet.specs.Ordered.{ordered}
 use Rattle.sheet.proofs.OrderedLaws.{ordered_by}
 use Rattle.planning.specs.Demands.{Planned, deviation_of, count_of, written, lines_written, Least, Demand2, Demand8, TwoPlans, SameWritten}
@@ -87,7 +87,7 @@ demand_2 s t r space e h = go (known s t r e space h)
     go k =
         let D = ap deviation_of k.plan_is in
         record {
-          spares = ap (λ o. (plan_answer o).spares) k.plan_is;
+          spares = ap (λ o. (plan_in (plan_answer o)).spares) k.plan_is;
           shown = spare_shown t k.good k.orderly;
           counted = ap count_of k.plan_is;
           front = written_is s t r e space k;
@@ -164,8 +164,8 @@ last_ignored s₁ s₂ t₁ t₂ space₁ space₂ two e =
     let p = (known₁ s₁ s₂ t₁ t₂ space₁ space₂ two).plan_is in
     let q = (known₂ s₁ s₂ t₁ t₂ space₁ space₂ two).plan_is in (
       ap deviation_of p ∙ ap sheet_least e ∙ sym (ap deviation_of q),
-      ap (λ o. (plan_answer o).steps) p ∙ ap sheet_steps e ∙ sym (ap (λ o. (plan_answer o).steps) q),
-      ap (λ o. (plan_answer o).selections) p ∙ ap sheet_selections e ∙ sym (ap (λ o. (plan_answer o).selections) q),
+      ap (λ o. (plan_in (plan_answer o)).steps) p ∙ ap sheet_steps e ∙ sym (ap (λ o. (plan_in (plan_answer o)).steps) q),
+      ap (λ o. (plan_in (plan_answer o)).selections) p ∙ ap sheet_selections e ∙ sym (ap (λ o. (plan_in (plan_answer o)).selections) q),
       (written_lists s₁ s₂ t₁ t₂ space₁ space₂ two).1
           (ap (λ t. length (sheet_lines t)) e, ap (λ t. list_words t.triggers (sheet_lines t)) e),
     )
@@ -181,11 +181,11 @@ pub steps_at_most : StepsAtMost
 unfolding planning
 steps_at_most s t r space e = go (orderly? t) (ordered_by s t r e)
   where
-    room : (b : Bool) → (plan_answer (cond b (plan t) (no_room t))).steps ≤ most_steps t
+    room : (b : Bool) → (plan_in (plan_answer (cond b (plan t) (no_room t)))).steps ≤ most_steps t
     room true = (all_fit s t r e).steps_most
     room false = omega arith
 
     go : (d : Dec (Orderly t)) → ordered s ≡ elim d [ yes h ↦ got t r | no h ↦ sheet.refused 8 ] →
-        (plan_answer (plan_of (room_in space) (ordered s))).steps ≤ most_steps t
+        (plan_in (plan_answer (plan_of (room_in space) (ordered s)))).steps ≤ most_steps t
     go (yes o) q = rw q (room (leb (length (sheet_lines t)) (room_in space (width (sheet_caps t)))))
     go (no o) q = rw q (omega arith)

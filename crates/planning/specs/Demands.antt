@@ -9,7 +9,7 @@ use Rattle.cue.specs.Written.{lent_words, uncapped}
 use Rattle.sheet.specs.Sheet.{got, Sheet, by_spread, read, spare}
 use Rattle.sheet.specs.Meaning.{Timing, Keeps, deviation, InTime, Weighed, line_landing, Cap, Capped, SameSpares, SameTimings}
 use Rattle.sheet.specs.Cue.{sheet_lines, cap, sheet_caps, most_steps}
-use Rattle.planning.specs.Planning.{PlanOutcome, planned, full, refused, planning, space_after, plan_answer}
+use Rattle.planning.specs.Planning.{PlanOutcome, planned, full, refused, planning, space_after, plan_answer, plan_in, extent_of}
 
 -- planned without refusal; the deviation, the number of lines and how many words a line takes, as they are returned
 abbrev pub Planned : PlanOutcome → Type 0
@@ -18,13 +18,13 @@ Planned (full w k) = ⊥
 Planned (refused k) = ⊥
 
 abbrev pub deviation_of : PlanOutcome → ℤ
-deviation_of o = (plan_answer o).deviation
+deviation_of o = (plan_in (plan_answer o)).deviation
 
 abbrev pub count_of : PlanOutcome → ℕ
-count_of o = (plan_answer o).count
+count_of o = (extent_of (plan_answer o)).count
 
 abbrev pub width_of : PlanOutcome → ℕ
-width_of o = (plan_answer o).width
+width_of o = (extent_of (plan_answer o)).width
 
 -- the words of the list at the front of the space
 abbrev pub written : PlanOutcome → List ℤ → List ℤ
@@ -34,7 +34,7 @@ written o space = take (width_of o * count_of o) (space_after o space)
 -- writes step 7's lines, from which, with whole-number weights, one for each line, exactly the times that keep the order and reach it are made,
 -- in "the components that are not spare"; which these are, the byte returned says
 pub record Least (t : Sheet) (space : List ℤ) (o : PlanOutcome) : Type 0 where
-  pub spares : (plan_answer o).spares ≡ byte_of t.triggers (spare t)
+  pub spares : (plan_in (plan_answer o)).spares ≡ byte_of t.triggers (spare t)
   -- in the list exactly the spare triggers are absent from every line
   pub shown : (j : ℕ) → j < t.triggers → T (spare t j) ↔ ((c : Line t.triggers) → In c (sheet_lines t) → at t.triggers c j ≡ absent)
   pub counted : count_of o ≡ length (sheet_lines t)
@@ -103,8 +103,8 @@ without_last t =
 abbrev pub LastIgnored : Type 0
 LastIgnored = (s₁ s₂ : List ℕ) (t₁ t₂ : Sheet) (space₁ space₂ : List ℤ) → TwoPlans s₁ s₂ t₁ t₂ space₁ space₂ →
     without_last t₁ ≡ without_last t₂ →
-    let p = plan_answer (planning s₁ space₁) in
-    let q = plan_answer (planning s₂ space₂) in
+    let p = plan_in (plan_answer (planning s₁ space₁)) in
+    let q = plan_in (plan_answer (planning s₂ space₂)) in
     (p.deviation ≡ q.deviation) × (p.steps ≡ q.steps) × (p.selections ≡ q.selections) × SameWritten s₁ s₂ space₁ space₂
 
 -- ---- the spread of landings is never below 0, and neither is a deviation that is returned under rule 2 (document 02, No. 7)
@@ -114,4 +114,5 @@ NeverNegative = (s : List ℕ) (t : Sheet) (r : List ℕ) (space : List ℤ) →
 
 -- ---- "With f panels that have a floor, steps is at most n + n² + ... + n to the power f": the number that is returned
 abbrev pub StepsAtMost : Type 0
-StepsAtMost = (s : List ℕ) (t : Sheet) (r : List ℕ) (space : List ℤ) → read s ≡ got t r → (plan_answer (planning s space)).steps ≤ most_steps t
+StepsAtMost = (s : List ℕ) (t : Sheet) (r : List ℕ) (space : List ℤ) → read s ≡ got t r →
+    (plan_in (plan_answer (planning s space))).steps ≤ most_steps t

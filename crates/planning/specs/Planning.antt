@@ -1,5 +1,5 @@
 -- What planning returns and leaves in the lent space (document 01, "What each operation may refuse").
-use Rattle.std.specs.Prelude.{List, Bool, cond, ℕ, ◌/◌, leb, ℤ, pos, length}
+use Rattle.std.specs.Prelude.{List, Bool, cond, ℕ, ◌/◌, leb, ℤ, pos, length, Result, Ok, Err}
 use Rattle.std.proofs.Math.Option.{Option}
 use Rattle.maxplus.specs.Finite.{byte_of}
 use Rattle.maxplus.specs.Line.{Line}
@@ -7,7 +7,11 @@ use Rattle.cue.specs.Written.{width, with_list}
 use Rattle.sheet.specs.Sheet.{Got, got, Sheet, spare}
 use Rattle.sheet.specs.Cue.{sheet_least, sheet_steps, sheet_selections, sheet_caps, sheet_lines}
 use Rattle.sheet.specs.Ordered.{ordered}
+use Rattle.refusals.specs.Numbers.{number, refusal_of}
 use Rattle.planning.specs.declared.CuePlan.{CuePlan}
+use Rattle.planning.specs.declared.Extent.{Extent}
+use Rattle.planning.specs.declared.Unplanned.{Unplanned}
+use Rattle.planning.specs.declared.Unplanned.TheVariants.{Refused, NoRoom}
 use Rattle.sheet.specs.Sheet as sheet
 
 -- "A success returns Δ, steps, selections and count", and which triggers are spare (document 02, No. 4); where the sheet has a last line each line
@@ -38,10 +42,29 @@ space_after (planned n s D k l caps L) space = with_list n caps L space
 space_after (full w k) space = space
 space_after (refused k) space = space
 
--- the answer in a program: the outcome's numbers, the sheet's number of triggers, the spares as "a byte, bit 0 for trigger 1", how many words
--- a line takes, and 0 wherever a refusal leaves nothing
-abbrev pub plan_answer : PlanOutcome → CuePlan
+-- the answer in a program: the outcome's numbers, the sheet's number of triggers, the spares as "a byte, bit 0 for trigger 1", and how many words
+-- a line takes; or the refusal, 9 with the count needed and the words of a line
+abbrev pub plan_answer : PlanOutcome → Result CuePlan Unplanned
 plan_answer (planned n s D k l caps L) =
-    record { refusal = 0; triggers = n; spares = byte_of n s; deviation = D; steps = k; selections = l; width = width caps; count = length L }
-plan_answer (full w k) = record { refusal = 9; triggers = 0; spares = 0; deviation = pos 0; steps = 0; selections = 0; width = w; count = k }
-plan_answer (refused k) = record { refusal = k; triggers = 0; spares = 0; deviation = pos 0; steps = 0; selections = 0; width = 0; count = 0 }
+    Ok (record { triggers = n; spares = byte_of n s; deviation = D; steps = k; selections = l; width = width caps; count = length L })
+plan_answer (full w k) = Err (NoRoom (record { count = k; width = w }))
+plan_answer (refused k) = Err (Refused (refusal_of k))
+
+-- the number by which it goes outside that there is no plan, and how much is needed: nothing is known of it but with 9
+abbrev pub unplanned_number : Unplanned → ℕ
+unplanned_number (Refused r) = number r
+unplanned_number (NoRoom extent) = 9
+
+abbrev pub needed : Unplanned → Extent
+needed (Refused r) = record { count = 0; width = 0 }
+needed (NoRoom extent) = extent
+
+-- the plan that is returned; all 0 where there is none
+abbrev pub plan_in : Result CuePlan Unplanned → CuePlan
+plan_in (Ok p) = p
+plan_in (Err e) = record { triggers = 0; spares = 0; deviation = pos 0; steps = 0; selections = 0; width = 0; count = 0 }
+
+-- how much planning writes, or with 9 needs
+abbrev pub extent_of : Result CuePlan Unplanned → Extent
+extent_of (Ok p) = record { count = p.count; width = p.width }
+extent_of (Err e) = needed e

@@ -1,20 +1,20 @@
 -- What a good sheet's words give on the way to the marks: the cue's words, what the functions ask of them, and what is made.
 use mathlib.Core.Path.{◌≡◌, refl, ap, ap₂, sym, subst, ◌∙◌}
-use mathlib.Core.Bool.{Bool, true, false, not}
-use mathlib.Core.List.{List, []}
+use mathlib.Core.Bool.{Bool, true, false}
+use mathlib.Core.List.{List}
 use Prim.Native.Nat.{ℕ, ◌≤◌, ◌<◌}
 use native.Mathlib.Omega.{arith}
 use lib.Dec.{T}
-use lib.ListN.{get_or}
-use borrow.Author.Tests.{not-true}
 use Rattle.maxplus.specs.Entry.{◌⊕◌, Present}
-use Rattle.maxplus.specs.Tables.{mm, star, NoGain}
+use Rattle.maxplus.specs.Tables.{Mat, mm, star, NoGain}
 use Rattle.maxplus.proofs.PackingLaws.{placed}
 use Rattle.maxplus.proofs.SupLaws.{sup_ext}
 use Rattle.cue.specs.Cue as theory
 use Rattle.cue.specs.Cue.{timing}
+use Rattle.cue.specs.Results.{Within}
 use Rattle.words.specs.Words.{entry, far}
-use Rattle.sheet.specs.Sheet.{Got, got, refused, read, given, given_table}
+use mathlib.Core.Option as maybe
+use Rattle.sheet.specs.Sheet.{Got, got, refused, read, limit, given, given_table}
 use Rattle.sheet.specs.Sheet as spec
 use Rattle.sheet.specs.Sizes.{order_limit}
 use Rattle.sheet.specs.Cue.{used, cue_size, trigger_at, order_table, floor_by, cue_of}
@@ -25,44 +25,45 @@ use Rattle.sheet.proofs.Spares.{used_order}
 use Rattle.sheet.proofs.Seam.{order_of_after}
 use Rattle.reading.specs.Reading.{answer}
 use Rattle.reading.specs.declared.SheetWords.{SheetWords}
-use Rattle.reading.specs.declared.Reading.{Reading}
-use Rattle.reading.proofs.Refusals.{refusal_numbered}
-use Rattle.rows.specs.declared.Row.{Row}
+use Rattle.reading.proofs.Refusals.{refusal_is}
+use Rattle.rows.specs.Grid.{strips_given}
+use Rattle.refusals.specs.Numbers.{number}
+use Rattle.refusals.specs.declared.Refusal.{Refusal}
+use Rattle.refusals.proofs.NumberLaws.{number_of}
+use Rattle.std.specs.Prelude.{Option, Some, None, Ok, Err}
+use Rattle.std.proofs.lemmas.Option.{none-some, same_Some}
+use Rattle.refusals.proofs.ResultLaws.{ok_not_err, same_ok, same_err}
 use Rattle.tables.specs.Held.{meant, Holds, HoldsV, Closely}
 use Rattle.tables.proofs.SquareLaws.{closely_within, closely_more, mm_held}
 use Rattle.spares.specs.Using.{tied, PlacesOf, PickedTables}
 use Rattle.spares.specs.declared.Places.{Places}
-use Rattle.moments.specs.declared.Moments.{Moments}
 use Rattle.moments.specs.Moments.{MomentsOf}
 use Rattle.order.specs.Closed.{Closed}
 use Rattle.preparing.specs.declared.CueWords.{CueWords}
 use Rattle.preparing.specs.declared.Marked.{Marked}
-use Rattle.preparing.specs.declared.Prepared.{Prepared}
+use Rattle.preparing.specs.declared.Tables.{Tables}
 use Rattle.preparing.specs.Prepared.{Worded, HoldsCue, CueFrom, Tabled, MarkedAs, PreparedAs}
-use Rattle.preparing.proofs.Results.{grid_held, lags_close, orders_close, star_held, star_close, through_held, order_says}
+use Rattle.preparing.proofs.Results.{strips_held, lags_close, orders_close, star_held, star_close, through_held, order_says}
 use Rattle.cue.specs.Sizes.{size_limit}
 
 -- ---- what reading answers
-module _ (s : List ℕ) (R : Reading) (e : R ≡ answer (read s)) where
-  pub reading_refused : ¬ (R.refusal ≡ 0) → read s ≡ refused R.refusal
-  reading_refused h = go (read s) e
+module _ (s : List ℕ) {w : SheetWords} (e : Ok w ≡ answer (read s)) where
+  pub reading_good : (t : spec.Sheet) × (r : List ℕ) × (read s ≡ got t r) × Worded t w
+  reading_good = go (read s) refl e
     where
-      go : (g : Got spec.Sheet) → R ≡ answer g → g ≡ refused R.refusal
-      go (got t r) q = absurd (h (ap (λ R. R.refusal) q))
-      go (refused k) q = ap refused (sym (ap (λ R. R.refusal) q))
+      go : (g : Got spec.Sheet) → read s ≡ g → Ok w ≡ answer g → (t : spec.Sheet) × (r : List ℕ) × (read s ≡ got t r) × Worded t w
+      go (got t r) p q = (t, r, p, record { words = same_ok _ _ q; good = read_good s t r p })
+      go (refused k) p q = ok_not_err _ _ q
 
-  pub reading_good : R.refusal ≡ 0 → (t : spec.Sheet) × (r : List ℕ) × (read s ≡ got t r) × Worded t R.sheet
-  reading_good h = go (read s) refl e
+module _ (s : List ℕ) {r : Refusal} (e : Err r ≡ answer (read s)) where
+  pub reading_refused : read s ≡ refused (number r)
+  reading_refused = go (read s) refl e
     where
-      go : (g : Got spec.Sheet) → read s ≡ g → R ≡ answer g → (t : spec.Sheet) × (r : List ℕ) × (read s ≡ got t r) × Worded t R.sheet
-      go (got t r) p q = (t, r, p, record { words = ap (λ R. R.sheet) q; good = read_good s t r p })
-      go (refused k) p q = absurd (let a = refusal_numbered s k p in let b = ap (λ R. R.refusal) q in let x : ⊥ = omega arith in x)
+      go : (g : Got spec.Sheet) → read s ≡ g → Err r ≡ answer g → read s ≡ refused (number r)
+      go (got t x) p q = ok_not_err _ _ (sym q)
+      go (refused k) p q = p ∙ ap refused (sym (ap number (same_err _ _ q) ∙ number_of k (refusal_is s k p)))
 
 -- ---- the words of a good sheet, table by table
--- rows of words as a table
-abbrev SameRows : List Row → List (List ℕ) → Type 0
-SameRows rows table = (i : ℕ) → i < 6 → get_or table i [] ≡ (get_or rows i (record { at = [] })).at
-
 module _ {s : spec.Sheet} {t : SheetWords} (W : Worded s t) where
   pub triggers_of : t.triggers ≡ s.triggers
   triggers_of = rw W.words
@@ -76,25 +77,27 @@ module _ {s : spec.Sheet} {t : SheetWords} (W : Worded s t) where
   pub panels_few : t.panels ≤ size_limit
   panels_few = rw panels_of W.good.panels_few
 
-  pub lags_of : {r : List (List ℕ)} → SameRows t.lag r → Holds s.panels s.triggers s.lag r
-  lags_of {r} h = grid_held s.lag r W.good.panels_few W.good.triggers_few W.good.lags
-      (subst (λ t. SameRows t.lag r) W.words h)
+  pub lags_of : Holds s.panels s.triggers s.lag t.lag
+  lags_of = rw W.words (strips_held s.lag W.good.panels_few W.good.triggers_few W.good.lags)
 
-  pub afters_of : {r : List (List ℕ)} → SameRows t.after r → Holds s.triggers s.triggers s.after r
-  afters_of {r} h = grid_held s.after r W.good.triggers_few W.good.triggers_few W.good.afters
-      (subst (λ t. SameRows t.after r) W.words h)
-
-  pub lands_of : {r : List (List ℕ)} → SameRows t.land.rows r → Holds s.triggers s.panels (given_table s.land) r
-  lands_of {r} h = grid_held (given_table s.land) r W.good.triggers_few W.good.panels_few W.good.lands
-      (subst (λ t. SameRows t.land.rows r) W.words h)
+  pub afters_of : Holds s.triggers s.triggers s.after t.after
+  afters_of = rw W.words (strips_held s.after W.good.triggers_few W.good.triggers_few W.good.afters)
 
   -- ---- the order table: that of the after lines where there are no land lines
-  pub orders_after : {afters : List (List ℕ)} → not t.land.given ≡ true → Holds s.triggers s.triggers s.after afters →
-      Holds s.triggers s.triggers (order_table s) afters
-  orders_after e h = record { at = λ i j hi hj. h.at i j hi hj ∙ sym (order_of_after s none i j) }
+  pub orders_after : t.land ≡ None → Holds s.triggers s.triggers (order_table s) t.after
+  orders_after e = record { at = λ i j hi hj. afters_of.at i j hi hj ∙ sym (order_of_after s (none s.land (sym (ap (λ t. t.land) W.words) ∙ e)) i j) }
     where
-      none : given s.land ≡ false
-      none = sym (ap (λ t. t.land.given) W.words) ∙ not-true t.land.given e
+      none : (c : maybe.Option Mat) → strips_given c ≡ None → given c ≡ false
+      none maybe.none e = refl
+      none (maybe.some A) e = absurd (none-some _ (sym e))
+
+  pub lands_of : {r : List (List ℕ)} → t.land ≡ Some r → Holds s.triggers s.panels (given_table s.land) r
+  lands_of {r} e = go s.land W.good.lands (sym (ap (λ t. t.land) W.words) ∙ e)
+    where
+      go : (c : maybe.Option Mat) → ((i j : ℕ) → i < s.triggers → j < s.panels → Within limit limit (given_table c i j)) →
+          strips_given c ≡ Some r → Holds s.triggers s.panels (given_table c) r
+      go maybe.none w e = absurd (none-some _ e)
+      go (maybe.some A) w e = rw (← same_Some _ _ e) (strips_held A W.good.triggers_few W.good.panels_few w)
 
   -- otherwise the larger of it and land times lag, whose words are near enough to be multiplied
   pub lands_near : {lands : List (List ℕ)} → Holds s.triggers s.panels (given_table s.land) lands →
@@ -206,28 +209,20 @@ module _ {P : theory.Cue} {orders lags : List (List ℕ)} {c : CueWords} (H : Ho
     }
 
 -- ---- what is ready
-module _ {g : Got spec.Sheet} {orders lags stars gains needs : List (List ℕ)} where
-  pub unready : {r : Prepared} (k : ℕ) → r.refusal ≡ k → ¬ (k ≡ 0) → g ≡ refused k → PreparedAs g orders lags stars gains needs r
-  unready k e h q = record { refusal = λ _. q ∙ ap refused (sym e); made = λ z. absurd (h (sym e ∙ z)) }
-
-  pub readied : {c : CueWords} {r : Marked} (s : spec.Sheet) (x : List ℕ) → g ≡ got s x → CueFrom s orders lags c →
-      NoGain c.triggers (cue_of s).order → MarkedAs c.triggers (cue_of s) lags stars gains needs r → {q : Moments} → MomentsOf s q → Good s →
-      PreparedAs g orders lags stars gains needs (record { refusal = 0; cue = c; marked = r; moments = q })
-  readied {c} {r} s x e F np M Q G =
-      record {
-        refusal = λ h. absurd (h refl);
-        made = λ _. (
-          s,
-          x,
-          e,
-          record {
-            sized = F.sized;
-            placed = F.placed;
-            held = F.held;
-            order = subst (λ n. NoGain n (cue_of s).order) F.sized np;
-            marked = subst (λ n. MarkedAs n (cue_of s) lags stars gains needs r) F.sized M;
-            moments = Q;
-            good = G;
-          },
-        );
-      }
+pub readied : {g : Got spec.Sheet} {ts : Tables} {c : CueWords} {r : Marked} (s : spec.Sheet) (x : List ℕ) → g ≡ got s x →
+    CueFrom s ts.order ts.lag c → NoGain c.triggers (cue_of s).order → MarkedAs c.triggers (cue_of s) ts.lag ts.star ts.gains ts.needs r →
+    {q : Option (List ℕ)} → MomentsOf s q → Good s → PreparedAs g ts (Ok (record { cue = c; marked = r; moments = q }))
+readied {ts = ts} {c} {r} s x e F np M Q G = (
+  s,
+  x,
+  e,
+  record {
+    sized = F.sized;
+    placed = F.placed;
+    held = F.held;
+    order = subst (λ n. NoGain n (cue_of s).order) F.sized np;
+    marked = subst (λ n. MarkedAs n (cue_of s) ts.lag ts.star ts.gains ts.needs r) F.sized M;
+    moments = Q;
+    good = G;
+  },
+)

@@ -21,9 +21,9 @@ use Rattle.words.specs.Words.{word, entry, Close}
 use Rattle.words.proofs.Laws.{entry_word}
 use Rattle.sheet.specs.Sheet.{limit}
 use Rattle.sheet.specs.Sizes.{order_limit, star_size, through_size, mark_down, least_up}
-use Rattle.reading.specs.Reading.{first}
-use Rattle.rows.specs.Grid.{strip, grid}
-use Rattle.rows.proofs.PlaceLaws.{strip_at, grid_at}
+use Rattle.reading.specs.Reading.{numbers}
+use Rattle.rows.specs.Grid.{strip, strips}
+use Rattle.rows.proofs.PlaceLaws.{strip_at, strips_at}
 use Rattle.cue.specs.Cue.{Cue, timing, overdue, shortfall}
 use Rattle.cue.specs.Method.{through, pull_E, pull, mark, least_E, least, floor_panels, kept, kept_byte}
 use Rattle.cue.proofs.Deviation.{pull_is, mv_through, mark_keeps, mark_shortfall}
@@ -47,25 +47,22 @@ pub strip_held : {n : ℕ} (x : Vec) → n ≤ size_limit → ((j : ℕ) → j <
 unfolding meant_v
 strip_held x six w = record { at = λ j h. ap entry (strip_at x j (omega arith)) ∙ word_held (x j) (w j h) }
 
--- r is the table of the rows of A
-pub grid_held : {m n : ℕ} (A : Mat) (r : List (List ℕ)) → m ≤ size_limit → n ≤ size_limit →
-    ((i j : ℕ) → i < m → j < n → Within limit limit (A i j)) →
-    ((i : ℕ) → i < 6 → get_or r i [] ≡ (get_or (grid A) i (record { at = [] })).at) → Holds m n A r
+pub strips_held : {m n : ℕ} (A : Mat) → m ≤ size_limit → n ≤ size_limit → ((i j : ℕ) → i < m → j < n → Within limit limit (A i j)) →
+    Holds m n A (strips A)
 unfolding meant
-grid_held A r six few w h = record {
+strips_held A six few w = record {
   at = λ i j hi hj.
-      ap (λ (l : List ℕ). entry (get_or l j 0)) (h i (omega arith) ∙ ap (λ q. q.at) (grid_at A i _ (omega arith))) ∙
-      ap entry (strip_at (A i) j (omega arith)) ∙ word_held (A i j) (w i j hi hj);
+      ap (λ (l : List ℕ). entry (get_or l j 0)) (strips_at A i (omega arith)) ∙ ap entry (strip_at (A i) j (omega arith)) ∙ word_held (A i j) (w i j hi hj);
 }
 
 -- the first entries of a line of due marks or last moments
-pub first_held : (k : ℕ) (v : Vec) → k ≤ size_limit → ((j : ℕ) → j < k → Within limit limit (v j)) → HoldsV k v (strip (first k v))
-first_held k v few w = record { at = λ j h. held.at j h ∙ there j h }
+pub first_held : (k : ℕ) (f : ℕ → ℤ) → k ≤ size_limit → ((j : ℕ) → j < k → Within limit limit (num (f j))) → HoldsV k (timing f) (strip (numbers k f))
+first_held k f few w = record { at = λ j h. held.at j h ∙ there j h }
   where
-    there : (j : ℕ) → j < k → first k v j ≡ v j
+    there : (j : ℕ) → j < k → numbers k f j ≡ num (f j)
     there j h = rw (lt-ltb j k h)
 
-    held : HoldsV k (first k v) (strip (first k v))
+    held : HoldsV k (numbers k f) (strip (numbers k f))
     held = strip_held _ few (λ j h. subst (Within limit limit) (sym (there j h)) (w j h))
 
 -- ---- tables that agree

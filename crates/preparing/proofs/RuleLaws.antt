@@ -1,6 +1,5 @@
 -- The marks of a cue as words: those of the sheet, or those of rule 2.
 use mathlib.Core.Path.{◌≡◌, refl, ap, ap₂, sym, subst, ◌∙◌}
-use mathlib.Core.Bool.{true, false}
 use mathlib.Core.List.{List}
 use Prim.Native.Nat.{ℕ, ◌≤◌, ◌<◌}
 use native.Mathlib.Nat.{le_refl}
@@ -15,15 +14,16 @@ use Rattle.maxplus.proofs.SupLaws.{sup_ext}
 use Rattle.cue.specs.Cue.{timing, overdue}
 use Rattle.cue.specs.Sizes.{size_limit}
 use Rattle.cue.specs.Results.{Within}
-use Rattle.sheet.specs.Sheet.{Sheet, Measure, by_marks, by_spread, by_spread?, own_floor, own_due, limit}
+use Rattle.sheet.specs.Sheet.{Sheet, Measure, by_marks, by_spread, own_due, limit}
 use Rattle.sheet.specs.Cue.{used, cue_size, trigger_at, floor_by, due_by, cue_of}
 use Rattle.sheet.specs.Good.{Measured}
-use Rattle.sheet.proofs.LineLaws.{true_not_false}
 use Rattle.sheet.proofs.WithinLaws.{within_sup}
 use Rattle.sheet.proofs.Good.{in_range}
 use Rattle.sheet.proofs.Seam.{farthest_due}
 use Rattle.words.specs.Words.{far, word, entry, Near}
+use Rattle.reading.specs.Reading.{numbers, measure_words}
 use Rattle.reading.specs.declared.SheetWords.{SheetWords}
+use Rattle.reading.specs.declared.Measure.TheVariants.{Marks, Spread}
 use Rattle.rows.specs.Grid.{strip}
 use Rattle.tables.specs.Held.{meant, meant_v, Holds, HoldsV, Closely, CloselyV}
 use Rattle.tables.proofs.SquareLaws.{close_within, closely_within, closely_within_v}
@@ -34,43 +34,45 @@ use Rattle.preparing.specs.Prepared.{Worded}
 use Rattle.preparing.proofs.Preparing.{panels_of, below}
 use Rattle.preparing.proofs.Results.{word_held, strip_held, first_held}
 
--- which rule a sheet follows
-by_rule_2 : (M : Measure) → by_spread? M ≡ true → M ≡ by_spread
-by_rule_2 (by_marks p q) e = absurd (true_not_false (sym e))
-by_rule_2 by_spread e = refl
+marks_not_spread : {C : Type 0} {p q : List ℕ} → Marks p q ≡ Spread → C
+marks_not_spread e = let z : ◌≡◌ {A = ℕ} 0 1 = cc in let x : ⊥ = omega arith in absurd x
 
 module _ {s : Sheet} {t : SheetWords} (W : Worded s t) where
-  ruled_of : t.ruled ≡ by_spread? s.measure
-  ruled_of = ap (λ t. t.ruled) W.words
+  measure_of : t.measure ≡ measure_words s.triggers s.measure
+  measure_of = ap (λ t. t.measure) W.words
 
   -- ---- by marks: the sheet's own
-  module _ (e : t.ruled ≡ false) where
-    pub own_floors : HoldsV s.panels (floor_by s.measure) t.floor
-    own_floors = subst (λ t. HoldsV s.panels (floor_by s.measure) t.floor) (sym W.words)
-        (go s.measure (sym ruled_of ∙ e) W.good.limited.floors)
+  module _ {floor due : List ℕ} (e : t.measure ≡ Marks floor due) where
+    pub own_floors : HoldsV s.panels (floor_by s.measure) floor
+    own_floors = go s.measure (sym measure_of ∙ e) W.good.limited.floors
       where
-        go : (M : Measure) → by_spread? M ≡ false → ((i : ℕ) → i < s.panels → Within limit limit (floor_by M i)) →
-            HoldsV s.panels (floor_by M) (strip (own_floor M))
-        go (by_marks p q) e w = strip_held p W.good.panels_few w
-        go by_spread e w = absurd (true_not_false e)
+        go : (M : Measure) → measure_words s.triggers M ≡ Marks floor due → ((i : ℕ) → i < s.panels → Within limit limit (floor_by M i)) →
+            HoldsV s.panels (floor_by M) floor
+        go (by_marks p q) e w = let f : strip p ≡ floor = cc in rw (← f) (strip_held p W.good.panels_few w)
+        go by_spread e w = marks_not_spread (sym e)
 
-    pub own_dues : {p : Places} {due : List ℕ} → PlacesOf (used s) s.triggers p → Picked p t.due due →
-        HoldsV (cue_size s) (timing (cue_of s).due) due
+    pub own_dues : {p : Places} {r : List ℕ} → PlacesOf (used s) s.triggers p → Picked p due r →
+        HoldsV (cue_size s) (timing (cue_of s).due) r
     unfolding meant_v
-    own_dues U h = record {
-      at = λ k q. ap entry (picked_at U h k q) ∙ ap (λ t. meant_v t.due (trigger_at s k)) W.words ∙
-          (first_held s.triggers (own_due s.measure) W.good.triggers_few W.good.dues).at (trigger_at s k) (below W U k q) ∙
-          go s.measure (sym ruled_of ∙ e) (trigger_at s k);
-    }
+    own_dues U h = record { at = λ k q. ap entry (picked_at U h k q) ∙ own (trigger_at s k) (below W U k q) }
       where
-        go : (M : Measure) → by_spread? M ≡ false → (j : ℕ) → own_due M j ≡ num (due_by s.panels s.lag M j)
-        go (by_marks p q) e j = refl
-        go by_spread e j = absurd (true_not_false e)
+        own : (j : ℕ) → j < s.triggers → meant_v due j ≡ num (due_by s.panels s.lag s.measure j)
+        own j b = go s.measure (sym measure_of ∙ e) W.good.dues
+          where
+            go : (M : Measure) → measure_words s.triggers M ≡ Marks floor due →
+                ((j : ℕ) → j < s.triggers → Within limit limit (own_due M j)) → meant_v due j ≡ num (due_by s.panels s.lag M j)
+            go (by_marks p q) e w =
+                let f : strip (numbers s.triggers q) ≡ due = cc in rw (← f) ((first_held s.triggers q W.good.triggers_few w).at j b)
+            go by_spread e w = marks_not_spread (sym e)
 
   -- ---- under rule 2
-  module _ (e : t.ruled ≡ true) where
+  module _ (e : t.measure ≡ Spread) where
     spread_is : s.measure ≡ by_spread
-    spread_is = by_rule_2 s.measure (sym ruled_of ∙ e)
+    spread_is = go s.measure (sym measure_of ∙ e)
+      where
+        go : (M : Measure) → measure_words s.triggers M ≡ Spread → M ≡ by_spread
+        go (by_marks p q) e = marks_not_spread e
+        go by_spread e = refl
 
     module _ {z : ℕ} (zero_is : z ≡ word (num (pos 0))) where
       zero_near : Within limit limit (num (pos 0))

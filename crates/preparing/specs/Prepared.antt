@@ -1,5 +1,5 @@
 -- What is known on the way from a sheet's words to what the operations are made from. The tables P are those that the words hold.
-use Rattle.std.specs.Prelude.{◌≡◌, Bool, false, List, [], ℕ, ◌≤◌, ◌<◌, length, get_or, replicate}
+use Rattle.std.specs.Prelude.{◌≡◌, Bool, List, ℕ, ◌≤◌, ◌<◌, length, get_or, Result, Ok, Err}
 use Rattle.maxplus.specs.Entry.{num}
 use Rattle.maxplus.specs.Tables.{star, NoGain}
 use Rattle.cue.specs.Cue as theory
@@ -13,22 +13,24 @@ use Rattle.sheet.specs.Sheet as spec
 use Rattle.sheet.specs.Sizes.{order_limit}
 use Rattle.sheet.specs.Cue.{used, cue_size, cue_of}
 use Rattle.sheet.specs.Good.{Good}
-use Rattle.reading.specs.Reading.{answer}
+use Rattle.refusals.specs.Numbers.{number}
+use Rattle.refusals.specs.declared.Refusal.{Refusal}
+use Rattle.reading.specs.Reading.{sheet_words}
 use Rattle.reading.specs.declared.SheetWords.{SheetWords}
 use Rattle.tables.specs.Held.{Holds, HoldsV, Says}
 use Rattle.spares.specs.Using.{PlacesOf}
 use Rattle.moments.specs.Moments.{MomentsOf}
-use Rattle.moments.specs.declared.Moments.{Moments}
 use Rattle.walk.specs.Follows.{Follows}
 use Rattle.candidates.specs.Drawable.{Drawable}
 use Rattle.preparing.specs.declared.CueWords.{CueWords}
 use Rattle.preparing.specs.declared.Marked.{Marked}
 use Rattle.preparing.specs.declared.Prepared.{Prepared}
+use Rattle.preparing.specs.declared.Tables.{Tables}
 use Rattle.cue.specs.Sizes.{size_limit}
 
 -- the words of a good sheet s
 pub record Worded (s : spec.Sheet) (t : SheetWords) : Type 0 where
-  pub words : t ≡ (answer (got s [])).sheet
+  pub words : t ≡ sheet_words s
   pub good : Good s
 
 -- the words of a cue P that can be planned
@@ -77,21 +79,17 @@ pub record MarkedAs (n : ℕ) (P : theory.Cue) (lags stars gains needs : List (L
   pub follows : Follows n P (least n P) r.marks.levels r.marks.kept gains (floor_panels n P)
   pub prepared : Drawable r.marks.triggers P r.marks stars lags needs
 
--- no last line, and no overrun
-abbrev pub nothing_late : Moments
-nothing_late = record { given = false; overruns = replicate 6 0 }
-
 -- a sheet whose order can be kept, with all that is made from it
-pub record Made (s : spec.Sheet) (orders lags stars gains needs : List (List ℕ)) (r : Prepared) : Type 0 where
+pub record Made (s : spec.Sheet) (ts : Tables) (r : Prepared) : Type 0 where
   pub sized : r.cue.triggers ≡ cue_size s
   pub placed : PlacesOf (used s) s.triggers r.cue.places
-  pub held : HoldsCue (cue_of s) orders lags r.cue
+  pub held : HoldsCue (cue_of s) ts.order ts.lag r.cue
   pub order : NoGain (cue_size s) (cue_of s).order
-  pub marked : MarkedAs (cue_size s) (cue_of s) lags stars gains needs r.marked
+  pub marked : MarkedAs (cue_size s) (cue_of s) ts.lag ts.star ts.gains ts.needs r.marked
   pub moments : MomentsOf s r.moments
   pub good : Good s
 
 -- what reading and the order check came to: a refusal, or a sheet with all that is made from it
-pub record PreparedAs (g : Got spec.Sheet) (orders lags stars gains needs : List (List ℕ)) (r : Prepared) : Type 0 where
-  pub refusal : ¬ (r.refusal ≡ 0) → g ≡ refused r.refusal
-  pub made : r.refusal ≡ 0 → (s : spec.Sheet) × (x : List ℕ) × (g ≡ got s x) × Made s orders lags stars gains needs r
+abbrev pub PreparedAs : Got spec.Sheet → Tables → Result Prepared Refusal → Type 0
+PreparedAs g ts (Ok r) = (s : spec.Sheet) × (x : List ℕ) × (g ≡ got s x) × Made s ts r
+PreparedAs g ts (Err e) = g ≡ refused (number e)

@@ -16,23 +16,22 @@ pub fn pack(kept: [u8; 6], floor: [u64; 6], m: usize) -> Packed
     let mut bytes = [0u8; 6];
     let mut at = [0u8; 6];
     let mut f: usize = 0;
-    let mut i: usize = 0;
-    while i < m {
+    for i in 0..m {
         if words::present(floor[i]) {
             bytes[f] = kept[i];
             at[f] = i as u8;
             f += 1;
         }
-        i += 1;
     }
     Packed {
         panels: f,
         kept: bytes,
-        at: at,
+        at,
     }
 }
 
-// For the panel i of each level what the walk compares, d(i,j) − p(i), and what step 6's w is made of, p(i) − Δ − d(i,j).
+// For the panel i of each level what the walk compares, d(i,j) − p(i), and what step 6's w is made of, p(i) − Δ − d(i,j). What it needs comes from
+// five places of its one caller: a struct would be built for that call alone.
 pub fn compared(
     through: &[[u64; 6]; 6],
     floor: [u64; 6],
@@ -46,23 +45,9 @@ pub fn compared(
     requires { (f ≤ size_limit) × (n ≤ size_limit) × LevelsNear f n through.now floor asks at }
     ensures { LevelTables f n (meant through.now) (meant_v floor) (meant_v asks) at gains.new needs.new }
 {
-    let blank = [0u64; 6];
-    let mut g = [blank; 6];
-    let mut r = [blank; 6];
-    let mut l: usize = 0;
-    while l < f {
-        let i = wide(at[l]);
-        let row = through[i];
-        g[l] = less(row, floor[i], n);
-        r[l] = rest(asks[i], row, n);
-        l += 1;
+    for l in 0..f {
+        let i = usize::from(at[l]);
+        gains[l] = less(through[i], floor[i], n);
+        needs[l] = rest(asks[i], through[i], n);
     }
-    *gains = g;
-    *needs = r;
-}
-
-fn wide(b: u8) -> usize
-    ensures { result ≡ b }
-{
-    b as usize
 }

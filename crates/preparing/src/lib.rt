@@ -4,24 +4,35 @@
 
 ghost use Rattle.std.specs.Prelude.{◌≡◌, List, ℕ};
 ghost use Rattle.sheet.specs.Sheet as spec;
-ghost use Rattle.sheet.specs.Sheet.{read};
+ghost use Rattle.sheet.specs.Sheet.{got, read};
 ghost use Rattle.sheet.specs.Cue.{used, cue_size, order_table, floor_by, cue_of};
 ghost use Rattle.sheet.specs.Ordered.{ordered};
-ghost use Rattle.reading.specs.Reading.{answer};
 ghost use Rattle.cue.specs.Cue as theory;
 ghost use Rattle.cue.specs.Cue.{timing};
 ghost use Rattle.tables.specs.Held.{Holds, HoldsV};
 ghost use Rattle.spares.specs.Using.{PlacesOf};
 ghost use Rattle.moments.specs.Moments.{MomentsOf};
-ghost use Rattle.preparing.specs.Prepared.{Worded, HoldsCue, CueFrom, Tabled, PreparedAs, nothing_late};
+ghost use Rattle.preparing.specs.Prepared.{Worded, HoldsCue, CueFrom, Tabled, PreparedAs};
 
 use candidates::Marks;
-use moments::{Moments, overruns};
-use reading::{Reading, SheetWords};
+use moments::overruns;
+use reading::{Measure, SheetWords};
+use refusals::Refusal;
 use spares::{Places, pick_tables, picked, places_of};
 
 mod levels;
 mod marks;
+
+// The tables that an operation is made from, lent to those who fill and read them: the cue's order table and lags, M*, what the walk compares, and
+// what step 6's w is made of.
+#[derive(Clone, Copy)]
+pub struct Tables {
+    pub order: [[u64; 6]; 6],
+    pub lag: [[u64; 6]; 6],
+    pub star: [[u64; 6]; 6],
+    pub gains: [[u64; 6]; 6],
+    pub needs: [[u64; 6]; 6],
+}
 
 // A cue's sizes, floors and due marks as words, and which of the sheet's triggers it has. Its tables, lag and order, are lent beside it.
 #[derive(Clone, Copy)]
@@ -49,81 +60,97 @@ pub struct Marked {
     pub marks: Marks,
 }
 
-// A refusal, 1 to 8 or 14; or 0, the cue, what steps 3 and 4 give, and the last moments.
+// The cue, what steps 3 and 4 give, and, where the sheet has last moments, how late each of its triggers lands.
 #[derive(Clone, Copy)]
 pub struct Prepared {
-    pub refusal: u8,
     pub cue: CueWords,
     pub marked: Marked,
-    pub moments: Moments,
+    pub moments: Option<[u64; 6]>,
+}
+
+impl Tables {
+    // Tables to be filled.
+    pub fn blank() -> Tables {
+        let none = [[0u64; 6]; 6];
+        Tables {
+            order: none,
+            lag: none,
+            star: none,
+            gains: none,
+            needs: none,
+        }
+    }
+}
+
+// The rows of a table in another one: row by row, since the library would need `memmove` for a table as a whole.
+fn copy_rows(from: &[[u64; 6]; 6], to: &mut [[u64; 6]; 6])
+    ensures { to.new ≡ from.now }
+{
+    for i in 0..6 {
+        to[i] = from[i];
+    }
 }
 
 // The one place where the words of a sheet become those of its cue: the lent tables are its order and its lags.
-pub fn cue_of(t: SheetWords, order: &mut [[u64; 6]; 6], lag: &mut [[u64; 6]; 6]) -> CueWords
-    requires { (s : spec.Sheet) × Worded s t }
-    ensures { (s : spec.Sheet) → Worded s t → CueFrom s order.new lag.new result }
+pub fn cue_of(t: &SheetWords, order: &mut [[u64; 6]; 6], lag: &mut [[u64; 6]; 6]) -> CueWords
+    requires { (s : spec.Sheet) × Worded s t.now }
+    ensures { (s : spec.Sheet) → Worded s t.now → CueFrom s order.new lag.new result }
 {
-    let lag_rows = t.lag;
-    *lag = tables::table(lag_rows);
-    *order = order_of(t, lag);
+    copy_rows(&t.lag, lag);
+    *order = order_of(t);
     let places = places_of(order, lag, t.panels, t.triggers);
     pick_tables(order, lag, t.panels, places);
-    let floors = floor_by(t);
-    let dues = due_by(t, lag, places);
+    let floor = floor_by(t);
+    let due = due_by(t, lag, places);
     CueWords {
         triggers: places.count,
         panels: t.panels,
-        floor: floors,
-        due: dues,
-        places: places,
+        floor,
+        due,
+        places,
     }
 }
 
 // The floors that the cue goes by: 0 for each panel under rule 2.
-fn floor_by(t: SheetWords) -> [u64; 6]
-    requires { (s : spec.Sheet) × Worded s t }
-    ensures { (s : spec.Sheet) → Worded s t → HoldsV s.panels (floor_by s.measure) result }
+fn floor_by(t: &SheetWords) -> [u64; 6]
+    requires { (s : spec.Sheet) × Worded s t.now }
+    ensures { (s : spec.Sheet) → Worded s t.now → HoldsV s.panels (floor_by s.measure) result }
 {
-    if !t.ruled {
-        let floor = t.floor;
-        return floor;
+    match t.measure {
+        Measure::Marks { floor, .. } => floor,
+        Measure::Spread => [words::of_number(0); 6],
     }
-    let zero = words::of_number(0);
-    [zero; 6]
 }
 
 // The due marks that the cue goes by: under rule 2 minus the largest lag of each of its triggers, whose lags are lent.
-fn due_by(t: SheetWords, lag: &[[u64; 6]; 6], places: Places) -> [u64; 6]
-    requires { (s : spec.Sheet) × Worded s t × PlacesOf (used s) s.triggers places ×
+fn due_by(t: &SheetWords, lag: &[[u64; 6]; 6], places: Places) -> [u64; 6]
+    requires { (s : spec.Sheet) × Worded s t.now × PlacesOf (used s) s.triggers places ×
         Holds s.panels (cue_size s) (cue_of s).lag lag.now }
-    ensures { (s : spec.Sheet) → Worded s t → PlacesOf (used s) s.triggers places →
+    ensures { (s : spec.Sheet) → Worded s t.now → PlacesOf (used s) s.triggers places →
         Holds s.panels (cue_size s) (cue_of s).lag lag.now → HoldsV (cue_size s) (timing (cue_of s).due) result }
 {
-    if t.ruled {
-        let zero = words::of_number(0);
-        let farthest = overruns(lag, [zero; 6], t.panels, places.count);
-        return tables::differences::rest(zero, farthest, places.count);
+    match t.measure {
+        Measure::Marks { due, .. } => picked(due, places),
+        Measure::Spread => {
+            let zero = words::of_number(0);
+            let farthest = overruns(lag, [zero; 6], t.panels, places.count);
+            tables::differences::rest(zero, farthest, places.count)
+        }
     }
-    let due = t.due;
-    picked(due, places)
 }
 
 // The larger of the after table and land times lag: the product is over panels. A sheet without land lines has no such rules to multiply.
-fn order_of(t: SheetWords, lag: &[[u64; 6]; 6]) -> [[u64; 6]; 6]
-    requires { (s : spec.Sheet) × Worded s t × Holds s.panels s.triggers s.lag lag.now }
-    ensures { (s : spec.Sheet) → Worded s t → Holds s.panels s.triggers s.lag lag.now →
-        Holds s.triggers s.triggers (order_table s) result }
+fn order_of(t: &SheetWords) -> [[u64; 6]; 6]
+    requires { (s : spec.Sheet) × Worded s t.now }
+    ensures { (s : spec.Sheet) → Worded s t.now → Holds s.triggers s.triggers (order_table s) result }
 {
-    let after_rows = t.after;
-    let afters = tables::table(after_rows);
-    let land = t.land;
-    if !land.given {
-        return afters;
+    match t.land {
+        Some(lands) => {
+            let waits = tables::product(&lands, &t.lag, t.triggers, t.panels, t.triggers);
+            tables::joined(&t.after, &waits, t.triggers)
+        }
+        None => t.after,
     }
-    let land_rows = land.rows;
-    let lands = tables::table(land_rows);
-    let waits = tables::product(&lands, lag, t.triggers, t.panels, t.triggers);
-    tables::joined(&afters, &waits, t.triggers)
 }
 
 // Whether the order of a cue can be kept, and then M* and d.
@@ -146,103 +173,44 @@ pub fn closed_tables(
     true
 }
 
-// All that an operation is made from, for what was read; or the refusal.
-pub fn prepare(
-    reading: Reading,
-    order: &mut [[u64; 6]; 6],
-    lag: &mut [[u64; 6]; 6],
-    star: &mut [[u64; 6]; 6],
-    gains: &mut [[u64; 6]; 6],
-    needs: &mut [[u64; 6]; 6],
-) -> Prepared
-    requires { (s : List ℕ) × (reading ≡ answer (read s)) }
-    ensures { (s : List ℕ) → reading ≡ answer (read s) →
-        PreparedAs (ordered s) order.new lag.new star.new gains.new needs.new result }
+// All that an operation is made from, for a sheet that was read; or 8.
+pub fn prepare(sheet: &SheetWords, tables: &mut Tables) -> Result<Prepared, Refusal>
+    requires { (s : spec.Sheet) × Worded s sheet.now }
+    ensures { (b : List ℕ) (s : spec.Sheet) (x : List ℕ) → read b ≡ got s x → Worded s sheet.now →
+        PreparedAs (ordered b) tables.new result }
 {
-    if reading.refusal != 0 {
-        return not_prepared(reading.refusal);
+    let cue = cue_of(sheet, &mut tables.order, &mut tables.lag);
+    let mut through = [[0u64; 6]; 6];
+    if !closed_tables(
+        cue,
+        &tables.order,
+        &tables.lag,
+        &mut tables.star,
+        &mut through,
+    ) {
+        return Err(Refusal::NoTimes);
     }
-    let sheet = reading.sheet;
-    let cue = cue_of(sheet, order, lag);
-    let blank = [0u64; 6];
-    let mut through = [blank; 6];
-    if !closed_tables(cue, order, lag, star, &mut through) {
-        return not_prepared(8);
-    }
-    let marked = marks::marks_of(cue, star, &through, gains, needs);
-    Prepared {
-        refusal: 0,
-        cue: cue,
-        marked: marked,
+    let marked = marks::marks_of(
+        cue,
+        &tables.star,
+        &through,
+        &mut tables.gains,
+        &mut tables.needs,
+    );
+    Ok(Prepared {
+        cue,
+        marked,
         moments: moments_of(sheet),
-    }
+    })
 }
 
-// A sheet without a last line has nothing to be late for.
-fn no_moments() -> Moments
-    ensures { result ≡ nothing_late }
+// How late each trigger of a sheet with a last line lands.
+fn moments_of(t: &SheetWords) -> Option<[u64; 6]>
+    requires { (s : spec.Sheet) × Worded s t.now }
+    ensures { (s : spec.Sheet) → Worded s t.now → MomentsOf s result }
 {
-    Moments {
-        given: false,
-        overruns: [0u64; 6],
-    }
-}
-
-// How late each trigger of the sheet lands.
-fn moments_of(t: SheetWords) -> Moments
-    requires { (s : spec.Sheet) × Worded s t }
-    ensures { (s : spec.Sheet) → Worded s t → MomentsOf s result }
-{
-    let last = t.last;
-    if !last.given {
-        return no_moments();
-    }
-    let rows = t.lag;
-    let lags = tables::table(rows);
-    let at = last.at;
-    let late = overruns(&lags, at, t.panels, t.triggers);
-    Moments {
-        given: true,
-        overruns: late,
-    }
-}
-
-// A refusal, and nothing made.
-pub fn not_prepared(refusal: u8) -> Prepared
-    ensures { result.refusal ≡ refusal }
-{
-    let places = Places {
-        triggers: 0,
-        count: 0,
-        at: [0u8; 6],
-        used: 0,
-        spares: 0,
-    };
-    let cue = CueWords {
-        triggers: 0,
-        panels: 0,
-        floor: [0u64; 6],
-        due: [0u64; 6],
-        places: places,
-    };
-    let marks = Marks {
-        triggers: 0,
-        panels: 0,
-        levels: 0,
-        pulls: [0u64; 6],
-        due: [0u64; 6],
-        asks: [0u64; 6],
-        kept: [0u8; 6],
-    };
-    let marked = Marked {
-        least: 0,
-        kept: [0u8; 6],
-        marks: marks,
-    };
-    Prepared {
-        refusal: refusal,
-        cue: cue,
-        marked: marked,
-        moments: no_moments(),
+    match t.last {
+        Some(last) => Some(overruns(&t.lag, last, t.panels, t.triggers)),
+        None => None,
     }
 }

@@ -37,14 +37,10 @@ pub fn marks_of(
         triggers: n,
         panels: m,
         levels: f,
-        pulls: pulls,
-        due: due,
-        asks: asks,
+        pulls,
+        due,
+        asks,
         kept: masks,
     };
-    Marked {
-        least: least,
-        kept: kept,
-        marks: marks,
-    }
+    Marked { least, kept, marks }
 }

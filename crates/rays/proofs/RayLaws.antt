@@ -7,8 +7,11 @@ use Prim.Native.Nat.{ℕ, ◌+◌, ◌≤◌, ◌<◌}
 use native.Mathlib.Omega.{arith}
 use native.Mathlib.Decide.{ℕ_discrete, dec_lt}
 use lib.Dec.{T}
-use lib.ListN.{length, get_or, set, length-set}
-use lib.Seq.{get_or-set_same, get_or-set_other}
+use lib.ListN.{length, get_or, set, take, length-set}
+use lib.Seq.{get_or-set_same, get_or-set_other, get_or-take, length-take-le}
+use Rattle.std.specs.List.{AllWithin, HoldsAt}
+use Rattle.std.specs.Bool.{MatchBool}
+use Rattle.tables.specs.Held.{Says}
 use Rattle.trigger_sets.specs.Sets.{Has}
 use Rattle.buffer.specs.Buffer.{row}
 use Rattle.rays.specs.Rays.{places, Under, Covered, Among, Thinned, Grown, Joined, Meets, Raised, RaisedBy, RaisedAll, Branched}
@@ -22,35 +25,7 @@ under_refl a = record { at = λ j h. omega arith }
 pub under_trans : {a b c : List ℕ} → Under a b → Under b c → Under a c
 under_trans h k = record { at = λ j i. let x = h.at j i in let y = k.at j i in omega arith }
 
--- below in the first j components
-pub record UnderTo (a b : List ℕ) (j : ℕ) : Type 0 where
-  pub at : (k : ℕ) → k < j → get_or a k 0 ≤ get_or b k 0
-
-pub under_start : (a b : List ℕ) → UnderTo a b 0
-under_start a b = record { at = λ k h. let e : ⊥ = omega arith in absurd e }
-
-pub under_more : {a b : List ℕ} {j : ℕ} → UnderTo a b j → get_or a j 0 ≤ get_or b j 0 → UnderTo a b (j + 1)
-under_more {j = j} u h = record { at = λ k i. elim (ℕ_discrete k j) [ yes e ↦ rw e h | no e ↦ u.at k (omega arith) ] }
-
-pub under_end : {a b : List ℕ} {j : ℕ} → UnderTo a b j → 6 ≤ j → Under a b
-under_end u h = record { at = λ k i. u.at k (omega arith) }
-
-pub not_under : {a b : List ℕ} {j : ℕ} → j < 6 → get_or b j 0 < get_or a j 0 → ¬ (Under a b)
-not_under {j = j} h l u = let x = u.at j h in let e : ⊥ = omega arith in absurd e
-
--- ---- covered: none of the first k lies below w
-pub record NoneTo (set : List (List ℕ)) (w : List ℕ) (k : ℕ) : Type 0 where
-  pub at : (i : ℕ) → i < k → ¬ (Under (row set i) w)
-
-pub none_start : (set : List (List ℕ)) (w : List ℕ) → NoneTo set w 0
-none_start set w = record { at = λ i h. let e : ⊥ = omega arith in absurd e }
-
-pub none_more : {set : List (List ℕ)} {w : List ℕ} {k : ℕ} → NoneTo set w k → ¬ (Under (row set k) w) → NoneTo set w (k + 1)
-none_more {k = k} u h = record { at = λ i l. elim (ℕ_discrete i k) [ yes e ↦ rw e h | no e ↦ u.at i (omega arith) ] }
-
-pub none_end : {set : List (List ℕ)} {w : List ℕ} {k many : ℕ} → NoneTo set w k → many ≤ k → ¬ (Covered set many w)
-none_end u h c = u.at c.place (omega (arith, c.there)) c.under
-
+-- ---- covered
 pub covered_trans : {set : List (List ℕ)} {many : ℕ} {a b : List ℕ} → Covered set many a → Under a b → Covered set many b
 covered_trans c v = record { place = c.place; there = c.there; under = under_trans c.under v }
 
@@ -342,6 +317,11 @@ module _ {rays : List (List ℕ)} {from mask : ℕ} {wants : List ℕ} {stars : 
     ];
   }
 
+-- the last place reached is the end
+pub expanded_end : {rays s stars : List (List ℕ)} {from k to mask n held : ℕ} {wants : List ℕ} → k ≡ to →
+    Expanded rays from k mask wants stars n s held → Expanded rays from to mask wants stars n s held
+expanded_end e t = rw (← e) t
+
 -- where there is no room for n more, some are held, so the place is not the first any more
 pub further : {from k held n : ℕ} → from ≤ k → (k ≡ from → held ≡ 0) → n ≤ size_limit → places < held + n → from < k
 further {from} {k} h f hn r = elim (ℕ_discrete k from) [ yes e ↦ let z = f e in omega arith | no e ↦ omega arith ]
@@ -363,34 +343,16 @@ module _ {x : List ℕ} {mask : ℕ} {wants : List ℕ} where
   pub meets_not_all : {n j : ℕ} → MeetsNot x mask wants j → n ≤ j → ¬ (Meets n x mask wants)
   meets_not_all t h (k, hk, q, l) = t.at k (omega arith) q l
 
--- ---- the first k rays meet the panel
-pub record MeetTo (n : ℕ) (rays : List (List ℕ)) (mask : ℕ) (wants : List ℕ) (k : ℕ) : Type 0 where
-  pub at : (i : ℕ) → i < k → Meets n (row rays i) mask wants
+-- ---- the answer of `all` over the first rays of a set
+pub all_says : (P : List ℕ → Type 0) (s : List (List ℕ)) (many : ℕ) (r : Bool) → many ≤ length s →
+    MatchBool r (AllWithin P (take many s) 0 (length (take many s)))
+    ((k : ℕ) × (k < length (take many s)) × HoldsAt (λ w. ¬ (P w)) (take many s) k) → Says ((k : ℕ) → k < many → P (row s k)) r
+all_says P s many true h f = λ k l. rw (← get_or-take many s k [] l) (f k [] (omega arith) (omega (arith, length-take-le many s h)))
+all_says P s many false h (k, l, f) = let m : k < many = omega (arith, length-take-le many s h) in
+    λ u. f [] (rw (get_or-take many s k [] m) (u k m))
 
-module _ {n : ℕ} {rays : List (List ℕ)} {mask : ℕ} {wants : List ℕ} where
-  pub meet_none : MeetTo n rays mask wants 0
-  meet_none = record { at = λ i h. let e : ⊥ = omega arith in absurd e }
-
-  pub meet_more : {k : ℕ} → MeetTo n rays mask wants k → Meets n (row rays k) mask wants → MeetTo n rays mask wants (k + 1)
-  meet_more {k} t m = record { at = λ i h. elim (ℕ_discrete i k) [ yes e ↦ rw e m | no e ↦ t.at i (omega arith) ] }
-
--- ---- the first k rays of another set in their places
+-- ---- the first rays of another set in their places
 module _ {next : List (List ℕ)} where
-  pub kept_none : {s : List (List ℕ)} → length s ≡ places → Kept next 0 s
-  kept_none z = record { size = z; rows = λ k h. let e : ⊥ = omega arith in absurd e }
-
-  pub kept_more : {k : ℕ} {s : List (List ℕ)} → k < places → Kept next k s → Kept next (k + 1) (set s k (row next k))
-  kept_more {k} {s} h t = record {
-    size = simp length-set t.size;
-    rows = λ i l. elim (ℕ_discrete i k) [
-      | yes e ↦ rw e (row_same s k (row next k) (omega (arith, t.size)))
-      | no e ↦ row_other s k i (row next k) e ∙ t.rows i (omega arith)
-    ];
-  }
-
-  pub kept_end : {k many : ℕ} {s : List (List ℕ)} → k ≡ many → Kept next k s → Kept next many s
-  kept_end e t = rw (← e) t
-
   kept_covered : {many : ℕ} {after : List (List ℕ)} {w : List ℕ} → Kept next many after → Covered next many w → Covered after many w
   kept_covered t c = record { place = c.place; there = c.there; under = rw (t.rows c.place c.there) c.under }
 

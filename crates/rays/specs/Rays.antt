@@ -111,6 +111,6 @@ pub record Kept (next : List (List ℕ)) (many : ℕ) (after : List (List ℕ)) 
   pub rows : (k : ℕ) → k < many → row after k ≡ row next k
 
 -- a panel was added, or the set is as it was
-abbrev pub Added : List (List ℕ) → ℕ → ℕ → List ℕ → List (List ℕ) → ℕ → List (List ℕ) → Bool → ℕ → Type 0
-Added rays many mask wants stars n after true r = Expanded rays 0 many mask wants stars n after r
-Added rays many mask wants stars n after false r = after ≡ rays
+abbrev pub Added : List (List ℕ) → ℕ → ℕ → List ℕ → List (List ℕ) → ℕ → List (List ℕ) → ℕ → Bool → Type 0
+Added rays many mask wants stars n after r true = Expanded rays 0 many mask wants stars n after r
+Added rays many mask wants stars n after r false = (after ≡ rays) × (r ≡ many)

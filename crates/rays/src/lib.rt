@@ -10,104 +10,80 @@ ghost use Rattle.tables.specs.Lines.{Carries};
 ghost use Rattle.buffer.specs.Buffer.{row};
 ghost use Rattle.rays.specs.Rays.{places, Under, Covered, Thinned, Joined, Meets, joined_of, RaisedAll, Branched, Expanded, Kept, Added, Rows};
 
+use buffer::Store;
 use trigger_sets::has;
 use words::LineWords;
 
 // How many rays a set has room for: more than come of any sheet known.
 pub const PLACES: usize = 48;
 
-// How far the rays of a set were carried on, and how many came of them.
-#[derive(Clone, Copy)]
-pub struct Part {
-    pub to: usize,
-    pub found: usize,
-}
+pub type Rays = Store<PLACES>;
 
-// Whether a panel was added, and how many rays the set then has.
+// A panel with a floor, for rays of count triggers: its kept triggers, what it wants of each, and M*.
 #[derive(Clone, Copy)]
-pub struct Addition {
-    pub done: bool,
-    pub many: usize,
+pub struct Panel<'a> {
+    pub count: usize,
+    pub mask: u8,
+    pub wants: &'a [u64; 6],
+    pub star: &'a [[u64; 6]; 6],
 }
 
 // a lies below b in every component.
-fn under(a: LineWords, b: LineWords) -> bool
-    ensures { Says (Under a.at b.at) result }
+fn under(a: &[u64; 6], b: &[u64; 6]) -> bool
+    ensures { Says (Under a.now b.now) result }
 {
-    let mut j: usize = 0;
-    while j < 6 {
-        if b.at[j] < a.at[j] {
-            return false;
-        }
-        j += 1;
-    }
-    true
+    a.iter().zip(b.iter()).all(|(x, y)| *x <= *y)
 }
 
 // Some ray of the set lies below w.
-fn covered(set: &[[u64; 6]; PLACES], many: usize, w: LineWords) -> bool
-    requires { many ≤ places }
-    ensures { Says (Covered set.now many w.at) result }
+fn covered(set: &Rays, w: LineWords) -> bool
+    requires { set.now.len ≤ places }
+    ensures { Says (Covered set.now.rows set.now.len w.at) result }
 {
-    let mut k: usize = 0;
-    while k < many {
-        let at = set[k];
-        let ray = LineWords { count: w.count, at };
-        if under(ray, w) {
-            return true;
-        }
-        k += 1;
-    }
-    false
+    let words = w.at;
+    set.rows[..set.len].iter().any(|ray| under(ray, &words))
 }
 
 // Takes the rays that lie above w out of the set.
-fn thin(set: &mut [[u64; 6]; PLACES], many: usize, w: LineWords) -> usize
-    requires { (many ≤ places) × (length set.old ≡ places) }
-    ensures { Thinned set.old many w.at set.new result }
+fn thin(set: &mut Rays, w: LineWords)
+    requires { set.old.len ≤ places }
+    ensures { Thinned set.old.rows set.old.len w.at set.new.rows set.new.len }
 {
+    let words = w.at;
     let mut left: usize = 0;
-    let mut k: usize = 0;
-    while k < many {
-        let at = set[k];
-        let ray = LineWords { count: w.count, at };
-        if !under(w, ray) {
-            set[left] = at;
+    for k in 0..set.len {
+        let ray = set.rows[k];
+        if !under(&words, &ray) {
+            set.rows[left] = ray;
             left += 1;
         }
-        k += 1;
     }
-    left
+    set.len = left;
 }
 
 // Puts w into the set, unless one of its rays lies below w.
-fn join(set: &mut [[u64; 6]; PLACES], many: usize, w: LineWords) -> usize
-    requires { (many < places) × (length set.old ≡ places) }
-    ensures { Joined set.old many w.at set.new result }
+fn join(set: &mut Rays, w: LineWords)
+    requires { set.old.len < places }
+    ensures { Joined set.old.rows set.old.len w.at set.new.rows set.new.len }
 {
-    if covered(set, many, w) {
-        return many;
+    if covered(set, w) {
+        return;
     }
-    let left = thin(set, many, w);
-    let at = w.at;
-    set[left] = at;
-    left + 1
+    thin(set, w);
+    let words = w.at;
+    set.rows[set.len] = words;
+    set.len += 1;
 }
 
 // Some kept trigger has what the panel wants of it.
-fn meets(x: LineWords, mask: u8, wants: [u64; 6]) -> bool
+fn meets(x: LineWords, panel: Panel) -> bool
     requires { x.count ≤ size_limit }
-    ensures { Says (Meets x.count x.at mask wants) result }
+    ensures { Says (Meets x.count x.at panel.entry.mask panel.entry.wants.now) result }
 {
-    let n = x.count;
-    let mut j: usize = 0;
-    while j < n {
-        let want = wants[j];
-        let there = x.at[j];
-        if has(mask, j) && want <= there {
+    for j in 0..x.count {
+        if has(panel.mask, j) && panel.wants[j] <= x.at[j] {
             return true;
         }
-        j += 1;
     }
     false
 }
@@ -120,152 +96,101 @@ fn raised(x: LineWords, star: &[[u64; 6]; 6], s: usize, want: u64) -> LineWords
 {
     let n = x.count;
     let mut r = [0u64; 6];
-    let mut j: usize = 0;
-    while j < n && j < 6 {
+    for j in 0..n {
         r[j] = words::larger(x.at[j], words::plus(want, star[j][s]));
-        j += 1;
     }
     LineWords { count: n, at: r }
 }
 
 // Each kept trigger gives a ray: x, raised.
-fn raise(
-    set: &mut [[u64; 6]; PLACES],
-    many: usize,
-    x: LineWords,
-    mask: u8,
-    wants: [u64; 6],
-    star: &[[u64; 6]; 6],
-) -> usize
-    requires { (x.count ≤ size_limit) × (many + x.count ≤ places) × (length set.old ≡ places) × CloselyV x.count starred_size x.at
-        × Closely x.count x.count star_size star.now × CloselyV x.count need_down wants }
-    ensures { RaisedAll x.count x.at mask wants star.now x.count set.old many set.new result }
+fn raise(set: &mut Rays, x: LineWords, panel: Panel)
+    requires { (x.count ≤ size_limit) × (set.old.len + x.count ≤ places) × (length set.old.rows ≡ places)
+        × CloselyV x.count starred_size x.at × Closely x.count x.count star_size panel.star.now × CloselyV x.count need_down panel.wants.now }
+    ensures { RaisedAll x.count x.at panel.entry.mask panel.entry.wants.now panel.entry.star.now x.count
+        set.old.rows set.old.len set.new.rows set.new.len }
 {
-    let n = x.count;
-    let mut held = many;
-    let mut s: usize = 0;
-    while s < n {
-        if has(mask, s) {
-            held = join(set, held, raised(x, star, s, wants[s]));
+    for s in 0..x.count {
+        if has(panel.mask, s) {
+            join(set, raised(x, panel.star, s, panel.wants[s]));
         }
-        s += 1;
     }
-    held
 }
 
-// What comes of x with one panel more, its kept triggers and what it wants of each.
-fn branch(
-    set: &mut [[u64; 6]; PLACES],
-    many: usize,
-    x: LineWords,
-    mask: u8,
-    wants: [u64; 6],
-    star: &[[u64; 6]; 6],
-) -> usize
-    requires { (0 < x.count) × (x.count ≤ size_limit) × (many + x.count ≤ places) × (length set.old ≡ places)
-        × CloselyV x.count starred_size x.at × Closely x.count x.count star_size star.now × CloselyV x.count need_down wants }
-    ensures { Branched x.count x.at mask wants star.now set.old many set.new result }
+// What comes of x with one panel more.
+fn branch(set: &mut Rays, x: LineWords, panel: Panel)
+    requires { (0 < x.count) × (x.count ≤ size_limit) × (set.old.len + x.count ≤ places) × (length set.old.rows ≡ places)
+        × CloselyV x.count starred_size x.at × Closely x.count x.count star_size panel.star.now × CloselyV x.count need_down panel.wants.now }
+    ensures { Branched x.count x.at panel.entry.mask panel.entry.wants.now panel.entry.star.now
+        set.old.rows set.old.len set.new.rows set.new.len }
 {
-    if !meets(x, mask, wants) {
-        return raise(set, many, x, mask, wants, star);
+    if !meets(x, panel) {
+        raise(set, x, panel);
+        return;
     }
-    join(set, many, x)
+    join(set, x);
 }
 
-// What comes of the rays of a set from a place on, of as many as there is room for.
-pub fn expand(
-    next: &mut [[u64; 6]; PLACES],
-    set: &[[u64; 6]; PLACES],
-    from: usize,
-    many: usize,
-    mask: u8,
-    wants: [u64; 6],
-    star: &[[u64; 6]; 6],
-    n: usize,
-) -> Part
-    requires { (0 < n) × (n ≤ size_limit) × (from < many) × (many ≤ places) × (length next.old ≡ places)
-        × Rows n many set.now × Closely n n star_size star.now × CloselyV n need_down wants }
-    ensures { (from < result.to) × (result.to ≤ many)
-        × Expanded set.now from result.to mask wants star.now n next.new result.found }
+// What comes of the rays of a set from a place on, of as many as there is room for, and the place reached.
+pub fn expand(next: &mut Rays, set: &Rays, from: usize, panel: Panel) -> usize
+    requires { (0 < panel.count) × (panel.count ≤ size_limit) × (from < set.now.len) × (set.now.len ≤ places)
+        × Rows panel.count set.now.len set.now.rows × Closely panel.count panel.count star_size panel.star.now
+        × CloselyV panel.count need_down panel.wants.now }
+    ensures { (from < result) × (result ≤ set.now.len)
+        × Expanded set.now.rows from result panel.entry.mask panel.entry.wants.now panel.entry.star.now panel.entry.count
+        next.new.rows next.new.len }
 {
-    let mut held: usize = 0;
-    let mut k = from;
-    while k < many && held + n <= PLACES {
-        let words = set[k];
+    next.len = 0;
+    for k in from..set.len {
+        if next.len + panel.count > PLACES {
+            return k;
+        }
+        let words = set.rows[k];
         let x = LineWords {
-            count: n,
+            count: panel.count,
             at: words,
         };
-        held = branch(next, held, x, mask, wants, star);
-        k += 1;
+        branch(next, x, panel);
     }
-    Part { to: k, found: held }
+    set.len
 }
 
 // Whether every ray of a set meets a panel.
-pub fn all_meet(set: &[[u64; 6]; PLACES], many: usize, mask: u8, wants: [u64; 6], n: usize) -> bool
-    requires { (n ≤ size_limit) × (many ≤ places) }
-    ensures { Says ((k : ℕ) → k < many → Meets n (row set.now k) mask wants) result }
+pub fn all_meet(set: &Rays, panel: Panel) -> bool
+    requires { (panel.count ≤ size_limit) × (set.now.len ≤ places) }
+    ensures { Says ((k : ℕ) → k < set.now.len →
+        Meets panel.entry.count (row set.now.rows k) panel.entry.mask panel.entry.wants.now) result }
 {
-    let mut k: usize = 0;
-    while k < many {
-        let words = set[k];
-        let x = LineWords {
-            count: n,
-            at: words,
-        };
-        if !meets(x, mask, wants) {
-            return false;
-        }
-        k += 1;
+    let count = panel.count;
+    set.rows[..set.len]
+        .iter()
+        .all(|ray| meets(LineWords { count, at: *ray }, panel))
+}
+
+// The rays of one set in the place of those of another.
+fn keep(set: &mut Rays, next: &Rays)
+    requires { next.now.len ≤ places }
+    ensures { Kept next.now.rows next.now.len set.new.rows × (set.new.len ≡ next.now.len) }
+{
+    set.len = next.len;
+    set.rows[..next.len].copy_from_slice(&next.rows[..next.len]);
+}
+
+// One panel more for a whole set, if what comes of all its rays has room, and whether it has. Rays that all meet the panel are carried on as they
+// are.
+pub fn add_panel(set: &mut Rays, next: &mut Rays, panel: Panel) -> bool
+    requires { (0 < panel.count) × (panel.count ≤ size_limit) × (set.old.len ≤ places) × (length set.old.rows ≡ places)
+        × (length next.old.rows ≡ places) × Rows panel.count set.old.len set.old.rows × Closely panel.count panel.count star_size panel.star.now
+        × CloselyV panel.count need_down panel.wants.now }
+    ensures { (length next.new.rows ≡ places) × Added set.old.rows set.old.len panel.entry.mask panel.entry.wants.now panel.entry.star.now
+        panel.entry.count set.new.rows set.new.len result }
+{
+    if all_meet(set, panel) {
+        return true;
     }
+    let to = expand(next, set, 0, panel);
+    if to < set.len {
+        return false;
+    }
+    keep(set, next);
     true
-}
-
-// The first rays of one set in the place of those of another.
-fn keep(set: &mut [[u64; 6]; PLACES], next: &[[u64; 6]; PLACES], many: usize)
-    requires { (many ≤ places) × (length set.old ≡ places) }
-    ensures { Kept next.now many set.new }
-{
-    let mut k: usize = 0;
-    while k < many {
-        let at = next[k];
-        set[k] = at;
-        k += 1;
-    }
-}
-
-// One panel more for a whole set, if what comes of all its rays has room. Rays that all meet the panel are carried on as they are.
-pub fn add_panel(
-    set: &mut [[u64; 6]; PLACES],
-    next: &mut [[u64; 6]; PLACES],
-    many: usize,
-    mask: u8,
-    wants: [u64; 6],
-    star: &[[u64; 6]; 6],
-    n: usize,
-) -> Addition
-    requires { (0 < n) × (n ≤ size_limit) × (many ≤ places) × (length set.old ≡ places) × (length next.old ≡ places)
-        × Rows n many set.old × Closely n n star_size star.now × CloselyV n need_down wants }
-    ensures { (length next.new ≡ places) ×
-        Added set.old many mask wants star.now n set.new result.done result.many }
-{
-    if all_meet(set, many, mask, wants, n) {
-        return Addition {
-            done: true,
-            many: many,
-        };
-    }
-    let part = expand(next, set, 0, many, mask, wants, star, n);
-    if part.to < many {
-        return Addition {
-            done: false,
-            many: many,
-        };
-    }
-    keep(set, next, part.found);
-    Addition {
-        done: true,
-        many: part.found,
-    }
 }

@@ -24,7 +24,7 @@ use Rattle.sheet.proofs.Demands.{order_kept}
 use Rattle.sheet.proofs.Latest.{latest_formula, latest_one, latest_same, latest_exists}
 use Rattle.sheet.proofs.OrderedLaws.{ordered_got}
 use Rattle.timing.proofs.NumberLaws.{component_of}
-use Rattle.planning.specs.Planning.{PlanOutcome, planned, full, plan_of, planning, space_after, plan_answer}
+use Rattle.planning.specs.Planning.{PlanOutcome, planned, full, plan_of, planning, space_after, plan_answer, extent_of}
 use Rattle.reaching.specs.Reaching.{ReachOutcome, reached, reaching, reached_space}
 use Rattle.reaching.specs.Reaching as outcome
 use Rattle.testing.specs.Testing.{tests, testing}
@@ -67,8 +67,8 @@ module _ (s : List ℕ) (count : ℕ) (G : Timing) (space : List ℤ) (t : Sheet
         latest = latest;
         only = λ X h j q. latest_one h latest j q;
         planned = rw p tt;
-        width = ap (λ o. (plan_answer o).width) (sym p);
-        count = ap (λ o. (plan_answer o).count) (sym p);
+        width = ap (λ o. (extent_of (plan_answer o)).width) (sym p);
+        count = ap (λ o. (extent_of (plan_answer o)).count) (sym p);
         list = ap (λ o. space_after o space) (sym p);
       }
 

@@ -32,7 +32,7 @@ use Rattle.timing.specs.Times.{component, TimingWords, timing_of}
 use Rattle.timing.specs.declared.Timing as words
 use Rattle.timing.proofs.NumberLaws.{component_of, timing_same}
 use Rattle.lines.specs.Listing.{Answers}
-use Rattle.lines.specs.declared.Listed.TheVariants.{Lines}
+use Rattle.std.specs.Prelude.{Ok}
 use Rattle.lines.proofs.ListingLaws.{listed_room}
 use Rattle.reaching.specs.Inner.{Weighable}
 
@@ -52,12 +52,12 @@ module _ (s : List ℕ) (count : ℕ) (G : Timing) (t : Sheet) (x : List ℕ) (e
   within = at_used t (lowered t G)
 
   module _ (m : ℕ) (same : m ≡ cue_size t) (room : ℕ) (before : List ℤ) {between : List ℤ} {k : ℕ}
-      (a : Answers m (lines m (cue_of t)) room before between (Lines k)) where
+      (a : Answers m (lines m (cue_of t)) room before between (Ok k)) where
     -- the list stands at the front
     stands : Stands (cue_size t) k between (lines (cue_size t) (cue_of t))
     stands =
         let L = lines (cue_size t) (cue_of t) in
-        let (c, fits, w) = subst (λ n. Answers n (lines n (cue_of t)) room before between (Lines k)) same a in
+        let (c, fits, w) = subst (λ n. Answers n (lines n (cue_of t)) room before between (Ok k)) same a in
         record {
           many = sym c;
           words = rw (w, c) (take_at (list_words (cue_size t) L) _ _ (list_words_length (cue_size t) L));

@@ -14,12 +14,6 @@ use Rattle.cue.specs.Written.{line_size}
 use Rattle.sheet.specs.Sizes.{line_down}
 use Rattle.sheet.specs.Times.{far_limit}
 use Rattle.tables.specs.Held.{HoldsV, CloselyV}
-use Rattle.timing.specs.declared.Timing.{Timing}
-use Rattle.reaching.specs.declared.Reached.{Reached}
-
--- an answer with a timing
-abbrev pub answered : (wide count : ℕ) → Timing → Reached
-answered w k T = record { refusal = 0; width = w; count = k; timing = T }
 
 -- the largest weight with which a line stays within x: minus the largest c(j) − x(j)
 unfoldable pub weight_in : (n : ℕ) → Vec → Line n → E

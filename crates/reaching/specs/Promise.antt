@@ -5,10 +5,10 @@ use Rattle.sheet.specs.Meaning.{Timing, Keeps, Latest}
 use Rattle.timing.specs.Times.{component}
 use Rattle.testing.specs.Testing.{testing}
 use Rattle.testing.specs.Testing as tested
-use Rattle.planning.specs.Planning.{planning, space_after, plan_answer}
+use Rattle.planning.specs.Planning.{planning, space_after, plan_answer, extent_of}
 use Rattle.planning.specs.Planning as planned
 use Rattle.planning.specs.Demands.{Planned}
-use Rattle.reaching.specs.Reaching.{ReachOutcome, reached, full, refused, reaching, reached_space, reach_answer}
+use Rattle.reaching.specs.Reaching.{ReachOutcome, reached, full, refused, reaching, reached_space, reach_answer, reached_in, reach_extent}
 
 -- a timing was reached; the one that is returned
 abbrev pub Succeeds : ReachOutcome → Type 0
@@ -17,15 +17,15 @@ Succeeds (full w k) = ⊥
 Succeeds (refused k) = ⊥
 
 abbrev pub timing_reached : ReachOutcome → Timing
-timing_reached o = component (reach_answer o).timing.at
+timing_reached o = component (reached_in (reach_answer o)).timing.at
 
 -- the timing returned is the latest, any that is the latest is the one returned, and the list is planning's
 pub record Reaches (s : List ℕ) (t : Sheet) (G : Timing) (space : List ℤ) (o : ReachOutcome) : Type 0 where
   pub latest : Latest t G (timing_reached o)
   pub only : (X : Timing) → Latest t G X → (j : ℕ) → j < t.triggers → X j ≡ timing_reached o j
   pub planned : Planned (planning s space)
-  pub width : (reach_answer o).width ≡ (plan_answer (planning s space)).width
-  pub count : (reach_answer o).count ≡ (plan_answer (planning s space)).count
+  pub width : (reach_extent (reach_answer o)).width ≡ (extent_of (plan_answer (planning s space))).width
+  pub count : (reach_extent (reach_answer o)).count ≡ (extent_of (plan_answer (planning s space))).count
   pub list : reached_space o space ≡ space_after (planning s space) space
 
 -- "One always exists": of a sheet that is read and whose order can be kept, whatever timing is given

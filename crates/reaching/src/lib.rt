@@ -12,15 +12,15 @@ ghost use Rattle.sheet.proofs.Seam.{at_used};
 ghost use Rattle.timing.specs.Times.{component, timing_of, TimingWords};
 ghost use Rattle.moments.specs.Moments.{MomentsOf};
 ghost use Rattle.spares.specs.Using.{PlacesOf};
-ghost use Rattle.reaching.specs.Reaching as outcome;
 ghost use Rattle.reaching.specs.Reaching.{reaching, reached_space, reach_answer};
-ghost use Rattle.reaching.specs.Inner.{answered};
 
 use crate::weighed::latest;
-use admitting::times_in_use;
+use admitting::{admit, times_in_use};
+use candidates::Sources;
 use laying::{finish, width};
-use lines::Listed;
-use moments::{Moments, lowered};
+use moments::lowered;
+use planning::{Extent, Unplanned};
+use preparing::Tables;
 use spares::Places;
 use timing::Timing;
 use timing::times::words_of;
@@ -29,53 +29,53 @@ use words::LineWords;
 
 mod weighed;
 
-// A refusal, 1 to 8, 10 or 11, and nothing else; 9, how many words a line takes and the count needed; or 0, these words, the number of lines
-// and the timing.
+// How many words a line takes, the number of lines, and the timing.
 #[derive(Clone, Copy)]
 pub struct Reached {
-    pub refusal: u8,
     pub width: usize,
     pub count: usize,
     pub timing: Timing,
 }
 
-// The latest tightest timing none of whose components exceeds the wish's, and the sheet's lines at the front of the lent space. Only the
-// first n of the wish's six components are looked at.
-pub fn latest_timing(bytes: &[u8], wish: Timing, space: &mut [i32]) -> Reached
+// The latest tightest timing none of whose components exceeds the wish's, and the sheet's lines at the front of the lent space; or testing's
+// refusal, or 9. Only the first n of the wish's six components are looked at.
+pub fn latest_timing(bytes: &[u8], wish: Timing, space: &mut [i32]) -> Result<Reached, Unplanned>
     ensures answer { result ≡ reach_answer (reaching bytes.now wish.count (component wish.at) space.old) }
     ensures written { space.new ≡
         reached_space (reaching bytes.now wish.count (component wish.at) space.old) space.old }
 {
-    let blank = [0u64; 6];
-    let mut order = [blank; 6];
-    let mut lag = [blank; 6];
-    let mut star = [blank; 6];
-    let mut gains = [blank; 6];
-    let mut needs = [blank; 6];
-    let prepared = admitting::admit(
-        bytes, wish, &mut order, &mut lag, &mut star, &mut gains, &mut needs,
-    );
-    if prepared.refusal != 0 {
-        return not_reached(prepared.refusal, 0, 0);
-    }
+    let mut tables = Tables::blank();
+    let prepared = admit(bytes, wish, &mut tables)?;
     let marks = prepared.marked.marks;
     let places = prepared.cue.places;
-    let moments = prepared.moments;
-    let within = early_enough(wish, places, moments);
-    let words = width(moments.given);
+    let within = early_enough(wish, places, prepared.moments);
+    let words = width(prepared.moments.is_some());
     let room = space.len() / words;
-    match lines::list(space, room, marks, &star, &lag, &needs) {
-        Listed::NoRoom(k) => not_reached(9, words, k),
-        Listed::Lines(k) => {
+    let sources = Sources {
+        marks: &marks,
+        star: &tables.star,
+        lag: &tables.lag,
+        needs: &tables.needs,
+    };
+    match lines::list(space, room, sources) {
+        Err(needed) => Err(Unplanned::NoRoom(Extent {
+            count: needed.count,
+            width: words,
+        })),
+        Ok(k) => {
             let times = latest(space, k, within);
-            finish(space, k, places, moments);
-            found(words, k, handed_back(wish, times, places))
+            finish(space, k, places, prepared.moments);
+            Ok(Reached {
+                width: words,
+                count: k,
+                timing: handed_back(wish, times, places),
+            })
         }
     }
 }
 
 // The wish's times at the triggers in use, lowered until none lands too late.
-fn early_enough(wish: Timing, p: Places, moments: Moments) -> LineWords
+fn early_enough(wish: Timing, p: Places, moments: Option<[u64; 6]>) -> LineWords
     requires { (t : Sheet) × PlacesOf (used t) t.triggers p × MomentsOf t moments × Good t ×
         (some_beyond t.triggers (component wish.at) ≡ false) }
     ensures { (t : Sheet) → PlacesOf (used t) t.triggers p → MomentsOf t moments → Good t →
@@ -83,8 +83,10 @@ fn early_enough(wish: Timing, p: Places, moments: Moments) -> LineWords
         TimingWords (cue_size t) (at_used t (lowered t (component wish.at))) result }
 {
     let x = words_of(wish, p.triggers);
-    let overruns = moments.overruns;
-    times_in_use(lowered(x, overruns), p)
+    match moments {
+        Some(overruns) => times_in_use(lowered(x, overruns), p),
+        None => times_in_use(x, p),
+    }
 }
 
 // The times of the triggers in use, each at its own trigger, and the wish's at the spare ones: "No. 1 hands that number back."
@@ -97,47 +99,16 @@ fn handed_back(wish: Timing, times: Timing, p: Places) -> Timing
     let made = times.at;
     let mut at = [0i64; 6];
     let mut k: usize = 0;
-    let mut j: usize = 0;
-    while j < p.triggers {
+    for j in 0..p.triggers {
         if has(p.used, j) {
             at[j] = made[k];
             k += 1;
         } else {
             at[j] = wished[j];
         }
-        j += 1;
     }
     Timing {
         count: p.triggers,
-        at: at,
-    }
-}
-
-// The answer with a timing.
-fn found(words: usize, count: usize, timing: Timing) -> Reached
-    ensures { result ≡ answered words count timing }
-{
-    Reached {
-        refusal: 0,
-        width: words,
-        count: count,
-        timing: timing,
-    }
-}
-
-// The answer of a refusal: its number, and with 9 how many words a line takes and the count needed.
-fn not_reached(refusal: u8, words: usize, count: usize) -> Reached
-    ensures full { refusal ≡ 9 → result ≡ reach_answer (outcome.full words count) }
-    ensures refused { words ≡ 0 → count ≡ 0 → result ≡ reach_answer (outcome.refused refusal) }
-{
-    let none = Timing {
-        count: 0,
-        at: [0i64; 6],
-    };
-    Reached {
-        refusal: refusal,
-        width: words,
-        count: count,
-        timing: none,
+        at,
     }
 }

@@ -40,12 +40,10 @@ fn combined(space: &[i32], count: usize, wish: LineWords) -> LineWords
     let n = wish.count;
     let within = wish.at;
     let mut most = [0u64; 6];
-    let mut k: usize = 0;
-    while k < count {
+    for k in 0..count {
         let line = line_at(space, LINE_SIZE * k, n);
         let at = line.at;
         raise(&mut most, weight(within, at, n), at, n);
-        k += 1;
     }
     LineWords { count: n, at: most }
 }

@@ -1,25 +1,26 @@
 -- 14, from the words of the tables: a trigger's lags, after rules and land rules are there exactly where their words are.
-use mathlib.Core.Path.{◌≡◌, refl, ap, sym, ◌∙◌}
+use mathlib.Core.Path.{◌≡◌, refl, ap₂, sym, ◌∙◌}
 use mathlib.Core.List.{List, []}
 use mathlib.Core.Bool.{Bool, true, false, not, ◌&&◌}
-use mathlib.Core.Option.{Option, none, some}
+use mathlib.Core.Option as maybe
 use Prim.Native.Nat.{ℕ, ◌≤◌, ◌<◌}
 use native.Mathlib.Omega.{arith}
 use lib.ListN.{get_or, get_or-eq_default}
-use Rattle.maxplus.specs.Entry.{E, absent, present?}
+use Rattle.maxplus.specs.Entry.{E, absent}
 use Rattle.maxplus.specs.Tables.{Mat}
 use Rattle.words.specs.Words.{entry}
 use Rattle.sheet.specs.Good.{RowsOf}
 use Rattle.sheet.specs.Sheet as sheet
-use Rattle.sheet.specs.Sheet.{got, table, optional, land_kind, tables, part, lag_lines, after_lines, given_table, none_present, lagless, spare, sheet_of}
+use Rattle.sheet.specs.Sheet.{got, table, optional, land_kind, tables, part, lag_lines, after_lines, given_table, none_present, lagless, spare, sheet_of, measure_of}
 use Rattle.sheet.specs.Sheet.{some_lag_missing}
 use Rattle.sheet.proofs.LineLaws.{true_not_false, place_same}
-use Rattle.sheet.proofs.SectionLaws.{row_long, sections_of, sections_many, optional_of}
+use Rattle.sheet.proofs.SectionLaws.{row_long, sections_of, optional_of}
 use Rattle.sheet.proofs.Idle.{none_yes, none_no, none_same, none_past}
-use Rattle.rows.specs.Grid.{strips}
-use Rattle.rows.proofs.PlaceLaws.{strip_at, strips_at}
-use Rattle.reading.specs.Inner.{EmptyWords, Kinds, meant, lag_missing_by, lag_missing_at, some_lag_missing_at, UnmeasuredIs}
-use Rattle.reading.proofs.EmptyLaws.{word_back, entry_there}
+use Rattle.rows.specs.Grid.{strips, strips_given}
+use Rattle.reading.specs.Reading.{measure_words, sheet_words}
+use Rattle.reading.specs.declared.SheetWords.{SheetWords}
+use Rattle.reading.specs.Inner.{EmptyWords, Kinds, meant, table_words, lag_missing_by, lag_missing_at, spread?, unmeasured_at}
+use Rattle.reading.proofs.EmptyLaws.{entry_there}
 use Rattle.cue.specs.Sizes.{size_limit}
 
 -- six words without an entry, and with one
@@ -83,55 +84,39 @@ module _ (ws : List (List ℕ)) (lines n : ℕ) (t : List (List E)) (six : lines
       none_past size_limit n (table t i) few (λ k q. get_or-eq_default (get_or t i []) absent (let l = row_long R i h in omega arith))
 
 -- the land lines, which may be missing
-land_none : (m n : ℕ) (s : List ℕ) (land : Option Mat) {x : List ℕ} (lands : List (List ℕ)) → m ≤ size_limit → n ≤ size_limit →
-    optional (land_kind m n) s ≡ got land x → lands ≡ strips (given_table land) → (j : ℕ) → j < n →
-    none_present size_limit (meant lands j) ≡ none_present m (λ i. given_table land j i)
-land_none m n s (some c) lands few-m few-n e w j h =
+land_none : (m n : ℕ) (s : List ℕ) (land : maybe.Option Mat) {x : List ℕ} → m ≤ size_limit → n ≤ size_limit →
+    optional (land_kind m n) s ≡ got land x → (j : ℕ) → j < n →
+    none_present size_limit (meant (table_words (strips_given land)) j) ≡ none_present m (λ i. given_table land j i)
+unfolding entry
+land_none m n s (maybe.some c) few-m few-n e j h =
     let (t, R, same) = optional_of (land_kind m n) s e in
-    rw (← same) (row_none lands n m t few-n few-m R (rw same w) j h)
-land_none m n s none lands few-m few-n e w j h = none_yes size_limit (meant lands j) nothing ∙ sym (none_yes m (λ i. absent) (λ k q. refl))
-  where
-    nothing : (k : ℕ) → k < size_limit → present? (meant lands j k) ≡ false
-    nothing k q = ap (λ l. present? (entry (get_or (get_or l j []) k 0))) w ∙
-        ap (λ r. present? (entry (get_or r k 0))) (strips_at (given_table none) j (omega arith)) ∙
-        ap (λ v. present? (entry v)) (strip_at (given_table none j) k q) ∙ ap present? (word_back absent refl)
+    rw (← same) (row_none (strips (table t)) n m t few-n few-m R refl j h)
+land_none m n s maybe.none few-m few-n e j h = none_yes size_limit (meant [] j) (λ k q. refl) ∙ sym (none_yes m (λ i. absent) (λ k q. refl))
 
 -- ---- the triggers that make 14
-module _ {ps : List (List (List ℕ))} {landed timed two : Bool} {lands lasts : List (List ℕ)} {m n : ℕ} (few-m : m ≤ size_limit)
-    (few-n : n ≤ size_limit) {ts : List (List (List E))} {land last : Option Mat} (K : Kinds ps landed lands timed lasts two m n ts land last) where
-  abbrev lags : List (List ℕ)
-  lags = get_or ps lag_lines []
-
-  abbrev afters : List (List ℕ)
-  afters = get_or ps after_lines []
+module _ {two : Bool} {m n : ℕ} (few-m : m ≤ size_limit) (few-n : n ≤ size_limit) {ts : List (List (List E))} {land last : maybe.Option Mat}
+    (K : Kinds two m n ts land last) where
+  abbrev read_words : SheetWords
+  read_words = sheet_words (sheet_of two m n ts land last)
 
   missing_same : (j : ℕ) → j < n →
       let t = sheet_of two m n ts land last in
-      lag_missing_at lags afters lands m n j ≡ (not (spare t j) && lagless t j)
+      lag_missing_at read_words j ≡ (not (spare t j) && lagless t j)
   unfolding spare lag_missing_by
   missing_same j h =
-      let many = sections_many (tables two m n) K.start K.of_tables in
       let R = sections_of (tables two m n) K.start K.of_tables lag_lines refl in
       let S = sections_of (tables two m n) K.start K.of_tables after_lines refl in
-      let a = K.tables_are.at after_lines (omega arith) in
-      four (column_none lags m n (part ts lag_lines) few-m few-n R (K.tables_are.at lag_lines (omega arith)) j h)
-      (row_none afters n n (part ts after_lines) few-n few-n S a j h)
-      (column_none afters n n (part ts after_lines) few-n few-n S a j h)
-      (land_none m n K.behind land lands few-m few-n K.of_land K.lands_are.words j h)
+      four (column_none _ m n (part ts lag_lines) few-m few-n R refl j h)
+      (row_none _ n n (part ts after_lines) few-n few-n S refl j h)
+      (column_none _ n n (part ts after_lines) few-n few-n S refl j h)
+      (land_none m n K.behind land few-m few-n K.of_land j h)
     where
       four : {a b c d p q r s : Bool} → a ≡ p → b ≡ q → c ≡ r → d ≡ s → lag_missing_by a b c d ≡ lag_missing_by p q r s
       four e f g h = rw (e, f, g, h)
 
-  pub missing_words : two && some_lag_missing_at lags afters lands m n ≡ two && some_lag_missing (sheet_of two m n ts land last)
-  missing_words = ap (λ b. two && b) (place_same n (lag_missing_at lags afters lands m n) _ missing_same)
+  measured : (two : Bool) → spread? (measure_words n (measure_of two ts)) ≡ two
+  measured true = refl
+  measured false = refl
 
--- ---- a sheet with marks is not asked, one under rule 2 is
-module _ (ps : List (List (List ℕ))) (lands : List (List ℕ)) (m n : ℕ) where
-  pub unasked : (two : Bool) → not two ≡ true → UnmeasuredIs ps lands two m n false
-  unasked true h = absurd (true_not_false (sym h))
-  unasked false h = refl
-
-  pub asked : (two : Bool) {r : Bool} → not two ≡ false → r ≡ some_lag_missing_at (get_or ps lag_lines []) (get_or ps after_lines []) lands m n →
-      UnmeasuredIs ps lands two m n r
-  asked true h e = e
-  asked false h e = absurd (true_not_false h)
+  pub missing_words : unmeasured_at read_words ≡ two && some_lag_missing (sheet_of two m n ts land last)
+  missing_words = ap₂ ◌&&◌ (measured two) (place_same n (lag_missing_at read_words) _ missing_same)

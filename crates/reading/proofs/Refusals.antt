@@ -1,25 +1,28 @@
--- Every refusal of reading has a number, 1 to 7 or 14, so that 0 can stand for none.
-use mathlib.Core.Path.{◌≡◌, subst}
+-- Every refusal of reading is one of `refusals`, so that its number is that of one, from 1 on.
+use mathlib.Core.Path.{◌≡◌, refl, subst}
 use mathlib.Core.List.{List, [], ◌∷◌}
 use mathlib.Core.Bool.{Bool, true, false, cond, ◌&&◌}
 use mathlib.Core.Option.{Option, none}
 use Prim.Native.Nat.{ℕ, zero, suc, ◌-◌, ◌≤◌}
-use native.Mathlib.Omega.{arith}
 use lib.Dec.{ltb, eqb}
 use lib.IntN.{pos}
 use lib.ListN.{length}
+use Rattle.refusals.specs.declared.Refusal.TheVariants as refusal
+use Rattle.refusals.proofs.NumberLaws.{Known, known_within}
 use Rattle.maxplus.specs.Whole.{neg}
 use Rattle.maxplus.specs.Entry.{E, absent, num}
 use Rattle.maxplus.specs.Tables.{Mat}
 use Rattle.sheet.specs.Text.{bytes}
-use Rattle.sheet.specs.Sheet.{Got, got, refused, got?, ◌>>=◌, literal, leading, value, behind, signed, item}
+use Rattle.sheet.specs.Cue.{Orderly, orderly?}
+use Rattle.sheet.specs.Ordered.{ordered}
+use Rattle.sheet.specs.Sheet.{Got, got, refused, Sheet, got?, ◌>>=◌, literal, leading, value, behind, signed, item}
 use Rattle.sheet.specs.Sheet.{ending, ended, items, Content, size, entry, mark, out_of_range, no_size, absent?, any, all, checked}
 use Rattle.sheet.specs.Sheet.{line, rows, Section, section, sections, sizes, tables, part, count, panels_line, triggers_line, lag_lines, floor_line}
 use Rattle.sheet.specs.Sheet.{optional, land_kind, last_kind, sheet_of, some_lag_missing, finished, ruled, headed, lines, read}
 
 abbrev Numbered : {A : Type 0} → Got A → Type 0
 Numbered (got a s) = Unit {0}
-Numbered (refused k) = (1 ≤ k) × (k ≤ 14)
+Numbered (refused k) = Known k
 
 module _ {A : Type 0} where
   if_numbered : (b : Bool) (g h : Got A) → Numbered g → Numbered h → Numbered (cond b g h)
@@ -34,8 +37,8 @@ module _ {A : Type 0} where
 literal_numbered : (k s : List ℕ) → Numbered (literal k s)
 unfolding literal
 literal_numbered [] s = tt
-literal_numbered (b ∷ k) [] = (omega arith, omega arith)
-literal_numbered (b ∷ k) (c ∷ s) = if_numbered (eqb c b) (literal k s) (refused 2) (literal_numbered k s) (omega arith, omega arith)
+literal_numbered (b ∷ k) [] = (refusal.WrongForm, refl)
+literal_numbered (b ∷ k) (c ∷ s) = if_numbered (eqb c b) (literal k s) (refused 2) (literal_numbered k s) (refusal.WrongForm, refl)
 
 signed_numbered : (s : List ℕ) → Numbered (signed s)
 unfolding signed
@@ -48,9 +51,9 @@ signed_numbered (b ∷ s) = go (leading b)
 
 item_numbered : (s : List ℕ) → Numbered (item s)
 unfolding item
-item_numbered [] = (omega arith, omega arith)
+item_numbered [] = (refusal.WrongForm, refl)
 item_numbered (b ∷ s) = if_numbered (eqb b 0x30) (got (num (pos 0)) s) _ tt (if_numbered (eqb b 0x2D) (signed s) _ (signed_numbered s)
-    (if_numbered (leading b) (got (num (pos (value (b - 48) s))) (behind s)) (refused 2) tt (omega arith, omega arith)))
+    (if_numbered (leading b) (got (num (pos (value (b - 48) s))) (behind s)) (refused 2) tt (refusal.WrongForm, refl)))
 
 ended_numbered : (k : ℕ) (s : List ℕ) → Numbered (ended k s)
 unfolding ended
@@ -64,11 +67,11 @@ items_numbered (suc k) s =
 
 checked_numbered : (r : Content) (es : List E) (s : List ℕ) → Numbered (checked r es s)
 unfolding checked
-checked_numbered size es s = if_numbered (any absent? es) (refused 2) _ (omega arith, omega arith)
-    (if_numbered (any no_size es) (refused 3) (got es s) (omega arith, omega arith) tt)
-checked_numbered entry es s = if_numbered (any out_of_range es) (refused 4) (got es s) (omega arith, omega arith) tt
-checked_numbered mark es s = if_numbered (any out_of_range es) (refused 4) _ (omega arith, omega arith)
-    (if_numbered (any absent? es) (refused 5) (got es s) (omega arith, omega arith) tt)
+checked_numbered size es s = if_numbered (any absent? es) (refused 2) _ (refusal.WrongForm, refl)
+    (if_numbered (any no_size es) (refused 3) (got es s) (refusal.NoSize, refl) tt)
+checked_numbered entry es s = if_numbered (any out_of_range es) (refused 4) (got es s) (refusal.OutOfRange, refl) tt
+checked_numbered mark es s = if_numbered (any out_of_range es) (refused 4) _ (refusal.OutOfRange, refl)
+    (if_numbered (any absent? es) (refused 5) (got es s) (refusal.MarkAbsent, refl) tt)
 
 line_numbered : (key : List ℕ) (r : Content) (k : ℕ) (s : List ℕ) → Numbered (line key r k s)
 unfolding line
@@ -94,11 +97,11 @@ optional_numbered k s = if_numbered (got? (literal k.key s)) _ (got none s)
 
 finished_numbered : (two : Bool) (m n : ℕ) (ts : List (List (List E))) (land last : Option Mat) (s : List ℕ) →
     Numbered (finished two m n ts land last s)
-finished_numbered two m n ts land last (b ∷ s) = (omega arith, omega arith)
-finished_numbered two m n ts land last [] = if_numbered (any (all absent?) (part ts lag_lines)) (refused 6) _ (omega arith, omega arith)
-    (if_numbered (any (all absent?) (part ts floor_line)) (refused 7) _ (omega arith, omega arith)
+finished_numbered two m n ts land last (b ∷ s) = (refusal.WrongForm, refl)
+finished_numbered two m n ts land last [] = if_numbered (any (all absent?) (part ts lag_lines)) (refused 6) _ (refusal.PanelWithoutLag, refl)
+    (if_numbered (any (all absent?) (part ts floor_line)) (refused 7) _ (refusal.NoFloor, refl)
     (if_numbered (two && some_lag_missing (sheet_of two m n ts land last)) (refused 14) (got (sheet_of two m n ts land last) [])
-    (omega arith, omega arith) tt))
+    (refusal.TriggerWithoutLag, refl) tt))
 
 ruled_numbered : (s : List ℕ) → Numbered (ruled s)
 unfolding ruled
@@ -115,9 +118,25 @@ lines_numbered : (s : List ℕ) → Numbered (lines s)
 unfolding lines
 lines_numbered s = then_numbered (ruled s) _ (ruled_numbered s) headed_numbered
 
-pub refusal_known : (s : List ℕ) (k : ℕ) → read s ≡ refused k → (1 ≤ k) × (k ≤ 14)
+pub refusal_is : (s : List ℕ) (k : ℕ) → read s ≡ refused k → Known k
 unfolding read
-refusal_known s k e = subst Numbered e (if_numbered (ltb 2048 (length s)) (refused 1) (lines s) (omega arith, omega arith) (lines_numbered s))
+refusal_is s k e = subst Numbered e (if_numbered (ltb 2048 (length s)) (refused 1) (lines s) (refusal.SheetTooLong, refl) (lines_numbered s))
+
+-- and so is 8, of a sheet whose order cannot be kept
+pub ordered_is : (s : List ℕ) (k : ℕ) → ordered s ≡ refused k → Known k
+unfolding ordered
+ordered_is s k e = go (read s) refl e
+  where
+    by_order : (t : Sheet) (r : List ℕ) (d : Dec (Orderly t)) → Numbered (elim d [ yes h ↦ got t r | no h ↦ refused 8 ])
+    by_order t r (yes h) = tt
+    by_order t r (no h) = (refusal.NoTimes, refl)
+
+    go : (g : Got Sheet) → read s ≡ g → (g >>= λ t r. elim (orderly? t) [ yes h ↦ got t r | no h ↦ refused 8 ]) ≡ refused k → Known k
+    go (refused j) q e = subst Numbered e (refusal_is s j q)
+    go (got t r) q e = subst Numbered e (by_order t r (orderly? t))
+
+pub refusal_known : (s : List ℕ) (k : ℕ) → read s ≡ refused k → (1 ≤ k) × (k ≤ 14)
+refusal_known s k e = known_within k (refusal_is s k e)
 
 pub refusal_numbered : (s : List ℕ) (k : ℕ) → read s ≡ refused k → 1 ≤ k
 refusal_numbered s k e = (refusal_known s k e).0

@@ -1,55 +1,43 @@
--- What reading answers: the tables of a good sheet as words, or the refusal's number and nothing else.
-use Rattle.std.specs.Prelude.{false, cond, ℕ, ltb, ℤ}
-use Rattle.std.proofs.Math.Option.{Option, none, some}
+-- What reading answers: the tables of a good sheet as words, or the refusal.
+use Rattle.std.specs.Prelude.{cond, ℕ, List, ltb, ℤ, Option, Some, None, Result, Ok, Err}
+use Rattle.std.proofs.Math.Option as maybe
 use Rattle.maxplus.specs.Entry.{absent, num}
 use Rattle.maxplus.specs.Tables.{Vec}
-use Rattle.sheet.specs.Sheet.{Got, got, refused, by_spread?, own_floor, own_due, Sheet, given, given_table}
-use Rattle.rows.specs.Grid.{strip, grid}
-use Rattle.reading.specs.declared.Reading.{Reading}
+use Rattle.refusals.specs.Numbers.{refusal_of}
+use Rattle.refusals.specs.declared.Refusal.{Refusal}
+use Rattle.sheet.specs.Sheet as sheet
+use Rattle.sheet.specs.Sheet.{Got, got, refused, by_marks, by_spread, Sheet}
+use Rattle.rows.specs.Grid.{strip, strips, strips_given}
+use Rattle.reading.specs.declared.Measure.{Measure}
+use Rattle.reading.specs.declared.Measure.TheVariants.{Marks, Spread}
+use Rattle.reading.specs.declared.SheetWords.{SheetWords}
 
-abbrev pub blank : Vec
-blank j = absent
-
--- the first k entries, absent past them; numbers as entries; those of last moments, where there are any
-abbrev pub first : ℕ → Vec → Vec
-first k v j = cond (ltb j k) (v j) absent
-
+-- the first k numbers as entries, absent past them
 abbrev pub numbers : ℕ → (ℕ → ℤ) → Vec
-numbers k f = first k (λ j. num (f j))
+numbers k f j = cond (ltb j k) (num (f j)) absent
 
-abbrev pub moments_row : ℕ → Option (ℕ → ℤ) → Vec
-moments_row m none = blank
-moments_row m (some b) = numbers m b
+-- the words of the marks, where the sheet has any; of the last moments likewise
+abbrev pub measure_words : ℕ → sheet.Measure → Measure
+measure_words n (by_marks p q) = Marks (strip p) (strip (numbers n q))
+measure_words n by_spread = Spread
 
--- "A refusal returns its number and no other result": every other field is 0.
-abbrev pub answer : Got Sheet → Reading
-answer (got t s) =
+abbrev pub last_words : ℕ → maybe.Option (ℕ → ℤ) → Option (List ℕ)
+last_words m maybe.none = None
+last_words m (maybe.some b) = Some (strip (numbers m b))
+
+abbrev pub sheet_words : Sheet → SheetWords
+sheet_words t =
     record {
-      refusal = 0;
-      sheet = record {
-        panels = t.panels;
-        triggers = t.triggers;
-        ruled = by_spread? t.measure;
-        lag = grid t.lag;
-        floor = strip (own_floor t.measure);
-        due = strip (first t.triggers (own_due t.measure));
-        after = grid t.after;
-        land = record { given = given t.land; rows = grid (given_table t.land) };
-        last = record { given = given t.last; at = strip (moments_row t.panels t.last) };
-      };
+      panels = t.panels;
+      triggers = t.triggers;
+      lag = strips t.lag;
+      measure = measure_words t.triggers t.measure;
+      after = strips t.after;
+      land = strips_given t.land;
+      last = last_words t.panels t.last;
     }
-answer (refused k) =
-    record {
-      refusal = k;
-      sheet = record {
-        panels = 0;
-        triggers = 0;
-        ruled = false;
-        lag = grid (λ i. blank);
-        floor = strip blank;
-        due = strip blank;
-        after = grid (λ i. blank);
-        land = record { given = false; rows = grid (λ i. blank) };
-        last = record { given = false; at = strip blank };
-      };
-    }
+
+-- "A refusal returns its number and no other result"
+abbrev pub answer : Got Sheet → Result SheetWords Refusal
+answer (got t s) = Ok (sheet_words t)
+answer (refused k) = Err (refusal_of k)

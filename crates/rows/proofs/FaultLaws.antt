@@ -10,7 +10,8 @@ use borrow.Author.Tests.{ltb-false, lt-ltb, le-ltb, eq-eqb, ne_eqb}
 use lib.Dec.{ltb, eqb}
 use lib.IntN.{ℤ, pos, negsuc}
 use lib.ListN.{length, take, drop, get_or, length-take, drop_of_length-le}
-use lib.Seq.{drop-cons, get_or-take}
+use lib.Seq.{drop-cons}
+use Rattle.std.proofs.lemmas.List.{get_or-take}
 use Rattle.maxplus.specs.Whole.{up, dn}
 use Rattle.maxplus.specs.Entry.{E, absent, num, present?, val}
 use Rattle.maxplus.specs.Finite.{map_l}
@@ -23,8 +24,10 @@ use Rattle.sheet.specs.Sheet.{Got, got, refused, limit, absent?, no_size, out_of
 use Rattle.sheet.proofs.LineLaws.{true_not_false, none_or, none_at, any_none, any_at, checked_passes}
 use Rattle.sheet.specs.Good.{Passes}
 use Rattle.rows.specs.Grid.{strip}
-use Rattle.rows.specs.Inner.{clip, words_of, faults, has_fault, verdict, FaultIs}
-use Rattle.rows.specs.declared.Faults.{Faults}
+use Rattle.rows.specs.Inner.{clip, words_of, faults, fault_number, has_fault, FaultIs}
+use Rattle.rows.specs.declared.Fault.{Fault}
+use Rattle.rows.specs.declared.Fault.TheVariants as fault
+use Rattle.std.specs.Prelude.{Some, None}
 use Rattle.rows.proofs.PlaceLaws.{strip_at}
 use Rattle.cue.specs.Sizes.{size_limit}
 
@@ -57,16 +60,6 @@ size_some (num z) a p q h = rw (q, ne_eqb (up z) 0 (λ z. h (q ∙ z))) (go (ltb
     go true = refl
     go false = refl
 
-module _ (kind : ℕ) (e : E) where
-  pub fault_size : kind ≡ 3 → no_size e ≡ has_fault kind e
-  fault_size h = rw h
-
-  pub fault_range : kind ≡ 4 → out_of_range e ≡ has_fault kind e
-  fault_range h = rw h
-
-  pub fault_absent : ¬ (kind ≡ 3) → ¬ (kind ≡ 4) → absent? e ≡ has_fault kind e
-  fault_absent h g = rw (ne_eqb kind 3 h, ne_eqb kind 4 g)
-
 -- ---- a clipped entry has the faults of the entry
 same_beyond : (c a b : ℕ) → min a (suc c) ≡ min b (suc c) → ltb c a ≡ ltb c b
 same_beyond c a b e = go (dec_lt c a)
@@ -92,8 +85,11 @@ clip_absent absent = refl
 clip_absent (num (pos n)) = refl
 clip_absent (num (negsuc n)) = refl
 
-clip_fault : (kind : ℕ) (e : E) → has_fault kind (clip e) ≡ has_fault kind e
-clip_fault kind e = rw (clip_size e, clip_range e, clip_absent e)
+clip_fault : (f : Fault) (e : E) → has_fault f (clip e) ≡ has_fault f e
+clip_fault fault.AbsentSize e = clip_absent e
+clip_fault fault.NoSize e = clip_size e
+clip_fault fault.OutOfRange e = clip_range e
+clip_fault fault.AbsentMark e = clip_absent e
 
 clip_near : (e : E) (z : ℤ) → clip e ≡ num z → dn z ≤ far + up z
 clip_near absent z q = absurd (absent_not q)
@@ -101,95 +97,59 @@ clip_near (num (pos n)) z q = rw (← num_inj q) (omega arith)
 clip_near (num (negsuc n)) z q = rw (← num_inj q) (omega arith)
 
 -- the word of an entry of a line
-word_fault : (kind : ℕ) (es : List E) (ws : List ℕ) (j : ℕ) → length es ≤ size_limit → ws ≡ words_of es → j < length es →
-    has_fault kind (entry (get_or ws j 0)) ≡ has_fault kind (row es j)
-word_fault kind es ws j six e h =
+word_fault : (f : Fault) (es : List E) (ws : List ℕ) (j : ℕ) → length es ≤ size_limit → ws ≡ words_of es → j < length es →
+    has_fault f (entry (get_or ws j 0)) ≡ has_fault f (row es j)
+word_fault f es ws j six e h =
     let at = ap (λ l. get_or l j 0) e ∙ strip_at (row (map_l clip es)) j (omega arith) ∙ ap word (map_at clip es j absent absent h) in
-    ap (λ w. has_fault kind (entry w)) at ∙ ap (has_fault kind) (entry_word (clip (row es j)) (clip_near (row es j))) ∙ clip_fault kind (row es j)
+    ap (λ w. has_fault f (entry w)) at ∙ ap (has_fault f) (entry_word (clip (row es j)) (clip_near (row es j))) ∙ clip_fault f (row es j)
 
--- ---- a refusal's number, where 0 is none
-pub verdict_bad : {A : Type 0} (k : ℕ) (a : A) (s : List ℕ) → ¬ (k ≡ 0) → verdict k a s ≡ refused k
-verdict_bad zero a s h = absurd (h refl)
-verdict_bad (suc k) a s h = refl
-
-pub verdict_good : {A : Type 0} (k : ℕ) (a : A) (s : List ℕ) → k ≡ 0 → verdict k a s ≡ got a s
-verdict_good zero a s h = refl
-verdict_good (suc k) a s h = absurd (let e : ⊥ = omega arith in e)
+-- the first n of a list are where they were
+pub taken : {A : Type 0} (l : List A) (n j : ℕ) (d : A) → j < length (take n l) → get_or (take n l) j d ≡ get_or l j d
+taken l n j d h = let long = length-take n l in let k : j < n = omega arith in get_or-take n l j d k
 
 -- ---- kind after kind
-abbrev first : List ℕ → List E → List ℕ → Got (List E)
+abbrev first : List Fault → List E → List ℕ → Got (List E)
 first [] es s = got es s
-first (k ∷ ks) es s = cond (any (has_fault k) es) (refused k) (first ks es s)
+first (f ∷ fs) es s = cond (any (has_fault f) es) (refused (fault_number f)) (first fs es s)
 
-abbrev listed : Faults → List ℕ
-listed K = take K.count K.order
-
-checked_first : (r : sheet.Content) (es : List E) (s : List ℕ) → checked r es s ≡ first (listed (faults r)) es s
+checked_first : (r : sheet.Content) (es : List E) (s : List ℕ) → checked r es s ≡ first (faults r) es s
 unfolding checked
 checked_first sheet.size es s = refl
 checked_first sheet.entry es s = refl
 checked_first sheet.mark es s = refl
 
--- there are at most two, each with a number
-pub faults_few : (r : sheet.Content) → ((faults r).count ≤ 2) × (length (faults r).order ≡ 2)
-faults_few sheet.size = (omega arith, refl)
-faults_few sheet.entry = (omega arith, refl)
-faults_few sheet.mark = (omega arith, refl)
-
-kind_known : (r : sheet.Content) (i : ℕ) → i < (faults r).count → 0 < get_or (faults r).order i 0
-kind_known sheet.size zero h = omega arith
-kind_known sheet.size (suc zero) h = omega arith
-kind_known sheet.size (suc (suc i)) h = let x : ⊥ = omega arith in absurd x
-kind_known sheet.entry zero h = omega arith
-kind_known sheet.entry (suc i) h = let x : ⊥ = omega arith in absurd x
-kind_known sheet.mark zero h = omega arith
-kind_known sheet.mark (suc zero) h = omega arith
-kind_known sheet.mark (suc (suc i)) h = let x : ⊥ = omega arith in absurd x
-
 -- what the loop over the kinds keeps: the first i are no fault of the line, and the others give what the line is refused for
-pub record Asked (K : Faults) (ws : List ℕ) (n i : ℕ) : Type 0 where
-  pub left : (r : sheet.Content) → K ≡ faults r → (es : List E) (s : List ℕ) → length es ≡ n → ws ≡ words_of es →
-      checked r es s ≡ first (drop i (listed K)) es s
+pub record Asked (fs : List Fault) (ws : List ℕ) (n i : ℕ) : Type 0 where
+  pub left : (r : sheet.Content) → fs ≡ faults r → (es : List E) (s : List ℕ) → length es ≡ n → ws ≡ words_of es →
+      checked r es s ≡ first (drop i fs) es s
 
-pub asked_none : {K : Faults} {ws : List ℕ} {n : ℕ} → Asked K ws n 0
+pub asked_none : {fs : List Fault} {ws : List ℕ} {n : ℕ} → Asked fs ws n 0
 asked_none = record { left = λ r k es s l e. rw k (checked_first r es s) }
 
--- the i-th kind
-abbrev pub kind_at : Faults → ℕ → ℕ
-kind_at K i = get_or K.order i 0
+module _ {fs : List Fault} {ws : List ℕ} {n i : ℕ} (A : Asked fs ws n i) (r : sheet.Content) (k : fs ≡ faults r) where
+  pub asked_all : length fs ≤ i → FaultIs r ws n None
+  asked_all h = record { checks = λ es s l e. A.left r k es s l e ∙ ap (λ fs. first fs es s) (drop_of_length-le fs {i = i} h) }
 
-module _ {K : Faults} {ws : List ℕ} {n i : ℕ} (A : Asked K ws n i) (r : sheet.Content) (k : K ≡ faults r) where
-  pub asked_all : K.count ≤ i → FaultIs r ws n 0
-  asked_all h =
-      let none = drop_of_length-le (listed K) {i = i} (let l = length-take K.count K.order in omega arith) in
-      record { checks = λ es s l e. A.left r k es s l e ∙ ap (λ ks. first ks es s) none }
+  module _ {f : Fault} (h : i < length fs) (is : get_or fs i fault.AbsentSize ≡ f) (six : n ≤ size_limit) where
+    next : drop i fs ≡ f ∷ drop (i + 1) fs
+    next = rw (add-one i, drop-cons fs i fault.AbsentSize h, is)
 
-  module _ (h : i < K.count) (six : n ≤ size_limit) where
-    next : drop i (listed K) ≡ kind_at K i ∷ drop (i + 1) (listed K)
-    next =
-        let (few, room) : (K.count ≤ 2) × (length K.order ≡ 2) = rw k (faults_few r) in
-        let l = length-take K.count K.order in
-        rw (add-one i, drop-cons (listed K) i 0 (omega arith), get_or-take)
+    decided : (r : sheet.Content) → fs ≡ faults r → (es : List E) (s : List ℕ) → length es ≡ n → ws ≡ words_of es → (b : Bool) →
+        any (has_fault f) es ≡ b → checked r es s ≡ cond b (refused (fault_number f)) (first (drop (i + 1) fs) es s)
+    decided r k es s l e b q = A.left r k es s l e ∙ ap (λ fs. first fs es s) next ∙ rw q
 
-    decided : (r : sheet.Content) → K ≡ faults r → (es : List E) (s : List ℕ) → length es ≡ n → ws ≡ words_of es → (b : Bool) →
-        any (has_fault (kind_at K i)) es ≡ b → checked r es s ≡ cond b (refused (kind_at K i)) (first (drop (i + 1) (listed K)) es s)
-    decided r k es s l e b q = A.left r k es s l e ∙ ap (λ ks. first ks es s) next ∙ rw q
-
-    pub asked_hit : (j : ℕ) → j < n → has_fault (kind_at K i) (entry (get_or ws j 0)) ≡ true → FaultIs r ws n (kind_at K i)
-    asked_hit j q f =
-        let known : 0 < kind_at K i = rw k (kind_known r i (rw k at h)) in
-        let some : ¬ (kind_at K i ≡ 0) = λ z. let x : ⊥ = omega arith in x in
+    pub asked_hit : (j : ℕ) → j < n → has_fault f (entry (get_or ws j 0)) ≡ true → FaultIs r ws n (Some f)
+    asked_hit j q there =
         record {
           checks = λ es s l e.
-              decided r k es s l e true (any_at _ absent es j (omega arith) (sym (word_fault (kind_at K i) es ws j (omega arith) e (omega arith)) ∙ f))
-              ∙ sym (verdict_bad _ es s some);
+              decided r k es s l e true (any_at _ absent es j (omega arith) (sym (word_fault f es ws j (omega arith) e (omega arith)) ∙ there));
         }
 
-    pub asked_more : ((j : ℕ) → j < n → has_fault (kind_at K i) (entry (get_or ws j 0)) ≡ false) → Asked K ws n (i + 1)
-    asked_more f =
+    pub asked_more : ((j : ℕ) → j < n → has_fault f (entry (get_or ws j 0)) ≡ false) → Asked fs ws n (i + 1)
+    asked_more none =
         record {
           left = λ r k es s l e. decided r k es s l e false
-              (any_none _ absent es (λ j q. sym (word_fault (kind_at K i) es ws j (omega arith) e q) ∙ f j (omega arith)));
+              (any_none _ absent es (λ j q. sym (word_fault f es ws j (omega arith) e q) ∙ none j (omega arith)));
         }
 
 -- ---- the entries of a line without fault

@@ -1,61 +1,50 @@
--- Laws of a literal at a place of the bytes: a part of the key is read, and what is left of it decides.
-use mathlib.Core.Path.{◌≡◌, sym, ◌∙◌}
-use mathlib.Core.List.{List}
-use Prim.Native.Nat.{ℕ, suc, ◌+◌, ◌≤◌, ◌<◌}
-use native.Mathlib.Nat.{add-zero}
-use native.Mathlib.Numerals.{add-one}
+-- A literal at a place of the bytes: it is there exactly where the bytes begin with its key.
+use mathlib.Core.Path.{◌≡◌, refl, ap, ap₂, sym, ◌∙◌}
+use mathlib.Core.List.{List, [], ◌∷◌, ◌++◌}
+use mathlib.Core.Bool.{Bool, true, false}
+use Prim.Native.Nat.{ℕ, ◌-◌, ◌≤◌}
+use native.Mathlib.Decide.{ℕ_discrete}
 use native.Mathlib.Omega.{arith}
 use borrow.Author.Tests.{eq-eqb, ne_eqb}
-use mathlib.Core.Bool.{true, false}
-use lib.ListN.{length, drop, get_or, drop_of_length-le}
-use lib.Seq.{drop-cons}
+use lib.ListN.{length, take, drop, length-drop, length-append}
+use Rattle.std.specs.Prelude.{◌==◌}
+use Rattle.sheet.proofs.LineLaws.{true_not_false}
+use Rattle.std.specs.Cmp.Lexicographic.{pointwise}
+use Rattle.std.proofs.lemmas.Bool.Decides.{Decides-eqb}
+use Rattle.std.proofs.lemmas.List.{take_all, drop-drop}
+use Rattle.std.proofs.lemmas.Slice.Eq.{starts_is}
 use Rattle.sheet.specs.Sheet.{got, refused, literal}
 use Rattle.rows.specs.Inner.{LiteralAt}
 
-module _ (s : List ℕ) (at : ℕ) (key : List ℕ) (i : ℕ) where
-  pub record Matched : Type 0 where
-    pub in_key : i ≤ length key
-    pub in_bytes : at + i ≤ length s
-    pub left : literal (drop i key) (drop (at + i) s) ≡ literal key (drop at s)
+literal_own : (key y : List ℕ) → literal key (key ++ y) ≡ got tt y
+unfolding literal
+literal_own [] y = refl
+literal_own (b ∷ key) y = rw (eq-eqb b b refl) (literal_own key y)
 
-  literal_nil : length key ≤ i → literal (drop i key) (drop (at + i) s) ≡ got tt (drop (at + i) s)
-  unfolding literal
-  literal_nil h = rw (drop_of_length-le key h)
+literal_other : (key x : List ℕ) → ((y : List ℕ) → x ≡ key ++ y → ⊥) → literal key x ≡ refused 2
+unfolding literal
+literal_other [] x n = absurd (n x refl)
+literal_other (b ∷ key) [] n = refl
+literal_other (b ∷ key) (c ∷ x) n = go (ℕ_discrete c b) (λ e. literal_other key x (λ y p. n y (ap₂ ◌∷◌ e p)))
+  where
+    go : Dec (c ≡ b) → (c ≡ b → literal key x ≡ refused 2) → literal (b ∷ key) (c ∷ x) ≡ refused 2
+    go (yes e) r = rw (eq-eqb c b e) (r e)
+    go (no d) r = rw (ne_eqb c b d)
 
-  module _ (h : i < length key) where
-    literal_short : length s ≤ at + i → literal (drop i key) (drop (at + i) s) ≡ refused 2
-    unfolding literal
-    literal_short k = rw (drop-cons key i 0 h, drop_of_length-le s k)
+-- what the bytes from a place on begin with, as a slice of them
+pub literal_begins : (s : List ℕ) (at : ℕ) (key : List ℕ) (r : Bool) → at ≤ length s →
+    r ≡ pointwise (λ x y. x == y) key (take (length key) (take (length s - at) (drop at s))) → LiteralAt s at key r
+literal_begins s at key r h e = go r (starts_is Decides-eqb (drop at s) key r (rw all at e))
+  where
+    all : take (length s - at) (drop at s) ≡ drop at s
+    all = take_all (length s - at) (drop at s) (let l = length-drop at s in omega arith)
 
-    module _ (k : at + i < length s) where
-      literal_differs : (get_or s (at + i) 0 ≡ get_or key i 0 → ⊥) → literal (drop i key) (drop (at + i) s) ≡ refused 2
-      unfolding literal
-      literal_differs n = rw (drop-cons key i 0 h, drop-cons s (at + i) 0 k, ne_eqb _ _ n)
-
-      literal_agrees : get_or s (at + i) 0 ≡ get_or key i 0
-          → literal (drop i key) (drop (at + i) s) ≡ literal (drop (i + 1) key) (drop (at + (i + 1)) s)
-      unfolding literal
-      literal_agrees e =
-          let q : at + (i + 1) ≡ suc (at + i) = omega arith in
-          rw (q, add-one i, drop-cons key i 0 h, drop-cons s (at + i) 0 k, eq-eqb _ _ e)
-
-module _ (s : List ℕ) (at : ℕ) (key : List ℕ) where
-  pub matched_none : at ≤ length s → Matched s at key 0
-  matched_none h = record { in_key = omega arith; in_bytes = omega arith; left = rw (add-zero at) }
-
-module _ {s : List ℕ} {at : ℕ} {key : List ℕ} {i : ℕ} (m : Matched s at key i) where
-  pub matched_more : i < length key → at + i < length s → get_or s (at + i) 0 ≡ get_or key i 0 → Matched s at key (i + 1)
-  matched_more h k e =
-      record { in_key = omega arith; in_bytes = omega arith; left = sym (literal_agrees s at key i h k e) ∙ m.left }
-
-  pub matched_short : i < length key → length s ≤ at + i → LiteralAt s at key false
-  matched_short h k = sym m.left ∙ literal_short s at key i h k
-
-  pub matched_differs : i < length key → at + i < length s → (get_or s (at + i) 0 ≡ get_or key i 0 → ⊥) → LiteralAt s at key false
-  matched_differs h k n = sym m.left ∙ literal_differs s at key i h k n
-
-  pub matched_all : length key ≤ i → LiteralAt s at key true
-  matched_all h =
-      let in_key = m.in_key in
-      let e : length key ≡ i = omega arith in
-      rw e (sym m.left ∙ literal_nil s at key i h, m.in_bytes)
+    go : (r : Bool) → (r ≡ true → drop at s ≡ key ++ drop (length key) (drop at s)) × ((rest : List ℕ) → drop at s ≡ key ++ rest → r ≡ true) →
+        LiteralAt s at key r
+    go true (p, q) =
+        let e = p refl in
+        let l = ap length e in
+        let m = length-append key (drop (length key) (drop at s)) in
+        let n = length-drop at s in
+        (ap (literal key) e ∙ literal_own key (drop (length key) (drop at s)) ∙ ap (got tt) (drop-drop (length key) at s), omega arith)
+    go false (p, q) = literal_other key (drop at s) (λ y e. absurd (true_not_false (sym (q y e))))

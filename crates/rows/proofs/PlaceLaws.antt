@@ -6,8 +6,7 @@ use lib.ListN.{get_or}
 use Rattle.maxplus.specs.Tables.{Vec, Mat}
 use Rattle.maxplus.proofs.EachLaws.{each_same, each_at}
 use Rattle.words.specs.Words.{word}
-use Rattle.rows.specs.Grid.{strip, strips, grid}
-use Rattle.rows.specs.declared.Row.{Row}
+use Rattle.rows.specs.Grid.{strip, strips}
 
 pub strip_at : (v : Vec) (j : ℕ) → j < 6 → get_or (strip v) j 0 ≡ word (v j)
 unfolding strip
@@ -16,10 +15,6 @@ strip_at v j h = each_at 6 j (λ j. word (v j)) 0 h
 pub strips_at : (A : Mat) (i : ℕ) → i < 6 → get_or (strips A) i [] ≡ strip (A i)
 unfolding strips
 strips_at A i h = each_at 6 i (λ i. strip (A i)) [] h
-
-pub grid_at : (A : Mat) (i : ℕ) (d : Row) → i < 6 → get_or (grid A) i d ≡ record { at = strip (A i) }
-unfolding grid
-grid_at A i d h = each_at 6 i (λ i. record { at = strip (A i) }) d h
 
 pub strip_eq : (v w : Vec) → ((j : ℕ) → v j ≡ w j) → strip v ≡ strip w
 unfolding strip

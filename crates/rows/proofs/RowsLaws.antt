@@ -1,7 +1,7 @@
 -- Laws of lines and rows: what is read so far goes in front of what is left, and a row or a table of words with one entry more.
 use mathlib.Core.Path.{◌≡◌, refl, ap, ap₂, sym, ◌∙◌}
 use mathlib.Core.List.{List, [], ◌∷◌, ◌++◌, append-nil}
-use mathlib.Core.Bool.{Bool, true, false, not}
+use mathlib.Core.Bool.{true, false}
 use mathlib.Core.Option.{none, some}
 use Prim.Native.Nat.{ℕ, suc, ◌+◌, ◌-◌, ◌≤◌, ◌<◌}
 use native.Mathlib.Omega.{arith}
@@ -10,13 +10,16 @@ use Rattle.maxplus.specs.Entry.{E, absent}
 use Rattle.maxplus.specs.Finite.{map_l}
 use Rattle.maxplus.proofs.EachLaws.{each_set, map_append, map_length}
 use Rattle.words.specs.Words.{word}
-use Rattle.sheet.specs.Sheet.{Got, got, refused, literal, ended, items, Content, line, rows, row, table, Section}
+use Rattle.sheet.specs.Sheet.{got, refused, literal, ended, items, Content, line, rows, row, table, Section}
 use Rattle.rows.specs.Grid.{strip, strips}
-use Rattle.rows.specs.Inner.{clip, LiteralAt, words_of, verdict, FaultIs, Found, Reads, RowsAre, OptionalIs}
-use Rattle.rows.specs.declared.Place.{Place}
+use Rattle.std.specs.Prelude.{Option, Some, None, Ok, Err}
+use Rattle.refusals.specs.Numbers.{number}
+use Rattle.refusals.specs.declared.Refusal.{Refusal}
+use Rattle.rows.specs.Inner.{clip, LiteralAt, words_of, verdict, FaultIs, RowsAre, OptionalIs}
+use Rattle.rows.specs.declared.Fault.{Fault}
 use Rattle.sheet.proofs.LineLaws.{onto, onto_onto, onto_nil, front, at_last, at_other}
 use Rattle.sheet.proofs.SectionLaws.{optional_none, optional_refused, optional_some}
-use Rattle.rows.proofs.FaultLaws.{verdict_good, good_words}
+use Rattle.rows.proofs.FaultLaws.{good_words}
 use Rattle.cue.specs.Sizes.{size_limit}
 
 -- one entry more, at its place
@@ -107,7 +110,7 @@ module _ {s : List ℕ} {from n : ℕ} where
               onto_onto I.es (e ∷ []) (items (n - (k + 1)) (drop next s));
         }
 
-    module _ (h : n ≤ k) {r : Content} {f : ℕ} (F : FaultIs r ws n f) where
+    module _ (h : n ≤ k) {r : Content} {f : Option Fault} (F : FaultIs r ws n f) where
       many : length I.es ≡ n
       many = let l = I.long in let q = I.few in omega arith
 
@@ -118,8 +121,8 @@ module _ {s : List ℕ} {from n : ℕ} where
           items_done : items n (drop from s) ≡ got I.es (drop at s)
           items_done = I.left ∙ (let q : n - k ≡ 0 = omega arith in rw q (unfold items in ap (λ l. got l (drop at s)) (append-nil I.es)))
 
-      pub items_words : f ≡ 0 → ws ≡ strip (row I.es)
-      items_words z = I.words ∙ good_words r I.es (F.checks I.es [] many I.words ∙ verdict_good f I.es [] z)
+      pub items_words : f ≡ None → ws ≡ strip (row I.es)
+      items_words z = I.words ∙ good_words r I.es (F.checks I.es [] many I.words ∙ rw z)
 
 -- ---- what the loop over lines keeps: i of the lines are read, from `from` to `at`, and their words stored
 pub record RowsRead (s key : List ℕ) (from : ℕ) (r : Content) (lines n : ℕ) (ws : List (List ℕ)) (at i : ℕ) : Type 0 where
@@ -163,37 +166,24 @@ module _ {s key : List ℕ} {from : ℕ} {r : Content} {lines n : ℕ} where
     pub rows_done : lines ≤ i → rows key r lines n (drop from s) ≡ got R.t (drop at s)
     rows_done h = R.left ∙ (let q : lines - i ≡ 0 = omega arith in rw q (unfold rows in ap (λ l. got l (drop at s)) (append-nil R.t)))
 
--- ---- the answers of the whole
-module _ {A W : Type 0} {Holds : A → W → Type 0} {part : Got A} {s : List ℕ} {refusal next : ℕ} {held : W} where
-  pub reads_fault : ¬ (refusal ≡ 0) → part ≡ refused refusal → Reads Holds part s refusal next held
-  reads_fault n e = record { fault = λ h. e; found = λ h. absurd (n h) }
-
-  pub reads_found : refusal ≡ 0 → Found Holds part s next held → Reads Holds part s refusal next held
-  reads_found h f = record { fault = λ n. absurd (n h); found = λ h. f }
-
 -- ---- lines that may be missing
 module _ (key : List ℕ) (r : Content) (lines n : ℕ) where
   abbrev lines_of : Section
   lines_of = record { key = key; content = r; lines = lines; items = n }
 
-  pub lines_missing : (s : List ℕ) (from : ℕ) {held : List (List ℕ)} → LiteralAt s from key false → from ≤ length s →
-      held ≡ strips (λ i j. absent) → OptionalIs key r lines n s from (record { refusal = 0; given = false; next = from }) held
-  lines_missing s from l h e =
-      reads_found refl
-      (record { value = none; is = optional_none lines_of (drop from s) 2 l; within = h; words = record { is = refl; words = e } })
+  pub lines_missing : (s : List ℕ) (from : ℕ) → LiteralAt s from key false → from ≤ length s → OptionalIs key r lines n s from (Ok (None, from))
+  lines_missing s from l h = record { value = none; is = optional_none lines_of (drop from s) 2 l; within = h; words = refl }
 
-  pub lines_given : (s : List ℕ) (from : ℕ) {p : Place} {held : List (List ℕ)} → LiteralAt s from key true →
-      RowsAre (rows key r lines n (drop from s)) s p held →
-      OptionalIs key r lines n s from (record { refusal = p.refusal; given = true; next = p.next }) held
-  lines_given s from (l, h) R =
+  pub lines_refused : (s : List ℕ) (from : ℕ) (e : Refusal) → LiteralAt s from key true → rows key r lines n (drop from s) ≡ refused (number e) →
+      OptionalIs key r lines n s from (Err e)
+  lines_refused s from e (l, h) R = optional_refused lines_of (drop from s) _ l _ R
+
+  pub lines_given : (s : List ℕ) (from : ℕ) {next : ℕ} {held : List (List ℕ)} → LiteralAt s from key true →
+      RowsAre (rows key r lines n (drop from s)) s (Ok next) held → OptionalIs key r lines n s from (Ok (Some held, next))
+  lines_given s from (l, h) F =
       record {
-        fault = λ f. optional_refused lines_of (drop from s) _ l _ (R.fault f);
-        found = λ z.
-            let F = R.found z in
-            record {
-              value = some (table F.value);
-              is = optional_some lines_of (drop from s) _ l F.value _ F.is;
-              within = F.within;
-              words = record { is = refl; words = F.words };
-            };
+        value = some (table F.value);
+        is = optional_some lines_of (drop from s) _ l F.value _ F.is;
+        within = F.within;
+        words = ap Some F.words;
       }

@@ -1,17 +1,16 @@
 -- What the functions that read lines of items promise.
-use Rattle.std.specs.Prelude.{◌≡◌, List, [], ◌∷◌, Bool, true, false, cond, ℕ, zero, suc, ◌+◌, ◌≤◌, eqb, length, drop}
-use Rattle.std.proofs.Math.Option.{Option}
+use Rattle.std.specs.Prelude.{◌≡◌, List, [], ◌∷◌, Bool, true, false, ℕ, ◌+◌, ◌≤◌, length, drop, Option, Some, None, Result, Ok, Err}
 use Rattle.maxplus.specs.Entry.{E}
 use Rattle.maxplus.specs.Finite.{map_l}
 use Rattle.sheet.specs.Sheet as sheet
-use Rattle.maxplus.specs.Tables.{Mat}
-use Rattle.sheet.specs.Sheet.{Got, got, refused, limit, literal, absent?, no_size, out_of_range, checked, row, table, optional, given, given_table}
-use Rattle.rows.specs.Grid.{strip, strips}
+use Rattle.sheet.specs.Sheet.{Got, got, refused, limit, literal, absent?, no_size, out_of_range, checked, row, table, optional}
+use Rattle.refusals.specs.Numbers.{number}
+use Rattle.refusals.specs.declared.Refusal.{Refusal}
+use Rattle.rows.specs.Grid.{strip, strips, strips_given}
 use Rattle.rows.specs.declared.Items.{Items}
 use Rattle.rows.specs.declared.Items.TheVariants as content
-use Rattle.rows.specs.declared.Faults.{Faults}
-use Rattle.rows.specs.declared.Place.{Place}
-use Rattle.rows.specs.declared.Optional.{Optional}
+use Rattle.rows.specs.declared.Fault.{Fault}
+use Rattle.rows.specs.declared.Fault.TheVariants as fault
 use Rattle.items.specs.Inner as items
 
 -- a number out of range counts as the first one past the limit
@@ -32,26 +31,34 @@ abbrev pub words_of : List E → List ℕ
 words_of es = strip (row (map_l clip es))
 
 -- the kinds of fault that a line's entries can have, in order
-abbrev pub faults : sheet.Content → Faults
-faults sheet.size = record { count = 2; order = 2 ∷ 3 ∷ [] }
-faults sheet.entry = record { count = 1; order = 4 ∷ 0 ∷ [] }
-faults sheet.mark = record { count = 2; order = 4 ∷ 5 ∷ [] }
+abbrev pub faults : sheet.Content → List Fault
+faults sheet.size = fault.AbsentSize ∷ fault.NoSize ∷ []
+faults sheet.entry = fault.OutOfRange ∷ []
+faults sheet.mark = fault.OutOfRange ∷ fault.AbsentMark ∷ []
 
--- an entry has the fault of a kind: 3, 4, or that it is absent
-abbrev pub has_fault : ℕ → E → Bool
-has_fault kind e = cond (eqb kind 3) (no_size e) (cond (eqb kind 4) (out_of_range e) (absent? e))
+-- the number of its refusal; an entry has it
+abbrev pub fault_number : Fault → ℕ
+fault_number fault.AbsentSize = 2
+fault_number fault.NoSize = 3
+fault_number fault.OutOfRange = 4
+fault_number fault.AbsentMark = 5
 
--- what was read, or the refusal k, where 0 is none
-abbrev pub verdict : {A : Type 0} → ℕ → A → List ℕ → Got A
-verdict zero a s = got a s
-verdict (suc k) a s = refused (suc k)
+abbrev pub has_fault : Fault → E → Bool
+has_fault fault.AbsentSize e = absent? e
+has_fault fault.NoSize e = no_size e
+has_fault fault.OutOfRange e = out_of_range e
+has_fault fault.AbsentMark e = absent? e
 
--- k is the refusal of a line of n words, where r is what they may be, for whatever entries the words stand
-pub record FaultIs (r : sheet.Content) (ws : List ℕ) (n k : ℕ) : Type 0 where
-  pub checks : (es : List E) (s : List ℕ) → length es ≡ n → ws ≡ words_of es → checked r es s ≡ verdict k es s
+-- what was read, or the refusal of a fault
+abbrev pub verdict : {A : Type 0} → Option Fault → A → List ℕ → Got A
+verdict None a s = got a s
+verdict (Some f) a s = refused (fault_number f)
 
--- What a function that reads the bytes s gives for a part of the sheet: the number of its refusal; or 0, the part in words, and the place
--- behind it.
+-- f is the first fault of a line of n words, where r is what they may be, for whatever entries the words stand
+pub record FaultIs (r : sheet.Content) (ws : List ℕ) (n : ℕ) (f : Option Fault) : Type 0 where
+  pub checks : (es : List E) (s : List ℕ) → length es ≡ n → ws ≡ words_of es → checked r es s ≡ verdict f es s
+
+-- What a function that reads the bytes s gives for a part of the sheet: the place behind it, and the part in words; or its refusal.
 module _ {A W : Type 0} (Holds : A → W → Type 0) (part : Got A) (s : List ℕ) where
   pub record Found (next : ℕ) (held : W) : Type 0 where
     pub value : A
@@ -59,18 +66,16 @@ module _ {A W : Type 0} (Holds : A → W → Type 0) (part : Got A) (s : List �
     pub within : next ≤ length s
     pub words : Holds value held
 
-  pub record Reads (refusal next : ℕ) (held : W) : Type 0 where
-    pub fault : ¬ (refusal ≡ 0) → part ≡ refused refusal
-    pub found : refusal ≡ 0 → Found next held
+  abbrev pub Reads : Result ℕ Refusal → W → Type 0
+  Reads (Ok next) held = Found next held
+  Reads (Err r) held = part ≡ refused (number r)
 
-abbrev pub RowsAre : Got (List (List E)) → List ℕ → Place → List (List ℕ) → Type 0
-RowsAre g s r held = Reads (λ t ws. ws ≡ strips (table t)) g s r.refusal r.next held
+abbrev pub RowsAre : Got (List (List E)) → List ℕ → Result ℕ Refusal → List (List ℕ) → Type 0
+RowsAre g s r held = Reads (λ t ws. ws ≡ strips (table t)) g s r held
 
--- lines that may be missing: whether they are there, and their words
-pub record GivenAs (there : Bool) (c : Option Mat) (ws : List (List ℕ)) : Type 0 where
-  pub is : there ≡ given c
-  pub words : ws ≡ strips (given_table c)
-
-abbrev pub OptionalIs : List ℕ → sheet.Content → ℕ → ℕ → List ℕ → ℕ → Optional → List (List ℕ) → Type 0
-OptionalIs key r lines n s from o held =
-    Reads (GivenAs o.given) (optional (record { key = key; content = r; lines = lines; items = n }) (drop from s)) s o.refusal o.next held
+-- lines that may be missing
+abbrev pub OptionalIs : List ℕ → sheet.Content → ℕ → ℕ → List ℕ → ℕ → Result (Option (List (List ℕ)) × ℕ) Refusal → Type 0
+OptionalIs key r lines n s from (Ok (held, next)) =
+    Found (λ c ws. ws ≡ strips_given c) (optional (record { key = key; content = r; lines = lines; items = n }) (drop from s)) s next held
+OptionalIs key r lines n s from (Err e) =
+    optional (record { key = key; content = r; lines = lines; items = n }) (drop from s) ≡ refused (number e)

@@ -5,29 +5,16 @@ ghost use Rattle.std.specs.Prelude.{◌≡◌, ◌≤◌, length, drop};
 ghost use Rattle.words.specs.Words.{entry};
 ghost use Rattle.sheet.specs.Sheet.{limit, ended, no_size, out_of_range};
 ghost use Rattle.sheet.specs.Sheet as sheet;
+ghost use Rattle.refusals.specs.Numbers.{number};
 ghost use Rattle.items.specs.Inner.{ItemIs};
-ghost use Rattle.rows.specs.Inner.{LiteralAt, FaultIs, RowsAre, OptionalIs, faults, has_fault, content_of};
+ghost use Rattle.rows.specs.Inner.{LiteralAt, FaultIs, RowsAre, OptionalIs, faults, fault_number, has_fault, content_of};
 ghost use Rattle.cue.specs.Sizes.{size_limit};
 
 use items::{Item, item_at};
+use refusals::Refusal;
 
 // Entries lie from -LIMIT to LIMIT.
 const LIMIT: u64 = 100000;
-
-// The kinds of fault that an item of good form can have, by their refusals.
-const ABSENT_SIZE: u8 = 2;
-
-const NO_SIZE: u8 = 3;
-
-const OUT_OF_RANGE: u8 = 4;
-
-const ABSENT_MARK: u8 = 5;
-
-// Six words of entries, absent past the last: a row of a table, the floors or the due marks.
-#[derive(Clone, Copy)]
-pub struct Row {
-    pub at: [u64; 6],
-}
 
 // What the items of a line may be: a size, an entry, a due mark.
 #[derive(Clone, Copy)]
@@ -37,30 +24,18 @@ pub enum Items {
     Mark,
 }
 
-// The kinds of fault that the items of a line can have, in the order in which they are looked for: the first `count` of `order`.
+// The kinds of fault that an item of good form can have.
 #[derive(Clone, Copy)]
-struct Faults {
-    count: usize,
-    order: [u8; 2],
+enum Fault {
+    AbsentSize,
+    NoSize,
+    OutOfRange,
+    AbsentMark,
 }
 
-// The place behind what was read; or a refusal, 2 to 5.
-#[derive(Clone, Copy)]
-pub struct Place {
-    pub refusal: u8,
-    pub next: usize,
-}
-
-// Whether lines that may be missing are there, and the place behind them; or a refusal, 2 to 5.
-#[derive(Clone, Copy)]
-pub struct Optional {
-    pub refusal: u8,
-    pub given: bool,
-    pub next: usize,
-}
-
-// Reads `lines` lines of `count` items, each with the same key, into lent rows, and leaves them at the first fault met. A line is read to its
-// end before its items are judged: a wrong form (2) comes before what the items are, and that goes by kind of fault and not by item.
+// Reads `lines` lines of `count` items, each with the same key, into lent rows, and says where they end, or leaves them at the first fault met. A
+// line is read to its end before its items are judged: a wrong form (2) comes before what the items are, and that goes by kind of fault and not by
+// item. The rows are lent, since a table that comes back by value is copied on its way: 490 ns for a kind of line and not 180.
 pub fn read_rows(
     s: &[u8],
     from: usize,
@@ -69,51 +44,49 @@ pub fn read_rows(
     lines: usize,
     count: usize,
     rows: &mut [[u64; 6]; 6],
-) -> Place
+) -> Result<usize, Refusal>
     requires { (from ≤ length s.now) × (lines ≤ size_limit) × (count ≤ size_limit) }
     ensures { RowsAre (sheet.rows key.now (content_of content) lines count (drop from s.now)) s.now result
         rows.new }
 {
-    let cleared = [[0u64; 6]; 6];
-    *rows = cleared;
+    *rows = [[0u64; 6]; 6];
     let mut at = from;
-    let mut refusal: u8 = 0;
-    let mut i: usize = 0;
-    'lines: while i < lines {
+    let mut met = None;
+    'lines: for i in 0..lines {
         if !literal_at(s, at, key) {
-            refusal = 2;
+            met = Some(Refusal::WrongForm);
             break 'lines;
         }
         at += key.len();
         let mut row = [0u64; 6];
-        let mut k: usize = 0;
-        'items: while k < count {
+        'items: for k in 0..count {
             match ended_item(s, at, count - k - 1) {
-                Item::Entry(word, next) => {
-                    row[k] = word;
-                    at = next;
+                Some(item) => {
+                    row[k] = item.word;
+                    at = item.next;
                 }
-                Item::Faulty => {
-                    refusal = 2;
+                None => {
+                    met = Some(Refusal::WrongForm);
                     break 'lines;
                 }
             }
-            k += 1;
         }
-        refusal = first_fault(content, &row, count);
-        if refusal != 0 {
-            break 'lines;
+        match first_fault(content, &row, count) {
+            Some(fault) => {
+                met = Some(fault.refusal());
+                break 'lines;
+            }
+            None => rows[i] = row,
         }
-        rows[i] = row;
-        i += 1;
     }
-    Place {
-        refusal: refusal,
-        next: at,
+    match met {
+        Some(refusal) => Err(refusal),
+        None => Ok(at),
     }
 }
 
-// Reads such lines where a sheet may have or not have them: the key that comes next decides. Without them every word is absent.
+// Reads such lines where a sheet may have or not have them, which the key that comes next decides: their rows, if they are there, and the place
+// behind them. What a kind of line is like is said in the words of the call, as above: a struct of them would be built for each call and taken apart.
 pub fn read_optional(
     s: &[u8],
     from: usize,
@@ -121,46 +94,35 @@ pub fn read_optional(
     content: Items,
     lines: usize,
     count: usize,
-    rows: &mut [[u64; 6]; 6],
-) -> Optional
+) -> Result<(Option<[[u64; 6]; 6]>, usize), Refusal>
     requires { (from ≤ length s.now) × (lines ≤ size_limit) × (count ≤ size_limit) }
-    ensures { OptionalIs key.now (content_of content) lines count s.now from result rows.new }
+    ensures { OptionalIs key.now (content_of content) lines count s.now from result }
 {
     if !literal_at(s, from, key) {
-        let cleared = [[0u64; 6]; 6];
-        *rows = cleared;
-        return Optional {
-            refusal: 0,
-            given: false,
-            next: from,
-        };
+        return Ok((None, from));
     }
-    let read = read_rows(s, from, key, content, lines, count, rows);
-    Optional {
-        refusal: read.refusal,
-        given: true,
-        next: read.next,
-    }
+    let mut rows = [[0u64; 6]; 6];
+    let next = read_rows(s, from, key, content, lines, count, &mut rows)?;
+    Ok((Some(rows), next))
 }
 
 // The item at `at`, which `left` more of its line follow, with the byte behind it: a comma, or LF behind the last.
-fn ended_item(s: &[u8], at: usize, left: usize) -> Item
+fn ended_item(s: &[u8], at: usize, left: usize) -> Option<Item>
     requires { at ≤ length s.now }
     ensures { ItemIs limit (ended left) s.now at result }
 {
-    match item_at(s, at, LIMIT) {
-        Item::Entry(word, next) => {
-            let end = if left == 0 { b'\n' } else { b',' };
-            if s.len() <= next {
-                return Item::Faulty;
-            }
-            if s[next] != end {
-                return Item::Faulty;
-            }
-            Item::Entry(word, next + 1)
-        }
-        Item::Faulty => Item::Faulty,
+    let item = item_at(s, at, LIMIT)?;
+    let end = if left == 0 { b'\n' } else { b',' };
+    if s.len() <= item.next {
+        return None;
     }
+    if s[item.next] != end {
+        return None;
+    }
+    Some(Item {
+        word: item.word,
+        next: item.next + 1,
+    })
 }
 
 // The bytes at `at` begin with the key.
@@ -168,71 +130,59 @@ pub fn literal_at(s: &[u8], at: usize, key: &[u8]) -> bool
     requires { at ≤ length s.now }
     ensures { LiteralAt s.now at key.now result }
 {
-    let mut i: usize = 0;
-    while i < key.len() {
-        if s.len() - at <= i {
-            return false;
-        }
-        if s[at + i] != key[i] {
-            return false;
-        }
-        i += 1;
-    }
-    true
+    s[at..].starts_with(key)
 }
 
-// The refusal of a line whose items have their form, or 0: for each kind of fault in order, for each item, left at the first hit.
-fn first_fault(content: Items, row: &[u64; 6], count: usize) -> u8
+// The fault of a line whose items have their form: for each kind of fault in order, for each item, left at the first hit.
+fn first_fault(content: Items, row: &[u64; 6], count: usize) -> Option<Fault>
     requires { count ≤ size_limit }
     ensures { FaultIs (content_of content) row.now count result }
 {
-    let faults = faults_of(content);
-    let many = faults.count;
-    let order = faults.order;
-    let mut fault: u8 = 0;
-    let mut i: usize = 0;
-    'kinds: while i < many {
-        let kind = order[i];
-        let mut k: usize = 0;
-        while k < count {
-            if faulty(kind, row[k]) {
-                fault = kind;
+    let mut met = None;
+    'kinds: for fault in faults_of(content) {
+        for word in &row[..count] {
+            if fault.met_by(*word) {
+                met = Some(*fault);
                 break 'kinds;
             }
-            k += 1;
         }
-        i += 1;
     }
-    fault
+    met
 }
 
-fn faults_of(content: Items) -> Faults
-    ensures { result ≡ faults (content_of content) }
+// The kinds of fault that the items of a line can have, in the order in which they are looked for.
+fn faults_of(content: Items) -> &'static [Fault]
+    ensures { result.now ≡ faults (content_of content) }
 {
     match content {
-        Items::Size => Faults {
-            count: 2,
-            order: [ABSENT_SIZE, NO_SIZE],
-        },
-        Items::Entry => Faults {
-            count: 1,
-            order: [OUT_OF_RANGE, 0],
-        },
-        Items::Mark => Faults {
-            count: 2,
-            order: [OUT_OF_RANGE, ABSENT_MARK],
-        },
+        Items::Size => &[Fault::AbsentSize, Fault::NoSize],
+        Items::Entry => &[Fault::OutOfRange],
+        Items::Mark => &[Fault::OutOfRange, Fault::AbsentMark],
     }
 }
 
-// The entry has this kind of fault; an absent size and an absent due mark are asked for alike.
-fn faulty(kind: u8, word: u64) -> bool
-    ensures { result ≡ has_fault kind (entry word) }
-{
-    match kind {
-        NO_SIZE => no_size(word),
-        OUT_OF_RANGE => out_of_range(word),
-        _ => !words::present(word),
+impl Fault {
+    // An absent size is a wrong form.
+    fn refusal(self) -> Refusal
+        ensures { number result ≡ fault_number self }
+    {
+        match self {
+            Fault::AbsentSize => Refusal::WrongForm,
+            Fault::NoSize => Refusal::NoSize,
+            Fault::OutOfRange => Refusal::OutOfRange,
+            Fault::AbsentMark => Refusal::MarkAbsent,
+        }
+    }
+
+    // The entry has this kind of fault; an absent size and an absent due mark are asked for alike.
+    fn met_by(self, word: u64) -> bool
+        ensures { result ≡ has_fault self (entry word) }
+    {
+        match self {
+            Fault::NoSize => no_size(word),
+            Fault::OutOfRange => out_of_range(word),
+            Fault::AbsentSize | Fault::AbsentMark => !words::present(word),
+        }
     }
 }
 

@@ -1,8 +1,7 @@
 // Reading's case table. Standard input holds cases, each `label|sheet;`; standard output gets a line for each: the refusal, or the sheet read.
 #![tactic(auto)]
 
-use reading::SheetWords;
-use rows::Row;
+use reading::{Measure, SheetWords};
 
 // One word of a table: a blank, and the number or a minus.
 fn put_word(word: u64) {
@@ -20,91 +19,71 @@ fn put_word(word: u64) {
     io::print_decimal(1, words::above(word));
 }
 
-fn put_row(at: [u64; 6], count: usize) {
-    let mut k: usize = 0;
-    while k < 6 {
-        if k < count {
-            put_word(at[k]);
-        }
-        k += 1;
+fn put_row(row: &[u64; 6], count: usize) {
+    for word in row.iter().take(count) {
+        put_word(*word);
     }
 }
 
-fn put_rows(key: &[u8], rows: [Row; 6], lines: usize, count: usize) {
-    let mut i: usize = 0;
-    while i < 6 {
-        if i < lines {
-            io::write_all(1, key);
-            let row = rows[i];
-            let at = row.at;
-            put_row(at, count);
-        }
-        i += 1;
+fn put_rows(key: &[u8], rows: &[[u64; 6]; 6], lines: usize, count: usize) {
+    for row in rows.iter().take(lines) {
+        io::write_all(1, key);
+        put_row(row, count);
     }
 }
 
-fn put_marks(t: SheetWords) {
-    let floor = t.floor;
-    let due = t.due;
+fn put_marks(floor: &[u64; 6], due: &[u64; 6], panels: usize, triggers: usize) {
     io::write_all(1, b" floor");
-    put_row(floor, t.panels);
+    put_row(floor, panels);
     io::write_all(1, b" due");
-    put_row(due, t.triggers);
+    put_row(due, triggers);
+}
+
+fn put_sheet(t: &SheetWords) {
+    if let Measure::Spread = t.measure {
+        io::write_all(1, b" rule 2");
+    }
+    put_rows(b" lag", &t.lag, t.panels, t.triggers);
+    if let Measure::Marks { floor, due } = t.measure {
+        put_marks(&floor, &due, t.panels, t.triggers);
+    }
+    put_rows(b" after", &t.after, t.triggers, t.triggers);
+    if let Some(land) = t.land {
+        put_rows(b" land", &land, t.triggers, t.panels);
+    }
+    if let Some(last) = t.last {
+        io::write_all(1, b" last");
+        put_row(&last, t.panels);
+    }
 }
 
 fn put_reading(s: &[u8]) {
-    let r = reading::read_sheet(s);
-    if r.refusal != 0 {
-        io::write_all(1, b" refused=");
-        io::print_decimal(1, r.refusal as u64);
-        return;
-    }
-    let t = r.sheet;
-    let lag = t.lag;
-    let after = t.after;
-    if t.ruled {
-        io::write_all(1, b" rule 2");
-    }
-    put_rows(b" lag", lag, t.panels, t.triggers);
-    if !t.ruled {
-        put_marks(t);
-    }
-    put_rows(b" after", after, t.triggers, t.triggers);
-    let land = t.land;
-    if land.given {
-        let lands = land.rows;
-        put_rows(b" land", lands, t.triggers, t.panels);
-    }
-    let last = t.last;
-    if last.given {
-        let moments = last.at;
-        io::write_all(1, b" last");
-        put_row(moments, t.panels);
+    match reading::read_sheet(s) {
+        Ok(t) => put_sheet(&t),
+        Err(refusal) => {
+            io::write_all(1, b" refused=");
+            io::print_decimal(1, u64::from(refusal.number()));
+        }
     }
 }
 
 // One case: its label, and what its sheet gives.
 fn one(s: &[u8]) {
-    let mut i: usize = 0;
-    while i < s.len() {
-        if s[i] == b'|' {
-            io::write_all(1, &s[0..i]);
+    for (i, b) in s.iter().enumerate() {
+        if *b == b'|' {
+            io::write_all(1, &s[..i]);
             io::write_all(1, b":");
             put_reading(&s[i + 1..]);
         }
-        i += 1;
     }
 }
 
+// What stands behind the last semicolon is no case.
 fn cases(s: &[u8]) {
-    let mut from: usize = 0;
-    let mut i: usize = 0;
-    while i < s.len() {
-        if s[i] == b';' {
-            one(&s[from..i]);
-            from = i + 1;
+    for case in s.split_inclusive(|b| *b == b';') {
+        if let Some(case) = case.strip_suffix(b";") {
+            one(case);
         }
-        i += 1;
     }
     io::write_all(1, b"\n");
 }

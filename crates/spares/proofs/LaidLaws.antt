@@ -1,13 +1,13 @@
 -- A packed set laid out, one trigger more at a time: u is the test for the triggers in use, set the packed set.
 use mathlib.Core.Path.{◌≡◌, refl, ap, sym, ◌∙◌}
 use mathlib.Core.Bool.{Bool, true, false}
-use Prim.Native.Nat.{ℕ, ◌+◌, ◌^◌, ◌≤◌, ◌<◌}
+use Prim.Native.Nat.{ℕ, ◌+◌, ◌≤◌, ◌<◌}
 use native.Mathlib.Omega.{arith}
 use Rattle.maxplus.specs.Finite.{sum, byte_of}
 use Rattle.maxplus.specs.Packing.{rank, filled}
 use Rattle.maxplus.proofs.PackingLaws.{rank_few, filled_rank, filled_other}
 use Rattle.trigger_sets.specs.Sets.{bit}
-use Rattle.trigger_sets.proofs.ByteLaws.{byte_ext, byte_low, bit_at, byte_none, byte_set, byte_clear, bit_more, bit_low}
+use Rattle.trigger_sets.proofs.ByteLaws.{byte_ext, bit_at, byte_none, byte_set, byte_clear, shifted, bit_here}
 use Rattle.spares.specs.declared.Places.{Places}
 use Rattle.spares.specs.Using.{PlacesOf}
 use Rattle.spares.proofs.AgreeLaws.{passes, fails, rank_yes, rank_no, filled_same}
@@ -18,51 +18,42 @@ module _ (u : ℕ → Bool) (set : ℕ) where
   laid = filled u (λ j. false) (bit set)
 
   -- the triggers below j have been looked at
-  pub record Laying (byte next k j : ℕ) : Type 0 where
+  pub record Laying (byte k j : ℕ) : Type 0 where
     pub byte_is : byte ≡ byte_of j laid
-    pub bit_is : next ≡ 2 ^ j
     pub rank_is : k ≡ rank u j
 
-  pub laying_none : Laying 0 1 0 0
-  laying_none = record { byte_is = byte_none _; bit_is = refl; rank_is = unfold rank sum in refl }
+  pub laying_none : Laying 0 0 0
+  laying_none = record { byte_is = byte_none _; rank_is = unfold rank sum in refl }
 
-  module _ {byte next k j : ℕ} (f : Laying byte next k j) where
+  module _ {byte k j : ℕ} (f : Laying byte k j) where
     pub laying_few : k ≤ j
     laying_few = let a = rank_few u j in let b = f.rank_is in omega arith
-
-    pub laying_low : j < 6 → (next ≤ 32) × (byte < next)
-    laying_low h =
-        let b = f.bit_is in
-        (bit_low j next b h, let e = f.byte_is in let l = byte_low j laid in omega arith)
 
     laid_is : u j ≡ true → laid j ≡ bit set k
     laid_is e = filled_rank u _ (bit set) j (passes e) ∙ ap (bit set) (sym f.rank_is)
 
     -- one trigger more, by the answers of the tests
-    pub laying_in : u j ≡ true → bit set k ≡ true → Laying (byte + next) (next + next) (k + 1) (j + 1)
-    laying_in e h = record {
-      byte_is = byte_set laid j byte next f.byte_is f.bit_is (laid_is e ∙ h);
-      bit_is = bit_more j next f.bit_is;
+    pub laying_in : j < 6 → u j ≡ true → bit set k ≡ true → Laying (byte + shifted j) (k + 1) (j + 1)
+    laying_in l e h = record {
+      byte_is = byte_set laid j byte (shifted j) f.byte_is (bit_here j l) (laid_is e ∙ h);
       rank_is = rw (rank_yes u j e, f.rank_is);
     }
 
-    pub laying_out : u j ≡ true → bit set k ≡ false → Laying byte (next + next) (k + 1) (j + 1)
+    pub laying_out : u j ≡ true → bit set k ≡ false → Laying byte (k + 1) (j + 1)
     laying_out e h = record {
       byte_is = byte_clear laid j byte f.byte_is (laid_is e ∙ h);
-      bit_is = bit_more j next f.bit_is;
       rank_is = rw (rank_yes u j e, f.rank_is);
     }
 
-    pub laying_spare : u j ≡ false → Laying byte (next + next) k (j + 1)
+    pub laying_spare : u j ≡ false → Laying byte k (j + 1)
     laying_spare e = record {
       byte_is = byte_clear laid j byte f.byte_is (filled_other u _ _ j (fails e));
-      bit_is = bit_more j next f.bit_is;
       rank_is = f.rank_is ∙ sym (rank_no u j e);
     }
 
 -- all n have been looked at; the triggers in use are the bits of their set
-pub laying_all : {s : ℕ → Bool} {n : ℕ} {p : Places} {set byte next k j : ℕ} → PlacesOf s n p → j ≡ p.triggers →
-    Laying (bit p.used) set byte next k j → byte ≡ byte_of n (filled s (λ j. false) (bit set))
+pub laying_all : {s : ℕ → Bool} {n : ℕ} {p : Places} {set byte k j : ℕ} → PlacesOf s n p → j ≡ p.triggers →
+    Laying (bit p.used) set byte k j → byte ≡ byte_of n (filled s (λ j. false) (bit set))
 laying_all {s} {n} {p} {set} {j = j} h e f =
     f.byte_is ∙ ap (λ m. byte_of m (laid (bit p.used) set)) (e ∙ h.triggers_are) ∙
     byte_ext n _ _ (filled_same (bit p.used) s n agree _ (bit set))

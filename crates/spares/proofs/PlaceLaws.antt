@@ -2,7 +2,7 @@
 use mathlib.Core.Path.{◌≡◌, refl, ap, sym, subst, ◌∙◌}
 use mathlib.Core.Bool.{Bool, true, false, not, ◌&&◌}
 use mathlib.Core.List.{List}
-use Prim.Native.Nat.{ℕ, ◌+◌, ◌^◌, ◌≤◌, ◌<◌}
+use Prim.Native.Nat.{ℕ, ◌+◌, ◌≤◌, ◌<◌}
 use native.Mathlib.Omega.{arith}
 use native.Mathlib.Decide.{ℕ_discrete}
 use borrow.Author.Tests.{lt-ltb}
@@ -15,7 +15,7 @@ use Rattle.maxplus.proofs.PackingLaws.{rank_few, rank_all, placed, place_rank}
 use Rattle.cue.specs.Sizes.{size_limit}
 use Rattle.trigger_sets.specs.Sets.{bit}
 use Rattle.trigger_sets.proofs.BitLaws.{bit_none}
-use Rattle.trigger_sets.proofs.ByteLaws.{byte_ext, byte_low, byte_bit, bit_at, byte_none, byte_set, byte_clear, bit_more, bit_low}
+use Rattle.trigger_sets.proofs.ByteLaws.{byte_ext, byte_bit, bit_at, byte_none, byte_set, byte_clear, shifted, bit_here}
 use Rattle.spares.specs.declared.Places.{Places}
 use Rattle.spares.specs.Using.{PlacesOf, Pickable}
 use Rattle.spares.proofs.AgreeLaws.{rank_same, place_same, rank_yes, rank_no, place_before, place_here}
@@ -61,39 +61,29 @@ own_place {s} {n} u e k h =
 -- ---- the places, found by a test t
 module _ (t : ℕ → Bool) where
   -- the triggers below j have been looked at
-  pub record Found (at : List ℕ) (count used spares bit j : ℕ) : Type 0 where
+  pub record Found (at : List ℕ) (count used spares j : ℕ) : Type 0 where
     pub size : length at ≡ 6
     pub count_is : count ≡ rank t j
     pub at_are : (k : ℕ) → k < rank t j → get_or at k 0 ≡ place t j k
     pub used_is : used ≡ byte_of j t
     pub spares_are : spares ≡ byte_of j (λ i. not (t i))
-    pub bit_is : bit ≡ 2 ^ j
 
-  pub found_none : Found (replicate 6 0) 0 0 0 1 0
+  pub found_none : Found (replicate 6 0) 0 0 0 0
   found_none = record {
     size = refl;
     count_is = unfold rank sum in refl;
     at_are = λ k h. let e : rank t 0 ≡ 0 = (unfold rank sum in refl) in let x : ⊥ = omega arith in absurd x;
     used_is = byte_none _;
     spares_are = byte_none _;
-    bit_is = refl;
   }
 
-  module _ {at : List ℕ} {count used spares bit j : ℕ} (f : Found at count used spares bit j) where
-    -- the next place is one of the array, and the sums stay in a byte
+  module _ {at : List ℕ} {count used spares j : ℕ} (f : Found at count used spares j) where
+    -- the next place is one of the array
     pub found_few : count ≤ j
     found_few = let a = rank_few t j in let b = f.count_is in omega arith
 
-    pub found_low : j < 6 → (bit ≤ 32) × (used < bit) × (spares < bit)
-    found_low h =
-        let b = f.bit_is in (
-          bit_low j bit b h,
-          let u = f.used_is in let l = byte_low j t in omega arith,
-          let u = f.spares_are in let l = byte_low j (λ i. not (t i)) in omega arith,
-        )
-
     -- one trigger more, in use or spare by the answer b of its test
-    pub found_used : {b : Bool} → j < 6 → b ≡ t j → b ≡ true → Found (set at count j) (count + 1) (used + bit) spares (bit + bit) (j + 1)
+    pub found_used : {b : Bool} → j < 6 → b ≡ t j → b ≡ true → Found (set at count j) (count + 1) (used + shifted j) spares (j + 1)
     found_used h p y = record {
       size = simp length-set f.size;
       count_is = rw (rank_yes t j e, f.count_is);
@@ -105,16 +95,15 @@ module _ (t : ℕ → Bool) where
             let l' : k < rank t j = omega arith in
             rw (get_or-set_other at count k j 0 x, place_before t j k l') (f.at_are k l')
       ];
-      used_is = byte_set t j used bit f.used_is f.bit_is e;
+      used_is = byte_set t j used (shifted j) f.used_is (bit_here j h) e;
       spares_are = byte_clear _ j spares f.spares_are (ap not e);
-      bit_is = bit_more j bit f.bit_is;
     }
       where
         e : t j ≡ true
         e = sym p ∙ y
 
-    pub found_spare : {b : Bool} → b ≡ t j → b ≡ false → Found at count used (spares + bit) (bit + bit) (j + 1)
-    found_spare p y = record {
+    pub found_spare : {b : Bool} → j < 6 → b ≡ t j → b ≡ false → Found at count used (spares + shifted j) (j + 1)
+    found_spare h p y = record {
       size = f.size;
       count_is = f.count_is ∙ sym (rank_no t j e);
       at_are = λ k l.
@@ -122,19 +111,18 @@ module _ (t : ℕ → Bool) where
           let l' : k < rank t j = omega arith in
           rw (place_before t j k l') (f.at_are k l');
       used_is = byte_clear t j used f.used_is e;
-      spares_are = byte_set _ j spares bit f.spares_are f.bit_is (ap not e);
-      bit_is = bit_more j bit f.bit_is;
+      spares_are = byte_set _ j spares (shifted j) f.spares_are (bit_here j h) (ap not e);
     }
       where
         e : t j ≡ false
         e = sym p ∙ y
 
 -- all n have been looked at; s is the same test below n, and none passes it from there on
-pub found_all : {t s : ℕ → Bool} {at : List ℕ} {count used spares bit j n : ℕ} → n ≤ size_limit → j ≡ n →
-    Found t at count used spares bit j →
+pub found_all : {t s : ℕ → Bool} {at : List ℕ} {count used spares j n : ℕ} → n ≤ size_limit → j ≡ n →
+    Found t at count used spares j →
     ((i : ℕ) → T (s i) → i < n) → ((i : ℕ) → i < n → s i ≡ t i) →
     PlacesOf s n (record { triggers = n; count = count; at = at; used = used; spares = spares })
-found_all {t} {s} {at} {count} {used} {spares} {bit} {n = n} few e f inside agree = record {
+found_all {t} {s} {at} {count} {used} {spares} {n = n} few e f inside agree = record {
   inside = inside;
   few = few;
   triggers_are = refl;
@@ -144,5 +132,5 @@ found_all {t} {s} {at} {count} {used} {spares} {bit} {n = n} few e f inside agre
   spares_are = all.spares_are ∙ sym (byte_ext n _ _ (λ i h. ap not (agree i h)));
 }
   where
-    all : Found t at count used spares bit n
+    all : Found t at count used spares n
     all = rw e at f

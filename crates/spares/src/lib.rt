@@ -11,7 +11,7 @@ ghost use Rattle.spares.specs.Using.{tied, PlacesOf, Pickable, Picked, PickedTab
 
 use tables::column;
 use tables::largest::largest;
-use trigger_sets::{has, wide};
+use trigger_sets::has;
 
 // The triggers in use, in sheet order: the first `count` places of `at`. As sets: these, and the others, which are spare.
 #[derive(Clone, Copy)]
@@ -28,18 +28,12 @@ fn in_use(order: &[[u64; 6]; 6], lag: &[[u64; 6]; 6], j: usize, m: usize, n: usi
     requires { (j < 6) × (m ≤ size_limit) × (n ≤ size_limit) }
     ensures { result ≡ tied m n (meant order.now) (meant lag.now) j }
 {
-    let reach = column(lag, j);
-    if words::present(largest(reach, m)) {
-        return true;
-    }
-    if words::present(largest(order[j], n)) {
-        return true;
-    }
-    let awaited = column(order, j);
-    words::present(largest(awaited, n))
+    words::present(largest(column(lag, j), m))
+        || words::present(largest(order[j], n))
+        || words::present(largest(column(order, j), n))
 }
 
-// The places of the triggers in use, for n triggers and m panels.
+// The places of the triggers in use, for n triggers and m panels. A place is below six, so `as` loses nothing, where TryFrom would add an error.
 pub fn places_of(order: &[[u64; 6]; 6], lag: &[[u64; 6]; 6], m: usize, n: usize) -> Places
     requires { (m ≤ size_limit) × (n ≤ size_limit) }
     ensures { (s : ℕ → Bool) → ((j : ℕ) → T (s j) → j < n) →
@@ -49,9 +43,8 @@ pub fn places_of(order: &[[u64; 6]; 6], lag: &[[u64; 6]; 6], m: usize, n: usize)
     let mut count: usize = 0;
     let mut used: u8 = 0;
     let mut spares: u8 = 0;
-    let mut bit: u8 = 1;
-    let mut j: usize = 0;
-    while j < n {
+    for j in 0..n {
+        let bit = 1u8 << j;
         if in_use(order, lag, j, m, n) {
             at[count] = j as u8;
             count += 1;
@@ -59,15 +52,13 @@ pub fn places_of(order: &[[u64; 6]; 6], lag: &[[u64; 6]; 6], m: usize, n: usize)
         } else {
             spares += bit;
         }
-        bit += bit;
-        j += 1;
     }
     Places {
         triggers: n,
-        count: count,
-        at: at,
-        used: used,
-        spares: spares,
+        count,
+        at,
+        used,
+        spares,
     }
 }
 
@@ -76,12 +67,9 @@ pub fn picked(row: [u64; 6], p: Places) -> [u64; 6]
     requires { Pickable p }
     ensures { Picked p row result }
 {
-    let at = p.at;
     let mut r = [0u64; 6];
-    let mut k: usize = 0;
-    while k < p.count {
-        r[k] = row[wide(at[k])];
-        k += 1;
+    for k in 0..p.count {
+        r[k] = row[usize::from(p.at[k])];
     }
     r
 }
@@ -91,12 +79,9 @@ fn picked_columns(table: &[[u64; 6]; 6], rows: usize, p: Places) -> [[u64; 6]; 6
     requires { (rows ≤ size_limit) × Pickable p }
     ensures { (i : ℕ) → i < rows → Picked p (get_or table.now i []) (get_or result i []) }
 {
-    let blank = [0u64; 6];
-    let mut r = [blank; 6];
-    let mut i: usize = 0;
-    while i < rows {
+    let mut r = [[0u64; 6]; 6];
+    for i in 0..rows {
         r[i] = picked(table[i], p);
-        i += 1;
     }
     r
 }
@@ -106,13 +91,9 @@ fn picked_rows(table: &[[u64; 6]; 6], p: Places) -> [[u64; 6]; 6]
     requires { Pickable p }
     ensures { (k : ℕ) → k < p.count → get_or result k [] ≡ get_or table.now (get_or p.at k 0) [] }
 {
-    let at = p.at;
-    let blank = [0u64; 6];
-    let mut r = [blank; 6];
-    let mut k: usize = 0;
-    while k < p.count {
-        r[k] = table[wide(at[k])];
-        k += 1;
+    let mut r = [[0u64; 6]; 6];
+    for k in 0..p.count {
+        r[k] = table[usize::from(p.at[k])];
     }
     r
 }
@@ -137,18 +118,14 @@ pub fn laid_set(set: u8, p: Places) -> u8
     ensures { (s : ℕ → Bool) (n : ℕ) → PlacesOf s n p → result ≡ byte_of n (filled s (λ j. false) (bit set)) }
 {
     let mut byte: u8 = 0;
-    let mut bit: u8 = 1;
     let mut k: usize = 0;
-    let mut j: usize = 0;
-    while j < p.triggers {
+    for j in 0..p.triggers {
         if has(p.used, j) {
             if has(set, k) {
-                byte += bit;
+                byte += 1 << j;
             }
             k += 1;
         }
-        bit += bit;
-        j += 1;
     }
     byte
 }

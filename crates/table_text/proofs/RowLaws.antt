@@ -1,12 +1,12 @@
 -- Laws of lines: how the text of a table grows, row by row, as a loop writes it; what words mean there.
 use mathlib.Core.Path.{◌≡◌, refl}
 use mathlib.Core.List.{List, [], ◌++◌}
-use Prim.Native.Nat.{ℕ, suc, ◌<◌}
+use Prim.Native.Nat.{ℕ, suc}
 use Rattle.maxplus.specs.Finite.{each}
 use lib.ListN.{get_or}
 use Rattle.maxplus.specs.Tables.{Mat}
 use Rattle.words.specs.Words.{entry}
-use Rattle.tables.specs.Held.{meant_v, Closely, CloselyV}
+use Rattle.tables.specs.Held.{meant_v}
 use Rattle.writing.specs.Numerals.{item}
 use Rattle.sheet_text.specs.SheetText.{row_text, rows_text}
 
@@ -20,9 +20,6 @@ module _ (key : List ℕ) (items : ℕ) (A : Mat) where
   rows_more i = refl
 
 -- ---- words: a row of them is what the table means there
-pub row_close : {m n c i : ℕ} {t : List (List ℕ)} → Closely m n c t → i < m → CloselyV n c (get_or t i [])
-row_close h q = record { at = λ j p. h.at _ j q p }
-
 pub item_meant : (row : List ℕ) (j : ℕ) → item (entry (get_or row j 0)) ≡ item (meant_v row j)
 unfolding meant_v
 item_meant row j = refl

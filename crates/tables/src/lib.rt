@@ -1,48 +1,25 @@
-// Tables of six by six words: out of a sheet's rows, the unit table, the larger of two, the product, a column.
+// Tables of six by six words: the unit table, the larger of two, the product, a column.
 #![tactic(auto)]
 
-ghost use Rattle.std.specs.Prelude.{◌≡◌, [], ℕ, ◌≤◌, ◌<◌, length, get_or};
+ghost use Rattle.std.specs.Prelude.{◌≡◌, ℕ, ◌≤◌, ◌<◌, length, get_or};
 ghost use Rattle.maxplus.specs.Entry.{◌⊗◌, ◌⊕◌};
 ghost use Rattle.maxplus.specs.Tables.{sup, mm, idm};
 ghost use Rattle.words.specs.Words.{entry, far, Near};
 ghost use Rattle.tables.specs.Held.{Square, cell, meant, meant_v, Holds, HoldsV, Closely, CloselyV, Raised};
 ghost use Rattle.cue.specs.Sizes.{size_limit};
 
-use rows::Row;
-
 pub mod differences;
 pub mod largest;
-
-// The table of a sheet's rows.
-pub fn table(rows: [Row; 6]) -> [[u64; 6]; 6]
-    ensures { (i : ℕ) → i < 6 → get_or result i [] ≡ (get_or rows i (record { at = [] })).at }
-{
-    let blank = [0u64; 6];
-    let mut r = [blank; 6];
-    let mut i: usize = 0;
-    while i < 6 {
-        let row = rows[i];
-        let at = row.at;
-        r[i] = at;
-        i += 1;
-    }
-    r
-}
 
 // "power 0 has 0 on the diagonal and absent elsewhere"
 pub fn identity() -> [[u64; 6]; 6]
     ensures { Holds 6 6 idm result }
 {
-    let blank = [0u64; 6];
-    let mut r = [blank; 6];
-    let mut i: usize = 0;
-    while i < 6 {
-        let mut j: usize = 0;
-        while j < 6 {
+    let mut r = [[0u64; 6]; 6];
+    for i in 0..6 {
+        for j in 0..6 {
             r[i][j] = unit_at(i, j);
-            j += 1;
         }
-        i += 1;
     }
     r
 }
@@ -58,16 +35,11 @@ pub fn joined(a: &[[u64; 6]; 6], b: &[[u64; 6]; 6], n: usize) -> [[u64; 6]; 6]
     requires { n ≤ size_limit }
     ensures { Square result × Holds n n (λ i j. meant a.now i j ⊕ meant b.now i j) result }
 {
-    let blank = [0u64; 6];
-    let mut r = [blank; 6];
-    let mut i: usize = 0;
-    while i < n {
-        let mut j: usize = 0;
-        while j < n {
+    let mut r = [[0u64; 6]; 6];
+    for i in 0..n {
+        for j in 0..n {
             r[i][j] = words::larger(a[i][j], b[i][j]);
-            j += 1;
         }
-        i += 1;
     }
     r
 }
@@ -77,12 +49,9 @@ pub fn product(a: &[[u64; 6]; 6], b: &[[u64; 6]; 6], m: usize, k: usize, n: usiz
     requires { (m ≤ size_limit) × (k ≤ size_limit) × (n ≤ size_limit) × Closely m k far a.now × Closely k n far b.now }
     ensures { Holds m n (mm k (meant a.now) (meant b.now)) result }
 {
-    let blank = [0u64; 6];
-    let mut r = [blank; 6];
-    let mut i: usize = 0;
-    while i < m {
+    let mut r = [[0u64; 6]; 6];
+    for i in 0..m {
         r[i] = row_product(a[i], b, k, n);
-        i += 1;
     }
     r
 }
@@ -93,16 +62,13 @@ fn row_product(row: [u64; 6], b: &[[u64; 6]; 6], k: usize, n: usize) -> [u64; 6]
     ensures { HoldsV n (λ j. sup k (λ l. meant_v row l ⊗ meant b.now l j)) result }
 {
     let mut r = [0u64; 6];
-    let mut l: usize = 0;
-    while l < k {
+    for l in 0..k {
         raise(&mut r, row[l], b[l], n);
-        l += 1;
     }
     r
 }
 
-// Raises each place of r to y shifted. Most entries of an order table are absent, and shifting by them adds nothing. The loop names the constant
-// end too, so that the compiler unrolls it: what it makes otherwise compares two words at a time and goes through memory.
+// Raises each place of r to y shifted. Most entries of an order table are absent, and shifting by them adds nothing.
 pub fn raise(r: &mut [u64; 6], shift: u64, y: [u64; 6], n: usize)
     requires { (n ≤ size_limit) × Near shift × CloselyV n far y × (length r.old ≡ 6) }
     ensures { Raised n (entry shift) (meant_v y) r.old r.new }
@@ -110,11 +76,9 @@ pub fn raise(r: &mut [u64; 6], shift: u64, y: [u64; 6], n: usize)
     if !words::present(shift) {
         return;
     }
-    let mut j: usize = 0;
-    while j < n && j < 6 {
+    for j in 0..n {
         let sum = words::plus(shift, y[j]);
         r[j] = words::larger(sum, r[j]);
-        j += 1;
     }
 }
 
@@ -124,10 +88,8 @@ pub fn column(table: &[[u64; 6]; 6], j: usize) -> [u64; 6]
     ensures { (i : ℕ) → i < 6 → get_or result i 0 ≡ cell table.now i j }
 {
     let mut r = [0u64; 6];
-    let mut i: usize = 0;
-    while i < 6 {
+    for i in 0..6 {
         r[i] = table[i][j];
-        i += 1;
     }
     r
 }

@@ -3,12 +3,11 @@ use mathlib.Core.Path.{◌≡◌, refl, ap, ap₂, sym, ◌∙◌}
 use mathlib.Core.List.{List, [], ◌∷◌, ◌++◌}
 use Prim.Native.Nat.{ℕ, zero, suc, ◌+◌, ◌-◌, ◌<◌, ◌≤◌}
 use native.Mathlib.Omega.{arith}
-use native.Mathlib.Decide.{ℕ_discrete}
+use native.Mathlib.Decide.{ℕ_discrete, dec_lt}
 use lib.Bits.{bit_and}
 use lib.Count.{count_trailing_zeros}
-use lib.ListN.{length, get_or, set, replicate, length-set, length-append}
+use lib.ListN.{length, get_or, set, replicate, length-set, length-append, get_or-replicate, get_or-eq_default}
 use lib.Seq.{get_or-set_same, get_or-set_other}
-use Rattle.tables.proofs.Loops.{blank_word}
 use Rattle.trigger_sets.specs.Sets.{members}
 use Rattle.walk.specs.Trace.{Event, fixing, whole, for_each, cut, serves, walk_from, walk_of, fixings, selections}
 use Rattle.walk.specs.State.{counts_of}
@@ -16,7 +15,8 @@ use Rattle.walk.specs.declared.Counts.{Counts}
 use Rattle.trigger_sets.proofs.MemberLaws.{members_split, members_none, members_few}
 use Rattle.walk.proofs.TraceLaws.{fixings_append, selections_append, selections_few}
 use Rattle.walk.proofs.Whole.{for_each_few, levels_few, most, most_few}
-use Rattle.tally.specs.Counting.{digit, left, Speaks, behind, ahead, tried, Remembered, CountReady, Counted}
+use Rattle.tally.specs.Counting.{digit, left, Speaks, behind, ahead, tried, unseen, Remembered, CountReady, Counted}
+use Rattle.tally.specs.declared.Seen.{Seen}
 use Rattle.cue.specs.Sizes.{size_limit}
 
 -- ---- as many fixings and as many selections
@@ -92,19 +92,19 @@ module _ (gains : List (List ℕ)) (f : ℕ) where
         omega arith
 
 -- ---- no trigger is left anywhere: nothing happens
-zero_at : (l : ℕ) → ◌≡◌ {A = ℕ} (get_or (replicate 6 0) l 0) 0
-zero_at l = blank_word l
+unseen_at : (l : ℕ) → get_or (replicate 6 unseen) l unseen ≡ unseen
+unseen_at l = elim (dec_lt l 6) [ yes h ↦ get_or-replicate 6 l unseen unseen h | no h ↦ get_or-eq_default (replicate 6 unseen) unseen {n = l} (omega arith) ]
 
 counts_eq : {r s : Counts} → r.steps ≡ s.steps → r.selections ≡ s.selections → r ≡ s
 counts_eq {r} {s} e h = ap₂ (λ (a b : ℕ). record { steps = a; selections = b }) e h
 
 module _ {gains : List (List ℕ)} {f : ℕ} where
-  pub remembered_start : f ≤ size_limit → Remembered gains f (replicate 6 0) (replicate 6 0) (replicate 6 0)
+  pub remembered_start : f ≤ size_limit → Remembered gains f (replicate 6 unseen)
   remembered_start few = record {
-    size = (refl, refl, refl);
-    at = λ l h. let e : ahead gains f l (get_or (replicate 6 0) l 0) ≡ [] = ap (ahead gains f l) (zero_at l) ∙ nothing l h in (
-      zero_at l ∙ sym (ap fixings e ∙ (unfold fixings in refl)),
-      zero_at l ∙ sym (ap (λ es. length (selections es)) e ∙ (unfold selections in refl)),
+    size = refl;
+    at = λ l h. let e = nothing l h in rw (unseen_at l) (
+      sym (ap fixings e ∙ (unfold fixings in refl)),
+      sym (ap (λ es. length (selections es)) e ∙ (unfold selections in refl)),
     );
   }
     where
@@ -115,8 +115,8 @@ module _ {gains : List (List ℕ)} {f : ℕ} where
       nothing l h = ahead_tried gains f few h 0 ∙ ap (tried gains f l 0) none ∙ tried_none gains f few h 0
 
   -- ---- from a level on
-  module _ {seen steps sels : List ℕ} (y : CountReady gains f seen steps sels) where
-    pub counted_whole : {l : ℕ} (w : ℕ) → l ≡ f → Counted gains f (ahead gains f l w) (record { steps = 0; selections = 1 }) seen steps sels
+  module _ {seen : List Seen} (y : CountReady gains f seen) where
+    pub counted_whole : {l : ℕ} (w : ℕ) → l ≡ f → Counted gains f (ahead gains f l w) (record { steps = 0; selections = 1 }) seen
     unfolding ahead walk_from
     counted_whole {l} w e = let z : f - l ≡ 0 = omega arith in record {
       steps_are = rw z (unfold fixings in refl);
@@ -124,8 +124,7 @@ module _ {gains : List (List ℕ)} {f : ℕ} where
       remembered = y.remembered;
     }
 
-    pub counted_again : {l w : ℕ} → l < f → get_or seen l 0 ≡ w →
-        Counted gains f (ahead gains f l w) (record { steps = get_or steps l 0; selections = get_or sels l 0 }) seen steps sels
+    pub counted_again : {l w : ℕ} → l < f → (get_or seen l unseen).left ≡ w → Counted gains f (ahead gains f l w) (get_or seen l unseen).counts seen
     counted_again {l} h e = record {
       steps_are = (y.remembered.at l h).0 ∙ ap (λ w. fixings (ahead gains f l w)) e;
       selections_are = (y.remembered.at l h).1 ∙ ap (λ w. length (selections (ahead gains f l w))) e;
@@ -133,24 +132,17 @@ module _ {gains : List (List ℕ)} {f : ℕ} where
     }
 
   -- a level has been worked out, and is remembered
-  pub counted_level : {l : ℕ} (w : ℕ) {c : Counts} {seen steps sels : List ℕ} → f ≤ size_limit → l < f →
-      Counted gains f (tried gains f l w (digit w 0)) c seen steps sels →
-      Counted gains f (ahead gains f l w) c (set seen l w) (set steps l c.steps) (set sels l c.selections)
-  counted_level {l} w {c} {seen} {steps} {sels} few h t = record {
+  pub counted_level : {l : ℕ} (w : ℕ) {c : Counts} {seen : List Seen} → f ≤ size_limit → l < f →
+      Counted gains f (tried gains f l w (digit w 0)) c seen →
+      Counted gains f (ahead gains f l w) c (set seen l (record { left = w; counts = c }))
+  counted_level {l} w {c} {seen} few h t = record {
     steps_are = t.steps_are ∙ ap fixings (sym e);
     selections_are = t.selections_are ∙ ap (λ es. length (selections es)) (sym e);
     remembered = record {
-      size = (simp length-set z.0, simp length-set z.1, simp length-set z.2);
+      size = simp length-set z;
       at = λ k hk. elim (ℕ_discrete k l) [
-        | yes d ↦ rw (
-          d,
-          get_or-set_same seen l w 0 (omega (arith, z.0)),
-          get_or-set_same steps l c.steps 0 (omega (arith, z.1)),
-          get_or-set_same sels l c.selections 0 (omega (arith, z.2)),
-          e,
-        ) (t.steps_are, t.selections_are)
-        | no d ↦ rw (get_or-set_other seen l k w 0 d, get_or-set_other steps l k c.steps 0 d, get_or-set_other sels l k c.selections 0 d)
-            (t.remembered.at k hk)
+        | yes d ↦ rw (d, get_or-set_same seen l (record { left = w; counts = c }) unseen (omega (arith, z)), e) (t.steps_are, t.selections_are)
+        | no d ↦ rw (get_or-set_other seen l k (record { left = w; counts = c }) unseen d) (t.remembered.at k hk)
       ];
     };
   }
@@ -158,12 +150,12 @@ module _ {gains : List (List ℕ)} {f : ℕ} where
       e : ahead gains f l w ≡ tried gains f l w (digit w 0)
       e = ahead_tried gains f few h w
 
-      z : (length seen ≡ 6) × (length steps ≡ 6) × (length sels ≡ 6)
+      z : length seen ≡ 6
       z = t.remembered.size
 
   -- ---- a level's triggers: none, and one before the others
-  pub counted_none : {l : ℕ} (w : ℕ) {seen steps sels : List ℕ} → f ≤ size_limit → l < f →
-      Remembered gains f seen steps sels → Counted gains f (tried gains f l w 0) (record { steps = 0; selections = 0 }) seen steps sels
+  pub counted_none : {l : ℕ} (w : ℕ) {seen : List Seen} → f ≤ size_limit → l < f → Remembered gains f seen →
+      Counted gains f (tried gains f l w 0) (record { steps = 0; selections = 0 }) seen
   counted_none {l} w few h r = record {
     steps_are = sym (ap fixings (tried_none gains f few h w) ∙ (unfold fixings in refl));
     selections_are = sym (ap (λ es. length (selections es)) (tried_none gains f few h w) ∙ (unfold selections in refl));
@@ -171,19 +163,19 @@ module _ {gains : List (List ℕ)} {f : ℕ} where
   }
 
   module _ (w : ℕ) {l cuts m : ℕ} (few : f ≤ size_limit) (h : l < f) (some : 0 < m) (small : m < 64)
-      (b : Speaks (behind gains l w (count_trailing_zeros 8 m)) (l + 1) cuts)
-      {a c : Counts} {seen seen' steps sels steps' sels' : List ℕ}
-      (t : Counted gains f (ahead gains f (l + 1) cuts) a seen steps sels)
-      (o : Counted gains f (tried gains f l w (bit_and m (m - 1))) c seen' steps' sels') where
+      {j r : ℕ} (e : j ≡ count_trailing_zeros 8 m) (k : r ≡ bit_and m (m - 1)) (b : Speaks (behind gains l w j) (l + 1) cuts)
+      {a c : Counts} {seen seen' : List Seen}
+      (t : Counted gains f (ahead gains f (l + 1) cuts) a seen)
+      (o : Counted gains f (tried gains f l w r) c seen') where
     first : List Event
-    first = under gains f few h w (count_trailing_zeros 8 m)
+    first = under gains f few h w j
 
     others : List Event
-    others = tried gains f l w (bit_and m (m - 1))
+    others = tried gains f l w r
 
     split : tried gains f l w m ≡ fixing ∷ first ++ others
     unfolding first others
-    split = tried_more gains f few h w m some small
+    split = rw (e, k) (tried_more gains f few h w m some small)
 
     same : Alike (ahead gains f (l + 1) cuts) first
     unfolding ahead first
@@ -205,7 +197,7 @@ module _ {gains : List (List ℕ)} {f : ℕ} where
     ))
 
     pub counted_more : Counted gains f (tried gains f l w m)
-        (record { steps = 1 + a.steps + c.steps; selections = a.selections + c.selections }) seen' steps' sels'
+        (record { steps = 1 + a.steps + c.steps; selections = a.selections + c.selections }) seen'
     counted_more = record { steps_are = more_steps; selections_are = more_selections; remembered = o.remembered }
 
     -- and the sums fit
@@ -216,8 +208,8 @@ module _ {gains : List (List ℕ)} {f : ℕ} where
     selections_fit = omega (arith, more_selections, selections_few (tried gains f l w m), tried_few gains f few h w m)
 
   -- the word of all levels' triggers
-  pub counted_all : (kept : List ℕ) {seen steps sels : List ℕ} {w : ℕ} {r : Counts} → f ≤ size_limit → Speaks (λ k. get_or kept k 0) 0 w →
-      Counted gains f (ahead gains f 0 w) r seen steps sels → r ≡ counts_of kept gains f
+  pub counted_all : (kept : List ℕ) {seen : List Seen} {w : ℕ} {r : Counts} → f ≤ size_limit → Speaks (λ k. get_or kept k 0) 0 w →
+      Counted gains f (ahead gains f 0 w) r seen → r ≡ counts_of kept gains f
   unfolding ahead walk_of
   counted_all kept {w = w} few b t = counts_eq (rw e at t.steps_are ∙ same.steps) (rw e at t.selections_are ∙ same.sels)
     where

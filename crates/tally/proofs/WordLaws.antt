@@ -1,12 +1,15 @@
 -- Laws of the word that holds the triggers left to the levels: each level's six bits, and one level more before the others.
 use mathlib.Core.Path.{◌≡◌, sym, ap, ◌∙◌}
+use mathlib.Core.List.{List}
 use Prim.Native.Nat.{ℕ, zero, suc, ◌+◌, ◌-◌, ◌*◌, ◌/◌, ◌%◌, ◌^◌, ◌<◌, ◌≤◌}
 use native.Mathlib.Nat.{div-one, pow-suc, pow-le-pow_right}
 use native.Mathlib.Decide.{ℕ_discrete}
 use native.Mathlib.Omega.{arith}
 use lib.Dec.{lit<}
 use lib.Pow.{shr-shr}
-use Rattle.tally.specs.Counting.{digit, Speaks}
+use Rattle.walk.specs.Trace.{serves}
+use Rattle.walk.proofs.NarrowLaws.{cut_small}
+use Rattle.tally.specs.Counting.{digit, left, behind, Speaks}
 
 pub digit_at : (w i : ℕ) → w / 2 ^ (6 * i) % 64 ≡ digit w i
 unfolding digit
@@ -45,3 +48,7 @@ module _ {o : ℕ → ℕ} where
   pub speaks_fits : {l w : ℕ} → 0 < l → Speaks o l w → w < 64 ^ 5
   speaks_fits {l} {w} h s = let k : 6 - l ≤ 5 = omega arith in
       let p : 64 ^ (6 - l) ≤ 64 ^ 5 = pow-le-pow_right (lit< tt) k in omega (arith, s.small)
+
+-- what a fixing leaves of a level's mask
+pub behind_small : (gains : List (List ℕ)) (l w j k : ℕ) → j < 6 → behind gains l w j k < 64
+behind_small gains l w j k h = cut_small j (serves gains l j k) (left l w k) h (digit_small w (k - l))

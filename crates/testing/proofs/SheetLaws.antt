@@ -1,10 +1,12 @@
 -- What the measuring of a timing asks of a cue's words and of the overruns, and is told.
 use mathlib.Core.Path.{◌≡◌, ap, sym, subst, ◌∙◌}
-use mathlib.Core.Bool.{Bool, true, false}
+use mathlib.Core.Bool.{Bool, true, false, true≢false}
+use mathlib.Core.Option as maybe
+use lib.IntN.{ℤ}
 use mathlib.Core.List.{List}
 use Prim.Native.Nat.{ℕ, ◌≤◌, ◌<◌}
 use Rattle.maxplus.specs.Entry.{num, ◌≼◌, ◌⊗◌, unit}
-use Rattle.maxplus.proofs.EntryLaws.{◌▸◌, ≼_of, ≼_back}
+use Rattle.maxplus.proofs.EntryLaws.{◌▸◌, ≼_absent, ≼_of, ≼_back}
 use Rattle.maxplus.specs.Tables.{NoGain}
 use Rattle.cue.specs.Cue as theory
 use Rattle.cue.specs.Cue.{timing}
@@ -16,9 +18,9 @@ use Rattle.words.specs.declared.LineWords.{LineWords}
 use Rattle.timing.specs.Times.{TimingWords}
 use Rattle.timing.specs.Deviation.{SheetClose}
 use Rattle.timing.specs.Test.{MeasuredWords, TestSays}
-use Rattle.sheet.specs.Sheet.{Sheet}
+use Rattle.sheet.specs.Sheet.{Sheet, given}
 use Rattle.sheet.specs.Sizes.{order_limit, cap_down}
-use Rattle.sheet.specs.Overruns.{overruns}
+use Rattle.sheet.specs.Overruns.{overruns, overruns_by}
 use Rattle.sheet.specs.Meaning.{Timing, Tightest, InTime, TightestInTime}
 use Rattle.sheet.specs.Times.{far_limit}
 use Rattle.sheet.specs.Cue.{cue_size, cue_of}
@@ -28,6 +30,9 @@ use Rattle.sheet.proofs.Overruns.{in_time_early}
 use Rattle.tables.specs.Held.{meant_v, HoldsV, Closely, CloselyV, Says}
 use Rattle.preparing.specs.declared.CueWords.{CueWords}
 use Rattle.preparing.specs.declared.Prepared.{Prepared}
+use Rattle.preparing.specs.declared.Tables.{Tables}
+use Rattle.moments.specs.Moments.{MomentsOf, OverrunsOf}
+use Rattle.std.specs.Prelude.{None}
 use Rattle.preparing.specs.Prepared.{HoldsCue, Made}
 use Rattle.preparing.proofs.Results.{lags_close, floors_close, dues_close, orders_close}
 
@@ -58,9 +63,9 @@ over_seam : (t : Sheet) → Good t → (X : Timing) (v : Bool) → Says (vectors
 over_seam t G X true h = (tightest_cue t G.measured X).1 h
 over_seam t G X false h = λ g. h ((tightest_cue t G.measured X).0 g)
 
-module _ {s : Sheet} {orders lags stars gains needs : List (List ℕ)} {r : Prepared} (M : Made s orders lags stars gains needs r) where
+module _ {s : Sheet} {ts : Tables} {r : Prepared} (M : Made s ts r) where
   tested_on : (X : Timing) (v : Bool) →
-      TestSays r.cue.panels r.cue.triggers orders lags r.cue.floor r.cue.due r.marked.least (at_used s X) v →
+      TestSays r.cue.panels r.cue.triggers ts.order ts.lag r.cue.floor r.cue.due r.marked.least (at_used s X) v →
       Says (Tightest s X) v
   tested_on X v T = over_seam s M.good X v (subst (λ n. Says (vectors.Tightest n (cue_of s) (at_used s X)) v) M.sized
       (T.tightest (cue_of s)
@@ -73,36 +78,44 @@ module _ {s : Sheet} {orders lags stars gains needs : List (List ℕ)} {r : Prep
     size : x.count ≡ r.cue.triggers
     size = w.count ∙ sym M.sized
 
-    pub tested_asks : SheetClose r.cue.panels x.count lags r.cue.floor r.cue.due × Closely x.count x.count order_limit orders ×
+    pub tested_asks : SheetClose r.cue.panels x.count ts.lag r.cue.floor r.cue.due × Closely x.count x.count order_limit ts.order ×
         CloselyV x.count far_limit x.at
     tested_asks = (rw size (sheet_close M.held), rw size (orders_close M.held), rw w.count w.words.close)
 
     tested_says : (v : Bool) → ((Y : Timing) → HoldsV x.count (timing Y) x.at →
-        TestSays r.cue.panels x.count orders lags r.cue.floor r.cue.due r.marked.least Y v) → Says (Tightest s X) v
+        TestSays r.cue.panels x.count ts.order ts.lag r.cue.floor r.cue.due r.marked.least Y v) → Says (Tightest s X) v
     tested_says v f = tested_on X v (rw size at (f (at_used s X) (rw w.count w.words.is)))
 
     -- of a timing that is in time
     pub answer_says : InTime s X → (v : Bool) → ((Y : Timing) → HoldsV x.count (timing Y) x.at →
-        TestSays r.cue.panels x.count orders lags r.cue.floor r.cue.due r.marked.least Y v) → Says (TightestInTime s X) v
+        TestSays r.cue.panels x.count ts.order ts.lag r.cue.floor r.cue.due r.marked.least Y v) → Says (TightestInTime s X) v
     answer_says i v f = both v (tested_says v f)
       where
         both : (v : Bool) → Says (Tightest s X) v → Says (TightestInTime s X) v
         both true h = record { tightest = h; in_time = i }
         both false h = λ g. h g.tightest
 
-  -- ---- x has the words of X at all triggers
-  module _ (X : Timing) {x : LineWords} (w : TimingWords s.triggers X x) where
-    pub in_time_asks : (x.count ≤ size_limit) × CloselyV x.count far_limit x.at × CloselyV x.count cap_down r.moments.overruns
-    in_time_asks = rw w.count (M.good.triggers_few, w.words.close, M.moments.close)
+-- ---- x has the words of X at all triggers
+module _ {s : Sheet} (G : Good s) (X : Timing) {x : LineWords} (w : TimingWords s.triggers X x) where
+  module _ {overruns-words : List ℕ} (M : OverrunsOf s overruns-words) where
+    pub in_time_asks : (x.count ≤ size_limit) × CloselyV x.count far_limit x.at × CloselyV x.count cap_down overruns-words
+    in_time_asks = rw w.count (G.triggers_few, w.words.close, M.close)
 
-    sums : (j : ℕ) → j < s.triggers → meant_v r.moments.overruns j ⊗ meant_v x.at j ≡ overruns s j ⊗ num (X j)
-    sums j h = rw (M.moments.holds.at j h, w.words.is.at j h)
+    sums : (j : ℕ) → j < s.triggers → meant_v overruns-words j ⊗ meant_v x.at j ≡ overruns s j ⊗ num (X j)
+    sums j h = rw (M.holds.at j h, w.words.is.at j h)
 
     abbrev Early : Type 0
-    Early = (j : ℕ) → j < x.count → meant_v r.moments.overruns j ⊗ meant_v x.at j ≼ unit
+    Early = (j : ℕ) → j < x.count → meant_v overruns-words j ⊗ meant_v x.at j ≼ unit
 
-    pub is_early : Early → InTime s X
-    is_early f = (in_time_early s X).1 (λ j h. ≼_back (sums j h) ▸ f j (rw w.count h))
+    pub early_says : (v : Bool) → Says Early v → Says (InTime s X) v
+    early_says true f = (in_time_early s X).1 (λ j h. ≼_back (sums j h) ▸ f j (rw w.count h))
+    early_says false f = λ i. f (λ j q. let k = rw w.count at q in ≼_of (sums j k) ▸ (in_time_early s X).0 i j k)
 
-    pub not_early : ¬ Early → ¬ (TightestInTime s X)
-    not_early f h = f (λ j q. let k = rw w.count at q in ≼_of (sums j k) ▸ (in_time_early s X).0 h.in_time j k)
+  -- a sheet without last moments
+  pub always_early : MomentsOf s None → InTime s X
+  unfolding ◌⊗◌
+  always_early e = (in_time_early s X).1 (λ j h. go j s.last e)
+    where
+      go : (j : ℕ) (last : maybe.Option (ℕ → ℤ)) → given last ≡ false → overruns_by s last j ⊗ num (X j) ≼ unit
+      go j maybe.none f = ≼_absent unit
+      go j (maybe.some b) f = absurd (true≢false f)

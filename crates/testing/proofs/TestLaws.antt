@@ -12,11 +12,13 @@ use Rattle.sheet.specs.Asked.{TightestOn}
 use Rattle.sheet.specs.Admitted.{admitted}
 use Rattle.sheet.proofs.AdmittedLaws.{admitted_as}
 use Rattle.sheet.proofs.Decided.{tightest?}
-use Rattle.admitting.proofs.Known.{admitted_known}
+use Rattle.admitting.proofs.Known.{admitted_is}
 use Rattle.tables.specs.Held.{Says}
+use Rattle.std.specs.Prelude.{Result, Ok, Err}
+use Rattle.refusals.specs.Numbers.{refusal_of}
+use Rattle.refusals.specs.declared.Refusal.{Refusal}
+use Rattle.refusals.proofs.NumberLaws.{Known, of_number, known_within}
 use Rattle.testing.specs.Testing.{TestOutcome, answer, refused, tests, testing, test_answer}
-use Rattle.testing.specs.declared.Tested.{Tested}
-use Rattle.testing.specs.declared.Tested.TheVariants.{Yes, No, Refused}
 
 -- a decision that was found otherwise
 decided_as : {P : Type 0} (d : Dec P) (b : Bool) → Says P b → decide d ≡ b
@@ -43,24 +45,25 @@ module _ (s : List ℕ) (count : ℕ) (X : Timing) where
 refused_same : {j k : ℕ} → ◌≡◌ {A = TestOutcome} (refused k) (refused j) → j ≡ k
 refused_same e = cc
 
-pub known_number : (s : List ℕ) (count : ℕ) (X : Timing) (k : ℕ) → refused k ≡ testing s count X → (1 ≤ k) × (k ≤ 14)
+pub refusal_is : (s : List ℕ) (count : ℕ) (X : Timing) (k : ℕ) → refused k ≡ testing s count X → Known k
 unfolding testing
-known_number s count X k a = go (admitted s count X) refl a
+refusal_is s count X k a = go (admitted s count X) refl a
   where
-    go : (g : Got Sheet) → admitted s count X ≡ g → refused k ≡ tests g (decide (tightest? s X)) → (1 ≤ k) × (k ≤ 14)
-    go (spec.refused j) e a = let h = refused_same a in let n = admitted_known s count X j e in (omega (arith, n.0), omega (arith, n.1))
+    go : (g : Got Sheet) → admitted s count X ≡ g → refused k ≡ tests g (decide (tightest? s X)) → Known k
+    go (spec.refused j) e a = let h = refused_same a in let (r, q) = admitted_is s count X j e in (r, sym h ∙ q)
     go (got t r) e a = let z : ◌≡◌ {A = ℕ} 0 1 = cc in let x : ⊥ = omega arith in absurd x
 
+pub known_number : (s : List ℕ) (count : ℕ) (X : Timing) (k : ℕ) → refused k ≡ testing s count X → (1 ≤ k) × (k ≤ 14)
+known_number s count X k a = known_within k (refusal_is s count X k a)
+
 -- ---- no two answers stand for one outcome
-abbrev tested_as : TestOutcome → Tested
-tested_as (answer true) = Yes
-tested_as (answer false) = No
-tested_as (refused k) = Refused k
+abbrev tested_as : TestOutcome → Result Bool Refusal
+tested_as (answer b) = Ok b
+tested_as (refused k) = Err (refusal_of k)
 
-back : (q : Tested) → tested_as (test_answer q) ≡ q
-back Yes = refl
-back No = refl
-back (Refused k) = refl
+back : (q : Result Bool Refusal) → tested_as (test_answer q) ≡ q
+back (Ok b) = refl
+back (Err r) = ap Err (of_number r)
 
-pub tested_one : (q r : Tested) → test_answer q ≡ test_answer r → q ≡ r
+pub tested_one : (q r : Result Bool Refusal) → test_answer q ≡ test_answer r → q ≡ r
 tested_one q r e = sym (back q) ∙ ap tested_as e ∙ back r

@@ -1,13 +1,13 @@
 -- What testing a timing returns (document 01, "What each operation may refuse").
-use Rattle.std.specs.Prelude.{Bool, true, false, List, ℕ}
+use Rattle.std.specs.Prelude.{Bool, List, ℕ, Result, Ok, Err}
 use Rattle.std.proofs.Math.Bool.{decide}
 use Rattle.sheet.specs.Meaning.{Timing}
 use Rattle.sheet.specs.Sheet.{Got, got, Sheet}
 use Rattle.sheet.specs.Sheet as sheet
 use Rattle.sheet.specs.Admitted.{admitted}
 use Rattle.sheet.proofs.Decided.{tightest?}
-use Rattle.testing.specs.declared.Tested.{Tested}
-use Rattle.testing.specs.declared.Tested.TheVariants.{Yes, No, Refused}
+use Rattle.refusals.specs.Numbers.{number}
+use Rattle.refusals.specs.declared.Refusal.{Refusal}
 
 pub data TestOutcome : Type 0 where
   answer : Bool → TestOutcome
@@ -22,8 +22,7 @@ tests (got t r) b = answer b
 unfoldable pub testing : List ℕ → ℕ → Timing → TestOutcome
 testing s count X = tests (admitted s count X) (decide (tightest? s X))
 
--- the outcome that each case of the answer stands for
-abbrev pub test_answer : Tested → TestOutcome
-test_answer Yes = answer true
-test_answer No = answer false
-test_answer (Refused k) = refused k
+-- the outcome that each answer of the program stands for
+abbrev pub test_answer : Result Bool Refusal → TestOutcome
+test_answer (Ok b) = answer b
+test_answer (Err r) = refused (number r)

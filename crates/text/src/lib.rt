@@ -1,5 +1,5 @@
-// The texts that the programs write, put into lent bytes: of a plan, of a kept table, of a timing, of a refusal. Each function returns the
-// place behind what it wrote. A number has at most 20 bytes, and the room asked for is a round number above the longest text.
+// The texts that the programs write, put into lent bytes: of a plan, of a kept table, of a timing, of a refusal. The function of each
+// text returns the place behind it. A number has at most 20 bytes, and the room asked for is a round number above the longest text.
 #![tactic(auto)]
 
 ghost use Rattle.std.specs.Prelude.{◌≡◌, List, [], ◌∷◌, ◌+◌, ◌*◌, ◌≤◌, ℤ, pos, length, take, get_or};
@@ -13,7 +13,7 @@ ghost use Rattle.writing.specs.Writing.{Writes};
 ghost use Rattle.cue.specs.Written.{line_size, width};
 
 use crate::lines::{put_lines, put_panels, put_times};
-use writing::{natural_field, number_field, put_byte, put_bytes};
+use writing::Writer;
 
 mod lines;
 
@@ -24,8 +24,20 @@ pub struct Ends {
     pub complaint: usize,
 }
 
+impl Ends {
+    // Writes the two texts, the first on standard output, the second, if there is one, on standard error.
+    pub fn write(self, out: &[u8], errors: &[u8])
+        requires { (self.text ≤ length out.now) × (self.complaint ≤ length errors.now) }
+    {
+        io::write_all(1, &out[..self.text]);
+        if self.complaint != 0 {
+            io::write_all(2, &errors[..self.complaint]);
+        }
+    }
+}
+
 // The text of a plan whose lines stand in `words`, `wide` words each, with its spare triggers as bits. The four fields take at most 117 bytes, a
-// line 78, a cap 16.
+// line 78, a cap 16. The numbers come one by one, as the fields stand, so that the texts need not know the crate of the plan.
 pub fn plan_text(
     out: &mut [u8],
     deviation: i64,
@@ -42,11 +54,13 @@ pub fn plan_text(
     ensures text { (caps : Option (Line n → ℤ)) (L : List (Line n)) → wide ≡ width caps →
         StandsWith n count words.now caps L → take result out.new ≡ plan_text n (bit spares) deviation steps selections caps L }
 {
-    let mut end = number_field(out, 0, b"deviation=", deviation);
-    end = natural_field(out, end, b"steps=", steps);
-    end = natural_field(out, end, b"selections=", selections);
-    end = natural_field(out, end, b"count=", count as u64);
-    put_lines(out, end, words, wide, n, count, spares)
+    let mut plan = Writer::new(out);
+    plan.put_field(b"deviation=", deviation);
+    plan.put_field(b"steps=", steps);
+    plan.put_field(b"selections=", selections);
+    plan.put_field(b"count=", count as u64);
+    put_lines(&mut plan, words, wide, n, count, spares);
+    plan.at
 }
 
 // The text of a kept table. The three fields take at most 90 bytes, a panel's line 13.
@@ -62,10 +76,12 @@ pub fn kept_text(
     requires { (200 ≤ length out.old) × (panels ≤ 6) }
     ensures { Writes out.new result (kept_text deviation (each panels (λ i. (get_or kept i 0, get_or counts i 0) ∷ [])) steps selections) }
 {
-    let mut end = number_field(out, 0, b"deviation=", deviation);
-    end = put_panels(out, end, panels, kept, counts);
-    end = natural_field(out, end, b"steps=", steps);
-    natural_field(out, end, b"selections=", selections)
+    let mut table = Writer::new(out);
+    table.put_field(b"deviation=", deviation);
+    put_panels(&mut table, panels, kept, counts);
+    table.put_field(b"steps=", steps);
+    table.put_field(b"selections=", selections);
+    table.at
 }
 
 // The text of a timing: 7 bytes of key, at most 126 of times and commas, LF.
@@ -73,17 +89,21 @@ pub fn latest_text(out: &mut [u8], n: usize, times: [i64; 6]) -> usize
     requires { (200 ≤ length out.old) × (n ≤ 6) }
     ensures { Writes out.new result (latest_text n (λ j. get_or times j (pos 0))) }
 {
-    let key = put_bytes(out, 0, b"latest=");
-    let end = put_times(out, key, n, times);
-    put_byte(out, end, b'\n')
+    let mut w = Writer::new(out);
+    w.put_bytes(b"latest=");
+    put_times(&mut w, n, times);
+    w.put_byte(b'\n');
+    w.at
 }
 
-// The text of a refusal: one field, 8 bytes of key and at most 21 behind it.
+// The text of a refusal: one field, 8 bytes of key and at most 21 behind it. It is a number, since the text is promised of every number.
 pub fn refusal_text(out: &mut [u8], refusal: u8) -> usize
     requires { 40 ≤ length out.old }
     ensures { Writes out.new result (refusal_text refusal) }
 {
-    natural_field(out, 0, b"refused=", refusal as u64)
+    let mut w = Writer::new(out);
+    w.put_field(b"refused=", u64::from(refusal));
+    w.at
 }
 
 // The text of refusal 9 with the count of lines that would be needed: two such fields.
@@ -91,6 +111,8 @@ pub fn full_text(out: &mut [u8], count: u64) -> usize
     requires { 80 ≤ length out.old }
     ensures { Writes out.new result (full_text count) }
 {
-    let end = natural_field(out, 0, b"refused=", 9);
-    natural_field(out, end, b"count=", count)
+    let mut w = Writer::new(out);
+    w.put_field(b"refused=", 9u64);
+    w.put_field(b"count=", count);
+    w.at
 }

@@ -21,11 +21,8 @@ pub fn pulls(star: &[[u64; 6]; 6], due: [u64; 6], n: usize) -> [u64; 6]
     ensures { HoldsV n (λ j. overdue n (meant_v due) (λ i. meant star.now i j)) result }
 {
     let mut r = [0u64; 6];
-    let mut j: usize = 0;
-    while j < n {
-        let column = tables::column(star, j);
-        r[j] = overdue(due, column, n);
-        j += 1;
+    for j in 0..n {
+        r[j] = overdue(due, tables::column(star, j), n);
     }
     r
 }
@@ -53,10 +50,8 @@ pub fn kept(
     ensures { KeptBytes m n (λ i. kept_of (entry least) (meant through.now) (meant_v pulls) (meant_v floor i) i) result }
 {
     let mut r = [0u8; 6];
-    let mut i: usize = 0;
-    while i < m {
+    for i in 0..m {
         r[i] = panel_byte(through, pulls, floor[i], least, i, n);
-        i += 1;
     }
     r
 }
@@ -74,10 +69,10 @@ fn panel_byte(
     ensures { result ≡ byte_of n (kept_of (entry least) (meant through.now) (meant_v pulls) (entry floor) i) }
 {
     if words::present(floor) {
-        let ask = words::minus(floor, least);
-        return reaching(through, pulls, ask, i, n);
+        reaching(through, pulls, words::minus(floor, least), i, n)
+    } else {
+        0
     }
-    0
 }
 
 // The triggers by which panel i reaches what is asked of it, as bits.
@@ -86,14 +81,10 @@ fn reaching(through: &[[u64; 6]; 6], pulls: [u64; 6], ask: u64, i: usize, n: usi
     ensures { result ≡ byte_of n (reaches (entry ask) (meant through.now) (meant_v pulls) i) }
 {
     let mut byte: u8 = 0;
-    let mut bit: u8 = 1;
-    let mut j: usize = 0;
-    while j < n {
+    for j in 0..n {
         if words::plus(ask, pulls[j]) <= through[i][j] {
-            byte += bit;
+            byte += 1 << j;
         }
-        bit += bit;
-        j += 1;
     }
     byte
 }

@@ -8,31 +8,30 @@ ghost use Rattle.timing.specs.Times.{component};
 ghost use Rattle.testing.specs.Testing.{testing, test_answer};
 ghost use Rattle.tightest.specs.Output.{tested_text, tested_complaint};
 
-use testing::Tested;
+use refusals::Refusal;
 use text::Ends;
 use timing::Timing;
 
 // What the program writes for a test's answer; the place behind it.
-fn answer(tested: Tested, out: &mut [u8; 64]) -> usize
+fn answer(tested: Result<bool, Refusal>, out: &mut [u8; 64]) -> usize
     ensures prefix_len { IsPrefixLen result out.new }
     ensures out_after { take result out.new ≡ tested_text (test_answer tested) }
 {
     match tested {
-        Tested::Yes => writing::put_bytes(out, 0, b"tightest=yes\n"),
-        Tested::No => writing::put_bytes(out, 0, b"tightest=no\n"),
-        Tested::Refused(refusal) => text::refusal_text(out, refusal),
+        Ok(true) => writing::put_bytes(out, 0, b"tightest=yes\n"),
+        Ok(false) => writing::put_bytes(out, 0, b"tightest=no\n"),
+        Err(refusal) => text::refusal_text(out, refusal.number()),
     }
 }
 
 // What it writes on standard error; the place behind it.
-fn complaint(tested: Tested, errors: &mut [u8; 400]) -> usize
+fn complaint(tested: Result<bool, Refusal>, errors: &mut [u8; 400]) -> usize
     ensures prefix_len { IsPrefixLen result errors.new }
     ensures errors_after { take result errors.new ≡ tested_complaint (test_answer tested) }
 {
     match tested {
-        Tested::Yes => 0,
-        Tested::No => 0,
-        Tested::Refused(refusal) => advice::advice_text(errors, refusal),
+        Ok(_) => 0,
+        Err(refusal) => advice::advice_text(errors, refusal.number()),
     }
 }
 
@@ -47,10 +46,7 @@ fn answers(bytes: &[u8], timing: Timing, out: &mut [u8; 64], errors: &mut [u8; 4
     let tested = testing::test_timing(bytes, timing);
     let text = answer(tested, out);
     let complaint = complaint(tested, errors);
-    Ends {
-        text: text,
-        complaint: complaint,
-    }
+    Ends { text, complaint }
 }
 
 // One byte more than a sheet may have is enough to refuse it, so no more is read.
@@ -60,33 +56,18 @@ fn test_input(timing: Timing) {
     let mut out = [0u8; 64];
     let mut errors = [0u8; 400];
     let ends = answers(&sheet[..length], timing, &mut out, &mut errors);
-    let text = ends.text;
-    io::write_all(1, &out[..text]);
-    let complaint = ends.complaint;
-    if complaint != 0 {
-        io::write_all(2, &errors[..complaint]);
-    }
+    ends.write(&out, &errors);
 }
 
-// The space is longer than any argument that the system hands over. A program has no exit status of its own to choose, so a wrong call shows in
-// standard output being empty.
+// A program has no exit status of its own to choose, so a wrong call shows in standard output being empty.
 fn main(rt: HostRuntime) {
-    if argument::call::count(&rt, 2) == 1 {
-        let mut argument = [0u8; 131072];
-        let length = argument::call::copied(&rt, 1, &mut argument);
-        let read = argument::times(&argument[..length]);
-        if read.numerals {
-            let at = read.at;
-            let timing = Timing {
-                count: read.count,
-                at: at,
-            };
-            test_input(timing);
-            return;
+    match argument::call::times(&rt) {
+        Some(timing) => test_input(timing),
+        None => {
+            io::write_all(
+                2,
+                b"usage: tightest TIMES < SHEET, where TIMES are whole numbers of milliseconds split by commas, such as 0,1\n",
+            );
         }
     }
-    io::write_all(
-        2,
-        b"usage: tightest TIMES < SHEET, where TIMES are whole numbers of milliseconds split by commas, such as 0,1\n",
-    );
 }

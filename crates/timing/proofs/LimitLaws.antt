@@ -1,23 +1,32 @@
 -- The limit on a timing's components: some of the first places pass a test, and what the code compares of a signed word.
-use mathlib.Core.Path.{◌≡◌, refl, sym, ◌∙◌}
+use mathlib.Core.Path.{◌≡◌, refl, ap, sym, ◌∙◌}
 use mathlib.Core.List.{List, [], ◌∷◌, ◌++◌}
 use mathlib.Core.Bool.{Bool, true, false, ◌||◌, or-true, or-false, or_assoc}
-use Prim.Native.Nat.{ℕ, zero, suc, ◌+◌, ◌<◌}
+use Prim.Native.Nat.{ℕ, zero, suc, ◌≤◌, ◌<◌}
 use native.Mathlib.Omega.{arith}
 use native.Mathlib.Decide.{ℕ_discrete}
-use native.Mathlib.Numerals.{add-one}
-use lib.Dec.{leb-suc-suc}
-use lib.IntN.{ℤ, pos, negsuc}
-use lib.Signed.{mag, lt_z}
+use lib.IntN.{ℤ}
+use lib.Signed.{mag}
+use lib.ListN.{length, get_or, take}
+use lib.Seq.{take-suc}
+use Rattle.std.specs.List.{list_any}
 use mir.Syntax.{w64}
-use mir.Val.{SFits}
+use mir.Val.{to_z, of_z}
 use mir.Facts.{to_z-of_z}
 use Rattle.maxplus.specs.Finite.{each}
-use Rattle.words.proofs.SignedLaws.{clash, read}
 use Rattle.sheet.specs.Sheet.{any}
-use Rattle.sheet.specs.Times.{far_limit, beyond}
 
--- ---- some of the first places pass a test
+-- ---- the first places of a list, and whether some of them pass a test
+pub first_places : {A : Type 0} (l : List A) (d : A) (n : ℕ) → n ≤ length l → take n l ≡ each n (λ j. get_or l j d ∷ [])
+unfolding each
+first_places l d zero h = refl
+first_places l d (suc n) h = take-suc l n d (omega arith) ∙ ap (λ k. k ++ (get_or l n d ∷ [])) (first_places l d n (omega arith))
+
+pub any_listed : {A : Type 0} (f : A → Bool) (l : List A) → list_any f l ≡ any f l
+unfolding any
+any_listed f [] = refl
+any_listed f (a ∷ l) = ap (λ b. f a || b) (any_listed f l)
+
 module _ {A : Type 0} (f : A → Bool) where
   any_end : (l : List A) (a : A) → any f (l ++ (a ∷ [])) ≡ (any f l || f a)
   unfolding any
@@ -25,14 +34,6 @@ module _ {A : Type 0} (f : A → Bool) where
   any_end (b ∷ l) a = rw (any_end l a) (sym (or_assoc (f b) (any f l) (f a)))
 
   module _ (X : ℕ → A) where
-    pub some_none : any f (each 0 (λ j. X j ∷ [])) ≡ false
-    unfolding any each
-    some_none = refl
-
-    pub some_more : (j : ℕ) → any f (each j (λ j. X j ∷ [])) ≡ false → f (X j) ≡ false → any f (each (j + 1) (λ j. X j ∷ [])) ≡ false
-    unfolding each
-    some_more j e h = rw (add-one, any_end, e) h
-
     pub some_at : (n j : ℕ) → j < n → f (X j) ≡ true → any f (each n (λ j. X j ∷ [])) ≡ true
     unfolding each
     some_at zero j h e = let x : ⊥ = omega arith in absurd x
@@ -45,23 +46,12 @@ module _ {A : Type 0} (f : A → Bool) where
     none_at n j e h = go (f (X j)) refl
       where
         go : (b : Bool) → f (X j) ≡ b → b ≡ false
-        go true q = clash (sym (some_at n j h q) ∙ e)
+        go true q = let z = sym (some_at n j h q) ∙ e in cc
         go false q = refl
 
--- ---- a number as the code reads it out of its signed word, and the limit on it
+-- ---- a number as the code reads it out of its signed word
+abbrev pub read : ℤ → ℤ
+read x = to_z w64 (of_z w64 x)
+
 pub read_again : (x : ℤ) → mag x < 0x8000_0000_0000_0000 → read x ≡ x
 read_again x h = to_z-of_z {w = w64} (record { sfits = h })
-
-over : (x : ℤ) → lt_z (pos far_limit) x ≡ true → true ≡ beyond x
-over (pos n) e = rw e
-over (negsuc n) e = clash (sym e)
-
-under : (x : ℤ) → lt_z (pos far_limit) x ≡ false → lt_z x (negsuc 999999999) ≡ beyond x
-under (pos n) e = rw e
-under (negsuc n) e = sym (leb-suc-suc 1000000000 n)
-
-pub read_above : {x : ℤ} → SFits w64 x → lt_z (pos far_limit) (read x) ≡ true → true ≡ beyond x
-read_above {x} f e = over x (rw (to_z-of_z {w = w64} f) at e)
-
-pub read_below : {x : ℤ} → SFits w64 x → lt_z (pos far_limit) (read x) ≡ false → lt_z (read x) (negsuc 999999999) ≡ beyond x
-read_below {x} f e = rw (to_z-of_z {w = w64} f) (under x (rw (to_z-of_z {w = w64} f) at e))

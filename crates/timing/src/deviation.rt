@@ -19,8 +19,7 @@ pub fn deviation(
     requires { SheetClose panels x.count lag.now floor due × CloselyV x.count far_limit x.at }
     ensures { entry result ≡ deviation_of panels x.count (meant lag.now) (meant_v floor) (meant_v due) (meant_v x.at) }
 {
-    let at = x.at;
-    let late = overdue(due, at, x.count);
-    let short = shortfall(lag, floor, at, panels, x.count);
+    let late = overdue(due, x.at, x.count);
+    let short = shortfall(lag, floor, x.at, panels, x.count);
     words::plus(late, short)
 }

@@ -13,22 +13,11 @@ pub fn beyond(timing: Timing, n: usize) -> bool
     requires { n ≤ size_limit }
     ensures { result ≡ some_beyond n (component timing.at) }
 {
-    let at = timing.at;
-    let mut j: usize = 0;
-    while j < n {
-        if far_off(at[j]) {
-            return true;
-        }
-        j += 1;
-    }
-    false
+    timing.at[..n].iter().any(|x| far_off(*x))
 }
 
 fn far_off(x: i64) -> bool
     ensures { result ≡ beyond x }
 {
-    if x > FAR_LIMIT {
-        return true;
-    }
-    x < -FAR_LIMIT
+    x > FAR_LIMIT || x < -FAR_LIMIT
 }

@@ -14,16 +14,12 @@ pub fn keeps(order: &[[u64; 6]; 6], x: LineWords) -> bool
     ensures { Says (Keeps x.count (meant order.now) (meant_v x.at)) result }
 {
     let n = x.count;
-    let mut i: usize = 0;
-    while i < n {
-        let mut j: usize = 0;
-        while j < n {
+    for i in 0..n {
+        for j in 0..n {
             if x.at[i] < words::plus(order[i][j], x.at[j]) {
                 return false;
             }
-            j += 1;
         }
-        i += 1;
     }
     true
 }

@@ -12,6 +12,7 @@ use crate::order::keeps;
 use words::LineWords;
 
 // "Otherwise yes exactly when the timing is tightest, else no", of the times x: `least` is the word of the least deviation of the tables.
+// The order and the lags are lent from where they stand, and the marks are handed over: a struct of them would be built for this one call.
 pub fn tested(
     order: &[[u64; 6]; 6],
     lag: &[[u64; 6]; 6],
@@ -26,8 +27,5 @@ pub fn tested(
     ensures { (X : ℕ → ℤ) → HoldsV x.count (timing X) x.at →
         TestSays panels x.count order.now lag.now floor due least X result }
 {
-    if keeps(order, x) {
-        return deviation(lag, floor, due, x, panels) == least;
-    }
-    false
+    keeps(order, x) && deviation(lag, floor, due, x, panels) == least
 }

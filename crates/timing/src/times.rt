@@ -15,12 +15,9 @@ pub fn words_of(timing: Timing, n: usize) -> LineWords
     requires { (n ≤ size_limit) × (some_beyond n (component timing.at) ≡ false) }
     ensures { TimingWords n (component timing.at) result }
 {
-    let at = timing.at;
     let mut r = [0u64; 6];
-    let mut j: usize = 0;
-    while j < n {
-        r[j] = words::of_number(at[j]);
-        j += 1;
+    for j in 0..n {
+        r[j] = words::of_number(timing.at[j]);
     }
     LineWords { count: n, at: r }
 }
@@ -32,10 +29,8 @@ pub fn numbers_of(x: LineWords) -> Timing
 {
     let n = x.count;
     let mut at = [0i64; 6];
-    let mut j: usize = 0;
-    while j < n {
+    for j in 0..n {
         at[j] = words::number(x.at[j]);
-        j += 1;
     }
-    Timing { count: n, at: at }
+    Timing { count: n, at }
 }

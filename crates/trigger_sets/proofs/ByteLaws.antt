@@ -1,7 +1,7 @@
 -- Laws of the byte of those triggers for which a test is true: its bits, how many they are, that it is small, and how a loop builds it.
 use mathlib.Core.Path.{◌≡◌, refl, ap, sym, ◌∙◌}
 use mathlib.Core.Bool.{Bool, true, false, ◌&&◌}
-use Prim.Native.Nat.{ℕ, zero, suc, ◌+◌, ◌*◌, ◌^◌, ◌≤◌, ◌<◌}
+use Prim.Native.Nat.{ℕ, zero, suc, ◌+◌, ◌*◌, ◌^◌, ◌%◌, ◌≤◌, ◌<◌}
 use native.Mathlib.Omega.{arith}
 use native.Mathlib.Decide.{ℕ_discrete, dec_lt}
 use native.Mathlib.Nat.{add-zero, pow-suc, pow-le-pow_right}
@@ -90,3 +90,13 @@ bit_more j bit e = rw add-one (omega (arith, pow-suc 2 j))
 
 pub bit_low : (j bit : ℕ) → bit ≡ 2 ^ j → j < 6 → bit ≤ 32
 bit_low j bit e h = let k : j ≤ 5 = omega arith in let l : 2 ^ j ≤ 2 ^ 5 = pow-le-pow_right (lit< tt) k in omega arith
+
+-- 1 shifted to a trigger's place in a byte
+abbrev pub shifted : ℕ → ℕ
+shifted j = (1 * 2 ^ j) % 256
+
+pub bit_here : (j : ℕ) → j < 6 → shifted j ≡ 2 ^ j
+bit_here j h = omega (arith, bit_low j _ refl h)
+
+pub byte_room : (b : ℕ → Bool) (j byte : ℕ) → byte ≡ byte_of j b → j < 6 → byte + shifted j < 256
+byte_room b j byte e h = omega (arith, bit_here j h, bit_low j _ refl h, byte_low j b)

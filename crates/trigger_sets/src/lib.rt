@@ -7,13 +7,6 @@ ghost use Rattle.std.specs.Int.Bits.{bit_and};
 ghost use Rattle.std.specs.Int.Count as count;
 ghost use Rattle.trigger_sets.specs.Sets.{bit};
 
-// A trigger as a place in an array.
-pub fn wide(trigger: u8) -> usize
-    ensures { result ≡ trigger }
-{
-    trigger as usize
-}
-
 pub fn has(set: u8, j: usize) -> bool
     requires { j < 8 }
     ensures { result ≡ bit set j }
@@ -21,12 +14,12 @@ pub fn has(set: u8, j: usize) -> bool
     (set >> j) % 2 == 1
 }
 
-// The lowest trigger of a set that is not empty.
+// The lowest trigger of a set that is not empty. A count of eight bits fits a byte, so `as` loses nothing, where TryFrom would add an error.
 pub fn low(set: u8) -> u8
     requires { (0 < set) × (set < 64) }
     ensures { result ≡ count.count_trailing_zeros 8 set }
 {
-    u8::trailing_zeros(set) as u8
+    set.trailing_zeros() as u8
 }
 
 // The others of a set that is not empty.
@@ -42,5 +35,5 @@ pub fn others(set: u8) -> u8
 pub fn ones(set: u8) -> u8
     ensures { result ≡ count.ones set }
 {
-    u8::count_ones(set) as u8
+    set.count_ones() as u8
 }

@@ -234,25 +234,20 @@ module _ {n : ℕ} {P : Cue} {D : ℤ} {f : ℕ} {kept : List ℕ} {gains : List
       let e : suc d - 1 ≡ d = omega arith in
       (R.0, rw e (replaced_same n P D panels d (picks / 8) _ _ (λ i k. popped_next s i (omega arith)) R.2))
 
-  -- d levels stay fixed, with the picks x; those that stay open are those of left
-  pub back_remembers : {w : Walk} {d x left : ℕ} {after rest : List ℕ} → w.place.depth ≤ f → f ≤ size_limit → ¬ (w.place.depth ≡ 0) →
-      GivenUp w.place.depth w.place.picks w.bounds.at w.replaced d x after rest →
-      {l : ℕ} → Remembers n P D panels l w → Untried n (suc (w.place.depth - 1)) left →
-      Remembers n P D panels (suc d) (record {
-        place = place_at d w.place.fixings left x;
-        bounds = record { count = w.bounds.count; at = after };
-        replaced = rest;
-      })
+  -- the levels that stay open are those of left
+  pub back_remembers : {w v : Walk} {left : ℕ} → w.place.depth ≤ f → f ≤ size_limit → ¬ (w.place.depth ≡ 0) →
+      GivenUp (record { place = place_at w.place.depth w.place.fixings left w.place.picks; bounds = w.bounds; replaced = w.replaced }) v →
+      {l : ℕ} → Remembers n P D panels l w → Untried n (suc (w.place.depth - 1)) left → Remembers n P D panels (suc v.place.depth) v
   back_remembers {w} hd hf nz g R few =
       let p = w.place in
       let back = back_replaced p.depth p.picks w.replaced (omega arith) nz R.replaced in
       record {
-        count = R.count;
+        count = g.count ∙ R.count;
         sized = rw g.back (sized_set w.bounds.at (p.picks % 8) (get_or w.replaced 0 0) back.0 R.sized);
-        bounds = rw (g.depth, g.above, g.back)
+        bounds = rw (g.place, g.back)
             (back_bounds p.depth p.picks w.bounds.at (λ i. get_or w.replaced i 0) hd nz R.sized.size R.bounds R.replaced);
-        replaced = rw (g.depth, g.above, g.rest) back.1;
-        untried = rw g.depth few;
+        replaced = rw (g.place, g.rest) back.1;
+        untried = rw g.place few;
       }
 
   -- on the way up the level below is closed; where every panel was fixed, none is open there

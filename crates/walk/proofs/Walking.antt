@@ -1,6 +1,6 @@
 -- One law for each way that the walk goes on: what it may be asked, what falls, and what it gives.
 -- What falls is eight times the events pending, plus the depth, or 7 where a panel has just been fixed.
-use mathlib.Core.Path.{◌≡◌, ap, ap₂}
+use mathlib.Core.Path.{◌≡◌, ap}
 use mathlib.Core.Bool.{Bool, cond}
 use mathlib.Core.Logic.{⊎_elim}
 use mathlib.Core.List.{List, ◌++◌, append-nil}
@@ -11,7 +11,7 @@ use borrow.Author.Tests.{eq-eqb, ne_eqb}
 use lib.Dec.{lit<}
 use lib.ListN.{length}
 use Rattle.walk.specs.Trace.{mask_at}
-use Rattle.walk.specs.State.{Sound, FixedSound, marks, picked, pending, fixed, given_up, resumed, levels, place_at}
+use Rattle.walk.specs.State.{Sound, FixedSound, marks, picked, pending, fixed, given_up, resumed, levels}
 use Rattle.walk.specs.Steps.{StepReady, Gives}
 use Rattle.walk.specs.Inner.{TryReady, FixedReady}
 use Rattle.walk.specs.declared.Place.{Place}
@@ -31,10 +31,6 @@ at_most h = omega arith
 
 pub not_whole : {a b : ℕ} → a < b → ¬ (a ≡ b)
 not_whole h e = let z : ⊥ = omega arith in z
-
--- a place after a trigger was given up
-pub given : {d k x y : ℕ} (n left : ℕ) → d ≡ k → x ≡ y → place_at d n left x ≡ place_at k n left y
-given n left e q = ap₂ (λ (d x : ℕ). place_at d n left x) e q
 
 -- the bits of all levels, and of one more, fit a word
 pub left_fits : {f : ℕ} {p : Place} → FixedSound f p → p.left < 64 ^ 6

@@ -1,10 +1,10 @@
 -- What the functions inside a step may be asked and promise: from where a panel is to be tried, and from where one has just been fixed; w asked
 -- of one trigger more, and put back.
-use Rattle.std.specs.Prelude.{◌≡◌, List, [], ◌∷◌, ◌++◌, ℕ, suc, ◌+◌, ◌-◌, ◌/◌, ◌%◌, ◌<◌, length, get_or, set}
+use Rattle.std.specs.Prelude.{◌≡◌, List, [], ◌∷◌, ◌++◌, ℕ, suc, ◌+◌, ◌%◌, ◌<◌, length, get_or, set}
 use Rattle.maxplus.specs.Entry.{◌⊕◌}
 use Rattle.words.specs.Words.{entry}
 use Rattle.walk.specs.Trace.{Masks}
-use Rattle.walk.specs.State.{marks, pending, fixed, Sound, FixedSound, Ended}
+use Rattle.walk.specs.State.{marks, pending, fixed, given_up, Sound, FixedSound, Ended}
 use Rattle.walk.specs.Steps.{word_size, Gives, Remembering}
 use Rattle.walk.specs.declared.Place.{Place}
 use Rattle.walk.specs.declared.Walk.{Walk}
@@ -47,14 +47,14 @@ pushed x r = x ∷ get_or r 0 0 ∷ get_or r 1 0 ∷ get_or r 2 0 ∷ get_or r 3
 abbrev pub popped : List ℕ → List ℕ
 popped r = get_or r 1 0 ∷ get_or r 2 0 ∷ get_or r 3 0 ∷ get_or r 4 0 ∷ get_or r 5 0 ∷ 0 ∷ []
 
--- the depth, the picks, w and the words replaced after the deepest panel fixed gave up its trigger
-pub record GivenUp (d picks : ℕ) (w had : List ℕ) (d' picks' : ℕ) (w' had' : List ℕ) : Type 0 where
-  pub depth : d' ≡ d - 1
-  pub above : picks' ≡ picks / 8
-  pub back : w' ≡ set w (picks % 8) (get_or had 0 0)
-  pub rest : had' ≡ popped had
+-- the state after the deepest panel fixed gave up its trigger: w and the words replaced
+pub record GivenUp (w w' : Walk) : Type 0 where
+  pub place : w'.place ≡ given_up w.place
+  pub count : w'.bounds.count ≡ w.bounds.count
+  pub back : w'.bounds.at ≡ set w.bounds.at (w.place.picks % 8) (get_or w.replaced 0 0)
+  pub rest : w'.replaced ≡ popped w.replaced
 
 -- where every panel was fixed it did; elsewhere nothing has changed
-pub record Resumed (f d picks : ℕ) (w had : List ℕ) (d' picks' : ℕ) (w' had' : List ℕ) : Type 0 where
-  pub whole : d ≡ f → GivenUp d picks w had d' picks' w' had'
-  pub inner : ¬ (d ≡ f) → (d' ≡ d) × (picks' ≡ picks) × (w' ≡ w) × (had' ≡ had)
+pub record Resumed (f : ℕ) (w w' : Walk) : Type 0 where
+  pub whole : w.place.depth ≡ f → GivenUp w w'
+  pub inner : ¬ (w.place.depth ≡ f) → w' ≡ w

@@ -4,8 +4,8 @@
 // the panels fixed so far ask of each trigger, step 6's w, is kept on the way down and put back on the way up.
 #![tactic(auto)]
 
-ghost use Rattle.std.specs.Prelude.{◌≡◌, ℕ, ◌%◌, ◌<◌, ◌≤◌};
-ghost use Rattle.walk.specs.State.{place_at, walk_at, start_of, counts_of};
+ghost use Rattle.std.specs.Prelude.{◌≡◌, ◌%◌, ◌<◌, ◌≤◌};
+ghost use Rattle.walk.specs.State.{start_of, counts_of};
 ghost use Rattle.walk.specs.Inner.{TryReady, Tried, FixedReady, Descends, GivenUp, Resumed};
 ghost use Rattle.walk.specs.Steps.{StepReady, StepTaken, stepped};
 ghost use Rattle.walk.specs.Trace.{Masks};
@@ -13,17 +13,26 @@ ghost use Rattle.cue.specs.Sizes.{size_limit};
 
 use crate::narrowing::narrowed;
 use crate::remembering::{ask_of, put_back};
-use trigger_sets::{low, others, wide};
+use trigger_sets::{low, others};
 use words::LineWords;
 
 pub mod narrowing;
 pub mod remembering;
 
-// What a step gives.
+// What a step gives. It comes back beside the next state in a struct of its own: document 01's form, which docs/DECISIONS.md names.
 #[derive(Clone, Copy)]
 pub enum Outcome {
     Selection,
     End,
+}
+
+// The levels of a walk: how many panels have a floor, their masks, and the words of what they gain and of what they ask.
+#[derive(Clone, Copy)]
+pub struct Levels<'a> {
+    pub count: usize,
+    pub kept: &'a [u8; 6],
+    pub gains: &'a [[u64; 6]; 6],
+    pub needs: &'a [[u64; 6]; 6],
 }
 
 // Where a walk stands: how many panels are fixed, the fixings so far, the untried triggers of the open levels and the picks of the fixed
@@ -59,97 +68,78 @@ pub struct Counts {
 }
 
 // Trying the triggers of the panel below those fixed: the next one is fixed; where none is left, the panel above goes on, and what it had asked
-// is put back. There are f levels; w is what the panels fixed ask, had the words that are to be put back.
+// is put back.
+// A remainder by 64 fits a byte and a place a word, so `as` loses nothing, where TryFrom would add an error.
 // Says whether there is a selection. The state is lent, and no struct or enum comes back: it would be copied at each call.
+// So are the levels: handed over by value each call has a copy of its own, the calls do not become a loop, and a walk takes five times as long.
 #[cycle(descending_trying)]
-fn trying(
-    left: &mut u64,
-    picks: &mut u64,
-    depth: &mut usize,
-    fixings: &mut u32,
-    w: &mut [u64; 6],
-    had: &mut [u64; 6],
-    f: usize,
-    kept: &[u8; 6],
-    gains: &[[u64; 6]; 6],
-    needs: &[[u64; 6]; 6],
-) -> bool
-    requires { TryReady kept.now gains.now f (place_at depth.old fixings.old left.old picks.old) }
-    ensures { (n : ℕ) → Tried kept.now gains.now needs.now f
-        (walk_at n depth.old fixings.old left.old picks.old w.old had.old)
-        (stepped result
-        (walk_at n depth.new fixings.new left.new picks.new w.new had.new)) }
+fn trying(walk: &mut Walk, levels: &Levels) -> bool
+    requires { TryReady levels.now.kept.now levels.now.gains.now levels.now.count walk.old.place }
+    ensures { Tried levels.now.kept.now levels.now.gains.now levels.now.needs.now levels.now.count walk.old (stepped result walk.new) }
 {
-    let open = *left;
+    let open = walk.place.left;
     let m = (open % 64) as u8;
-    let d = *depth;
+    let d = walk.place.depth;
     if m == 0 {
         if d == 0 {
             return false;
         }
-        *left = open / 64;
-        give_up(picks, depth, w, had);
-        return trying(left, picks, depth, fixings, w, had, f, kept, gains, needs);
+        walk.place.left = open / 64;
+        give_up(walk);
+        return trying(walk, levels);
     }
     let rest = others(m);
-    let j = wide(low(m));
-    ask_of(w, had, j, needs[d][j]);
-    *left = open / 64 * 64 + rest as u64;
-    *picks = *picks * 8 + j as u64;
-    *fixings = *fixings + 1;
-    *depth = d + 1;
-    descending(left, picks, depth, fixings, w, had, f, kept, gains, needs)
+    let j = usize::from(low(m));
+    ask_of(
+        &mut walk.bounds.at,
+        &mut walk.replaced,
+        j,
+        levels.needs[d][j],
+    );
+    walk.place.left = open / 64 * 64 + u64::from(rest);
+    walk.place.picks = walk.place.picks * 8 + j as u64;
+    walk.place.fixings += 1;
+    walk.place.depth = d + 1;
+    descending(walk, levels)
 }
 
 // Down from a panel that has just been fixed: to the next one, unless the selection is whole.
 #[cycle(descending_trying)]
-fn descending(
-    left: &mut u64,
-    picks: &mut u64,
-    depth: &mut usize,
-    fixings: &mut u32,
-    w: &mut [u64; 6],
-    had: &mut [u64; 6],
-    f: usize,
-    kept: &[u8; 6],
-    gains: &[[u64; 6]; 6],
-    needs: &[[u64; 6]; 6],
-) -> bool
-    requires { FixedReady kept.now gains.now f (place_at depth.old fixings.old left.old picks.old) }
-    ensures { (n : ℕ) → Descends kept.now gains.now needs.now f
-        (walk_at n depth.old fixings.old left.old picks.old w.old had.old)
-        (stepped result
-        (walk_at n depth.new fixings.new left.new picks.new w.new had.new)) }
+fn descending(walk: &mut Walk, levels: &Levels) -> bool
+    requires { FixedReady levels.now.kept.now levels.now.gains.now levels.now.count walk.old.place }
+    ensures { Descends levels.now.kept.now levels.now.gains.now levels.now.needs.now levels.now.count walk.old (stepped result walk.new) }
 {
-    let next = *depth;
-    if next == f {
+    let next = walk.place.depth;
+    if next == levels.count {
         return true;
     }
-    let mask = narrowed(kept, gains, *picks, next);
-    *left = *left * 64 + mask as u64;
-    trying(left, picks, depth, fixings, w, had, f, kept, gains, needs)
+    let mask = narrowed(levels.kept, levels.gains, walk.place.picks, next);
+    walk.place.left = walk.place.left * 64 + u64::from(mask);
+    trying(walk, levels)
 }
 
 // The deepest panel fixed gives up its trigger: what it asked of it is put back.
-fn give_up(picks: &mut u64, depth: &mut usize, w: &mut [u64; 6], had: &mut [u64; 6])
-    requires { (0 < depth.old) × (picks.old % 8 < 6) }
-    ensures { GivenUp depth.old picks.old w.old had.old
-        depth.new picks.new w.new had.new }
+fn give_up(walk: &mut Walk)
+    requires { (0 < walk.old.place.depth) × (walk.old.place.picks % 8 < 6) }
+    ensures { GivenUp walk.old walk.new }
 {
-    let chosen = *picks;
-    put_back(w, had, (chosen % 8) as usize);
-    *picks = chosen / 8;
-    *depth = *depth - 1;
+    let chosen = walk.place.picks;
+    put_back(
+        &mut walk.bounds.at,
+        &mut walk.replaced,
+        (chosen % 8) as usize,
+    );
+    walk.place.picks = chosen / 8;
+    walk.place.depth -= 1;
 }
 
 // Where every panel is fixed, the last one gives up its trigger, to go on with the next.
-fn resume(f: usize, picks: &mut u64, depth: &mut usize, w: &mut [u64; 6], had: &mut [u64; 6])
-    requires { depth.old ≡ f → (0 < depth.old) × (picks.old % 8 < 6) }
-    ensures { Resumed f depth.old picks.old w.old had.old
-        depth.new picks.new w.new had.new }
+fn resume(walk: &mut Walk, count: usize)
+    requires { walk.old.place.depth ≡ count → (0 < walk.old.place.depth) × (walk.old.place.picks % 8 < 6) }
+    ensures { Resumed count walk.old walk.new }
 {
-    if *depth == f {
-        give_up(picks, depth, w, had);
+    if walk.place.depth == count {
+        give_up(walk);
     }
 }
 
@@ -158,113 +148,54 @@ impl Walk {
     pub fn start(kept: &[u8; 6], triggers: usize) -> Walk
         ensures { result ≡ start_of kept.now triggers }
     {
-        let first = wide(kept[0]);
         let place = Place {
             depth: 0,
             fixings: 0,
-            left: first as u64,
+            left: u64::from(kept[0]),
             picks: 0,
         };
-        let nothing = LineWords {
+        let bounds = LineWords {
             count: triggers,
             at: [0u64; 6],
         };
         Walk {
-            place: place,
-            bounds: nothing,
+            place,
+            bounds,
             replaced: [0u64; 6],
         }
     }
 
     // The next selection, or the end; after the end the end again, unchanged. Where every panel is fixed, the last one goes on.
-    pub fn step(
-        self,
-        f: usize,
-        kept: &[u8; 6],
-        gains: &[[u64; 6]; 6],
-        needs: &[[u64; 6]; 6],
-    ) -> Stepped
-        requires { StepReady kept.now gains.now f self.place }
-        ensures { StepTaken kept.now gains.now needs.now f self result }
+    pub fn step(self, levels: &Levels) -> Stepped
+        requires { StepReady levels.now.kept.now levels.now.gains.now levels.now.count self.place }
+        ensures { StepTaken levels.now.kept.now levels.now.gains.now levels.now.needs.now levels.now.count self result }
     {
-        let from = self.place;
-        let mut left = from.left;
-        let mut picks = from.picks;
-        let mut depth = from.depth;
-        let mut fixings = from.fixings;
-        let line = self.bounds;
-        let mut w = line.at;
-        let mut had = self.replaced;
-        resume(f, &mut picks, &mut depth, &mut w, &mut had);
-        let found = trying(
-            &mut left,
-            &mut picks,
-            &mut depth,
-            &mut fixings,
-            &mut w,
-            &mut had,
-            f,
-            kept,
-            gains,
-            needs,
-        );
-        let place = Place {
-            depth: depth,
-            fixings: fixings,
-            left: left,
-            picks: picks,
+        let mut next = self;
+        resume(&mut next, levels.count);
+        let found = trying(&mut next, levels);
+        let outcome = if found {
+            Outcome::Selection
+        } else {
+            Outcome::End
         };
-        handed_back(found, place, line, w, had)
-    }
-}
-
-// The state that is come to, with a selection or the end; its w has as many triggers as the one before.
-fn handed_back(found: bool, place: Place, before: LineWords, w: [u64; 6], had: [u64; 6]) -> Stepped
-    ensures { result ≡ stepped found (record { place = place; bounds = record { count = before.count; at = w }; replaced = had }) }
-{
-    let bounds = LineWords {
-        count: before.count,
-        at: w,
-    };
-    let next = Walk {
-        place: place,
-        bounds: bounds,
-        replaced: had,
-    };
-    if found {
-        return Stepped {
-            next: next,
-            outcome: Outcome::Selection,
-        };
-    }
-    Stepped {
-        next: next,
-        outcome: Outcome::End,
+        Stepped { next, outcome }
     }
 }
 
 // The fixings and the selections of the whole walk.
-pub fn count(
-    f: usize,
-    kept: &[u8; 6],
-    gains: &[[u64; 6]; 6],
-    needs: &[[u64; 6]; 6],
-    triggers: usize,
-) -> Counts
-    requires { (0 < f) × (f ≤ size_limit) × Masks kept.now }
-    ensures { result ≡ counts_of kept.now gains.now f }
+pub fn count(levels: &Levels, triggers: usize) -> Counts
+    requires { (0 < levels.now.count) × (levels.now.count ≤ size_limit) × Masks levels.now.kept.now }
+    ensures { result ≡ counts_of levels.now.kept.now levels.now.gains.now levels.now.count }
 {
-    let mut walk = Walk::start(kept, triggers);
+    let mut walk = Walk::start(levels.kept, triggers);
     let mut n: u32 = 0;
     loop {
-        let s = walk.step(f, kept, gains, needs);
-        let o = s.outcome;
+        let s = walk.step(levels);
         walk = s.next;
-        match o {
+        match s.outcome {
             Outcome::End => {
-                let place = walk.place;
                 return Counts {
-                    steps: place.fixings,
+                    steps: walk.place.fixings,
                     selections: n,
                 };
             }

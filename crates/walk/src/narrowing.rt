@@ -11,15 +11,10 @@ pub fn cut_by(j: usize, serves: bool, m: u8) -> u8
     requires { j < 6 }
     ensures { result ≡ cut j serves m }
 {
-    if has(m, j) {
-        if serves {
-            return 1u8 << j;
-        }
-    }
-    m
+    if has(m, j) && serves { 1 << j } else { m }
 }
 
-// The pick of level i, one of k.
+// The pick of level i, one of k: below eight, so `as` loses nothing, where TryFrom would add an error.
 fn pick(picks: u64, k: usize, i: usize) -> usize
     requires { (i < k) × (k ≤ size_limit) × Triggers k picks }
     ensures is { result ≡ get_or (picked k picks) i 0 }
@@ -34,12 +29,10 @@ pub fn narrowed(kept: &[u8; 6], gains: &[[u64; 6]; 6], picks: u64, k: usize) -> 
     ensures { (result ≡ mask_at kept.now gains.now (picked k picks)) × (result < 64) }
 {
     let mut m = kept[k];
-    let mut i: usize = 0;
-    while i < k {
+    for i in 0..k {
         let j = pick(picks, k, i);
         let serves = gains[i][j] <= gains[k][j];
         m = cut_by(j, serves, m);
-        i += 1;
     }
     m
 }

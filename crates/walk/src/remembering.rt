@@ -11,12 +11,10 @@ fn word_at(at: [u64; 6], j: usize) -> u64
     ensures { result ≡ get_or at j 0 }
 {
     let mut r: u64 = 0;
-    let mut k: usize = 0;
-    while k < 6 {
+    for k in 0..6 {
         if k == j {
             r = at[k];
         }
-        k += 1;
     }
     r
 }
@@ -27,12 +25,10 @@ fn with_word(at: [u64; 6], j: usize, x: u64) -> [u64; 6]
     ensures { result ≡ set at j x }
 {
     let mut r = at;
-    let mut k: usize = 0;
-    while k < 6 {
+    for k in 0..6 {
         if k == j {
             r[k] = x;
         }
-        k += 1;
     }
     r
 }

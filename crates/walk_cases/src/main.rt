@@ -3,12 +3,16 @@
 // is come to, one more step is taken.
 #![tactic(auto)]
 
-ghost use Rattle.std.specs.Prelude.{◌<◌, ◌≤◌};
+ghost use Rattle.std.specs.Prelude.{◌<◌, ◌≤◌, IfOk};
 ghost use Rattle.walk.specs.Trace.{Masks};
 ghost use Rattle.walk.specs.Steps.{StepReady};
 ghost use Rattle.cue.specs.Sizes.{size_limit};
 
-use walk::{Outcome, Walk};
+use candidates::Marks;
+use preparing::{Tables, prepare};
+use reading::read_sheet;
+use refusals::Refusal;
+use walk::{Levels, Outcome, Walk};
 
 // One word of w: the number, or a minus where it is absent.
 fn put_word(word: u64) {
@@ -27,15 +31,11 @@ fn put_word(word: u64) {
 
 // The first `count` words of w, trigger 1 first.
 fn put_words(at: [u64; 6], count: usize) {
-    let mut j: usize = 0;
-    while j < 6 {
-        if j < count {
-            if 0 < j {
-                io::write_all(1, b",");
-            }
-            put_word(at[j]);
+    for (j, word) in at.iter().take(count).enumerate() {
+        if 0 < j {
+            io::write_all(1, b",");
         }
-        j += 1;
+        put_word(*word);
     }
 }
 
@@ -43,39 +43,33 @@ fn put_words(at: [u64; 6], count: usize) {
 fn put_choices(picks: u64, depth: usize)
     requires { depth ≤ size_limit }
 {
-    let mut below = depth;
-    while 0 < below {
-        if below < depth {
+    for below in (0..depth).rev() {
+        if below + 1 < depth {
             io::write_all(1, b",");
         }
-        below -= 1;
         io::print_decimal(1, (picks >> (3 * below)) % 8 + 1);
     }
 }
 
 // The rest of a state's line: its w, the panels fixed in it and the fixings so far.
 fn put_state(w: Walk) {
-    let bounds = w.bounds;
-    let at = bounds.at;
     io::write_all(1, b" w=");
-    put_words(at, bounds.count);
-    let place = w.place;
+    put_words(w.bounds.at, w.bounds.count);
     io::write_all(1, b" fixed=");
-    io::print_decimal(1, place.depth as u64);
+    io::print_decimal(1, w.place.depth as u64);
     io::write_all(1, b" fixings=");
-    io::print_decimal(1, place.fixings as u64);
+    io::print_decimal(1, u64::from(w.place.fixings));
     io::write_all(1, b"\n");
 }
 
 // The end, and what a step gives after it: the end again, unchanged.
-fn put_end(w: Walk, panels: usize, kept: &[u8; 6], gains: &[[u64; 6]; 6], needs: &[[u64; 6]; 6])
-    requires { StepReady kept.now gains.now panels w.place }
+fn put_end(w: Walk, levels: &Levels)
+    requires { StepReady levels.now.kept.now levels.now.gains.now levels.now.count w.place }
 {
     io::write_all(1, b"end");
     put_state(w);
-    let s = w.step(panels, kept, gains, needs);
-    let o = s.outcome;
-    match o {
+    let s = w.step(levels);
+    match s.outcome {
         Outcome::End => {
             io::write_all(1, b"again");
         }
@@ -87,25 +81,18 @@ fn put_end(w: Walk, panels: usize, kept: &[u8; 6], gains: &[[u64; 6]; 6], needs:
 }
 
 // Every state of a walk.
-fn put_walk(
-    panels: usize,
-    kept: &[u8; 6],
-    gains: &[[u64; 6]; 6],
-    needs: &[[u64; 6]; 6],
-    triggers: usize,
-)
-    requires { (0 < panels) × (panels ≤ size_limit) × Masks kept.now }
+fn put_walk(levels: &Levels, triggers: usize)
+    requires { (0 < levels.now.count) × (levels.now.count ≤ size_limit) × Masks levels.now.kept.now }
 {
-    let mut w = Walk::start(kept, triggers);
+    let mut w = Walk::start(levels.kept, triggers);
     io::write_all(1, b"start");
     put_state(w);
     loop {
-        let s = w.step(panels, kept, gains, needs);
-        let o = s.outcome;
+        let s = w.step(levels);
         w = s.next;
-        match o {
+        match s.outcome {
             Outcome::End => {
-                put_end(w, panels, kept, gains, needs);
+                put_end(w, levels);
                 return;
             }
             Outcome::Selection => {
@@ -118,54 +105,53 @@ fn put_walk(
     }
 }
 
+// What a sheet's walk is made from, in lent tables; or its refusal.
+fn prepared(bytes: &[u8], tables: &mut Tables) -> Result<Marks, Refusal>
+    ensures { IfOk result (λ M. (0 < M.levels) × (M.levels ≤ size_limit) × Masks M.kept) }
+{
+    let sheet = read_sheet(bytes)?;
+    let prepared = prepare(&sheet, tables)?;
+    Ok(prepared.marked.marks)
+}
+
 // The walk of a sheet, or its refusal.
 fn put_sheet(bytes: &[u8]) {
-    let blank = [0u64; 6];
-    let mut order = [blank; 6];
-    let mut lag = [blank; 6];
-    let mut star = [blank; 6];
-    let mut gains = [blank; 6];
-    let mut needs = [blank; 6];
-    let reading = reading::read_sheet(bytes);
-    let prepared = preparing::prepare(
-        reading, &mut order, &mut lag, &mut star, &mut gains, &mut needs,
-    );
-    if prepared.refusal != 0 {
-        io::write_all(1, b"refused=");
-        io::print_decimal(1, prepared.refusal as u64);
-        io::write_all(1, b"\n");
-        return;
+    let mut tables = Tables::blank();
+    match prepared(bytes, &mut tables) {
+        Ok(marks) => {
+            let levels = Levels {
+                count: marks.levels,
+                kept: &marks.kept,
+                gains: &tables.gains,
+                needs: &tables.needs,
+            };
+            put_walk(&levels, marks.triggers);
+        }
+        Err(refusal) => {
+            io::write_all(1, b"refused=");
+            io::print_decimal(1, u64::from(refusal.number()));
+            io::write_all(1, b"\n");
+        }
     }
-    let marked = prepared.marked;
-    let marks = marked.marks;
-    let f = marks.levels;
-    let n = marks.triggers;
-    let masks = marks.kept;
-    put_walk(f, &masks, &gains, &needs, n);
 }
 
 // One case: its label, and the walk of its sheet.
 fn one(s: &[u8]) {
-    let mut i: usize = 0;
-    while i < s.len() {
-        if s[i] == b'|' {
-            io::write_all(1, &s[0..i]);
+    for (i, b) in s.iter().enumerate() {
+        if *b == b'|' {
+            io::write_all(1, &s[..i]);
             io::write_all(1, b"\n");
             put_sheet(&s[i + 1..]);
         }
-        i += 1;
     }
 }
 
+// What stands behind the last semicolon is no case.
 fn cases(s: &[u8]) {
-    let mut from: usize = 0;
-    let mut i: usize = 0;
-    while i < s.len() {
-        if s[i] == b';' {
-            one(&s[from..i]);
-            from = i + 1;
+    for case in s.split_inclusive(|b| *b == b';') {
+        if let Some(case) = case.strip_suffix(b";") {
+            one(case);
         }
-        i += 1;
     }
 }
 

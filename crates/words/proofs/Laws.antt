@@ -6,15 +6,16 @@ use mir.Syntax.{w64}
 use mir.Val.{SFits, to_z, of_z}
 use mir.Facts.{to_z_pos, to_z-of_z}
 use lib.Signed.{mag}
-use Prim.Native.Nat.{◌^◌, ℕ, zero, suc, ◌+◌, ◌-◌, ◌≤◌, ◌<◌, min}
+use Prim.Native.Nat.{◌^◌, ℕ, zero, suc, ◌+◌, ◌-◌, ◌≤◌, ◌<◌, min, max}
 use native.Mathlib.Omega.{arith}
+use native.Mathlib.Decide.{dec_lt}
 use lib.Dec.{ltb, leb, eqb, eqb-suc-zero}
 use lib.IntN.{ℤ, pos, negsuc, sub_ℕ, ◌-ℤ◌}
 use borrow.Author.Tests.{leb-true, leb-false}
 use Rattle.maxplus.specs.Whole.{up, dn, ◌+z◌, neg}
 use Rattle.maxplus.specs.Entry.{E, absent, num, ◌≼◌, leq_E, ◌⊗◌, ◌⊕◌, inv, present?, val}
 use Rattle.maxplus.proofs.WholeLaws.{z_eq, up_sub, up_add, up_neg}
-use Rattle.maxplus.proofs.EntryLaws.{◌▸◌, ≼_refl, ≼_anti, ≼_of, ≼_back, ≼_absent, ⊕_l, ⊕_r, ⊕_lub, ⊕_or, ⊗_absent, ⊗_nothing}
+use Rattle.maxplus.proofs.EntryLaws.{◌▸◌, ≼_anti, ≼_of, ≼_back, ≼_absent, ⊕_l, ⊕_r, ⊕_lub, ⊕_or, ⊗_absent, ⊗_nothing}
 use Rattle.maxplus.proofs.EntryLaws.{num_⊗, inv_num, num_inj, absent_not, leq_E_yes, leq_E_of}
 use Rattle.words.specs.Words.{bias, word, entry, far, Close, Near}
 
@@ -114,11 +115,13 @@ unfolding val
 none_below a e = rw (e, entry_zero)
 
 -- ---- the larger, the sum and the difference
-pub larger_low : (a b : ℕ) → a ≤ b → entry b ≡ entry a ⊕ entry b
-larger_low a b h = ≼_anti (⊕_r _ _) (⊕_lub (entry_mono a b h) (≼_refl _))
-
-pub larger_high : (a b : ℕ) → b ≤ a → entry a ≡ entry a ⊕ entry b
-larger_high a b h = ≼_anti (⊕_l _ _) (⊕_lub (≼_refl _) (entry_mono b a h))
+pub larger_is : (a b : ℕ) → entry (max a b) ≡ entry a ⊕ entry b
+larger_is a b = ≼_anti
+    (elim (dec_lt a b) [
+      | yes h ↦ let e : max a b ≡ b = omega arith in rw e (⊕_r _ _)
+      | no h ↦ let e : max a b ≡ a = omega arith in rw e (⊕_l _ _)
+    ])
+    (⊕_lub (entry_mono a _ (omega arith)) (entry_mono b _ (omega arith)))
 
 pub plus_none : (a b : ℕ) → a ≡ 0 → entry 0 ≡ entry a ⊗ entry b
 plus_none a b e = rw (e, entry_zero, ⊗_nothing)

@@ -18,7 +18,7 @@ pub const LINE_SIZE: usize = 7;
 pub const CAPPED_SIZE: usize = 8;
 
 // The signed word of absent in a lent space: the least number of 32 bits.
-const ABSENT: i32 = -2147483648;
+const ABSENT: i32 = i32::MIN;
 
 // A line, w or a timing: its count of triggers and its six components as words of entries, the unused ones absent.
 #[derive(Clone, Copy)]
@@ -49,9 +49,9 @@ pub fn of_number(x: i64) -> u64
     ensures { result ≡ word (num x) }
 {
     if x < 0 {
-        return negative((0 - x) as u64);
+        return negative(x.unsigned_abs());
     }
-    positive(x as u64)
+    positive(x.unsigned_abs())
 }
 
 // There is a number.
@@ -65,24 +65,21 @@ pub fn present(a: u64) -> bool
 pub fn above(a: u64) -> u64
     ensures { result ≡ up (val (entry a)) }
 {
-    if a < BIAS { 0 } else { a - BIAS }
+    a.saturating_sub(BIAS)
 }
 
 // How far the number is below 0: 0 where it is above, and where there is none.
 pub fn below(a: u64) -> u64
     ensures { result ≡ dn (val (entry a)) }
 {
-    if BIAS <= a {
-        return 0;
-    }
-    if a == 0 { 0 } else { BIAS - a }
+    if a == 0 { 0 } else { BIAS.saturating_sub(a) }
 }
 
 // The larger of two entries.
 pub fn larger(a: u64, b: u64) -> u64
     ensures { entry result ≡ entry a ⊕ entry b }
 {
-    if a < b { b } else { a }
+    a.max(b)
 }
 
 // The sum of two entries.
@@ -90,10 +87,7 @@ pub fn plus(a: u64, b: u64) -> u64
     requires { Near a × Near b }
     ensures { entry result ≡ entry a ⊗ entry b }
 {
-    if a == 0 {
-        return 0;
-    }
-    if b == 0 {
+    if a == 0 || b == 0 {
         return 0;
     }
     a + b - BIAS
@@ -104,16 +98,13 @@ pub fn minus(a: u64, b: u64) -> u64
     requires { Near a × Near b }
     ensures { entry result ≡ entry a ⊗ inv (entry b) }
 {
-    if a == 0 {
-        return 0;
-    }
-    if b == 0 {
+    if a == 0 || b == 0 {
         return 0;
     }
     BIAS + a - b
 }
 
-// The number that a word stands for.
+// The number that a word stands for. Both words are below 2^63, so `as` loses nothing, where TryFrom would add an error.
 pub fn number(a: u64) -> i64
     requires { (0 < a) × Near a }
     ensures { entry a ≡ num result }
@@ -129,10 +120,7 @@ pub fn signed(a: u64) -> i32
     if a == 0 {
         return ABSENT;
     }
-    if BIAS <= a {
-        return (a - BIAS) as i32;
-    }
-    -((BIAS - a) as i32)
+    number(a) as i32
 }
 
 // The entry of a signed word in a lent space.
@@ -143,5 +131,5 @@ pub fn of_signed(a: i32) -> u64
     if a == ABSENT {
         return 0;
     }
-    of_number(a as i64)
+    of_number(i64::from(a))
 }

@@ -1,13 +1,11 @@
--- Laws of putting: nothing, one byte, one text behind another, a key byte by byte.
+-- Laws of putting: nothing, one text behind another, a key byte by byte.
 use mathlib.Core.Path.{◌≡◌, refl, sym, ap, ap₂, subst, ◌∙◌}
-use mathlib.Core.List.{List, [], ◌∷◌, ◌++◌, append-nil, append_assoc}
+use mathlib.Core.List.{List, [], ◌++◌, append-nil, append_assoc}
 use Prim.Native.Nat.{ℕ, ◌+◌, ◌≤◌, ◌<◌}
 use native.Mathlib.Numerals.{add-one}
 use native.Mathlib.Omega.{arith}
 use lib.ListN.{length, take, drop, get_or, set, length-append, length-set, take-append-drop}
-use lib.Seq.{take-suc-set, take-length, drop-set-lt, drop-drop, paste, paste-zero, paste-suc, take-paste, drop-paste}
-use Rattle.sheet.specs.Text.{bytes}
-use Rattle.writing.specs.Texts.{field}
+use lib.Seq.{take-length, drop-drop, paste, paste-zero, paste-suc, take-paste, drop-paste}
 use Rattle.writing.specs.Writing.{Puts, Writes}
 
 pub put_nothing : (b : List ℕ) (at : ℕ) → at ≤ length b → Puts b b at at []
@@ -18,16 +16,6 @@ put_nothing b at h =
       end = omega arith;
       text = sym (append-nil (take at b));
       rest = refl;
-    }
-
-pub put_one : (b : List ℕ) (at x : ℕ) → at < length b → Puts b (set b at x) at (at + 1) (x ∷ [])
-put_one b at x h =
-    record {
-      same_length = length-set b at x;
-      within = omega (arith, length-set b at x);
-      end = refl;
-      text = rw (add-one at) (take-suc-set b at x h);
-      rest = drop-set-lt (at + 1) b at x (omega arith);
     }
 
 -- what is the same behind one place is so behind a later one
@@ -87,7 +75,7 @@ module _ {b c : List ℕ} {at : ℕ} {key : List ℕ} {i : ℕ} (p : Copied b c 
         is = rw (p.is, add-one i) (paste-suc b at key i 0 (omega (arith, p.room)) h);
       }
 
-  pub copied_all : length key ≤ i → Puts b c at (at + i) key
+  pub copied_all : length key ≤ i → Puts b c at (at + length key) key
   copied_all h =
       let e : i ≡ length key = omega (arith, p.few) in
       record {
@@ -97,12 +85,3 @@ module _ {b c : List ℕ} {at : ℕ} {key : List ℕ} {i : ℕ} (p : Copied b c 
         text = rw (p.is, e) (take-paste b at key (length key) (omega (arith, p.room)) (omega arith) ∙ ap (λ l. take at b ++ l) (take-length key));
         rest = rw (p.is, e) (drop-paste b at key (length key) (omega (arith, p.room)) (omega arith));
       }
-
--- ---- a field of at most 20 bytes behind its key
-pub field_length : (key v : List ℕ) → length (field key v) ≡ length key + length v + 1
-unfolding bytes
-field_length key v = length-append (key ++ v) (bytes "\n") ∙ ap (λ k. k + 1) (length-append key v)
-
-pub put_field : {a b c d : List ℕ} {at m n r : ℕ} {key v : List ℕ} → Puts a b at m key → Puts b c m n v → Puts c d n r (bytes "\n") →
-    length v ≤ 20 → Puts a d at r (field key v) × (r ≤ at + length key + 21)
-put_field {key = key} {v = v} p q e h = let f = then (then p q) e in (f, omega (arith, f.end, field_length key v))

@@ -1,19 +1,18 @@
 -- Laws of signed words as the machine tests, turns and passes them on: a component's word, and the sign of a number.
-use mathlib.Core.Path.{◌≡◌, refl, sym, ap, ◌∙◌}
+use mathlib.Core.Path.{◌≡◌, sym, ap, ◌∙◌}
 use mathlib.Core.List.{◌++◌}
 use mathlib.Core.Bool.{true, false}
 use mathlib.Core.Logic.{◌⊎◌, inl, inr, ⊎_elim}
-use Prim.Native.Nat.{ℕ, suc, ◌+◌, ◌^◌, ◌≤◌, ◌<◌}
-use native.Mathlib.Numerals.{add-one}
+use Prim.Native.Nat.{ℕ, ◌≤◌}
 use native.Mathlib.Decide.{ℕ_discrete}
 use native.Mathlib.Omega.{arith}
-use borrow.Author.Tests.{ltb-true, le-ltb}
-use lib.IntN.{ℤ, pos, negsuc, nat_abs, ◌-ℤ◌}
+use borrow.Author.Tests.{ltb-true}
+use lib.IntN.{ℤ, pos, negsuc, nat_abs}
 use lib.ListN.{length}
 use lib.Signed.{lt_z}
 use mir.Syntax.{w32, w64}
 use mir.Val.{SFits, to_z, of_z}
-use mir.Facts.{sfits_widen, to_z-of_z, to_z_pos}
+use mir.Facts.{sfits_widen, to_z-of_z}
 use Rattle.maxplus.specs.Entry.{absent, num}
 use Rattle.sheet.specs.Text.{bytes}
 use Rattle.writing.specs.Numerals.{natural, numeral, item}
@@ -47,53 +46,24 @@ wider_fits f = rw (to_z-of_z f) (sfits_widen tt f)
 pub wider_back : {w : ℤ} → SFits w32 w → to_z w64 (of_z w64 (to_z w32 (of_z w32 w))) ≡ w
 wider_back f = to_z-of_z (wider_fits f) ∙ to_z-of_z f
 
--- ---- a number's sign, as the machine tests and turns it: v is −1 − size, or size
+-- ---- a number's sign and magnitude, as the machine has them
 abbrev back : ℤ → ℤ
 back z = to_z w64 (of_z w64 z)
 
-pub record Negative (v : ℤ) : Type 0 where
-  pub size : ℕ
-  pub is : v ≡ negsuc size
-  pub small : size < 2 ^ 63
-  pub turned : negsuc 0 -ℤ back v ≡ pos size
-  pub read : to_z w64 size ≡ pos size
+module _ (v : ℤ) (f : SFits w64 v) {size : ℕ} (e : size ≡ nat_abs (back v)) where
+  size_is : size ≡ nat_abs v
+  size_is = e ∙ ap nat_abs (to_z-of_z f)
 
-pub record NotNegative (v : ℤ) : Type 0 where
-  pub size : ℕ
-  pub is : v ≡ pos size
-  pub small : size < 2 ^ 63
-  pub read : back v ≡ pos size
+  pub below_text : lt_z (back v) (pos 0) ≡ true → bytes "-" ++ natural size ≡ numeral v
+  below_text t = go v (ap (λ z. lt_z z (pos 0)) (sym (to_z-of_z f)) ∙ t) size_is
+    where
+      go : (v : ℤ) → lt_z v (pos 0) ≡ true → size ≡ nat_abs v → bytes "-" ++ natural size ≡ numeral v
+      go (pos n) t q = let h = ltb-true n 0 t in let e : ⊥ = omega arith in absurd e
+      go (negsuc n) t q = rw q
 
-turn : (k : ℕ) → negsuc 0 -ℤ negsuc k ≡ pos k
-turn k = rw (le-ltb (suc k) 1 (omega arith)) (ap pos (omega arith))
-
-pub negative : (v : ℤ) → SFits w64 v → lt_z (back v) (pos 0) ≡ true → Negative v
-negative v f t = go v f (ap (λ z. lt_z z (pos 0)) (sym (to_z-of_z f)) ∙ t)
-  where
-    go : (v : ℤ) → SFits w64 v → lt_z v (pos 0) ≡ true → Negative v
-    go (pos n) f t = let h = ltb-true n 0 t in let e : ⊥ = omega arith in absurd e
-    go (negsuc n) f t =
-        record {
-          size = n;
-          is = refl;
-          small = f.sfits;
-          turned = ap (λ z. negsuc 0 -ℤ z) (to_z-of_z f) ∙ turn n;
-          read = to_z_pos w64 f.sfits;
-        }
-
-pub not_negative : (v : ℤ) → SFits w64 v → lt_z (back v) (pos 0) ≡ false → NotNegative v
-not_negative v f t = go v f (ap (λ z. lt_z z (pos 0)) (sym (to_z-of_z f)) ∙ t)
-  where
-    go : (v : ℤ) → SFits w64 v → lt_z v (pos 0) ≡ false → NotNegative v
-    go (pos n) f t =
-        record {
-          size = n;
-          is = refl;
-          small = f.sfits;
-          read = to_z-of_z f;
-        }
-    go (negsuc n) f t = let e : ◌≡◌ {A = ℕ} 0 1 = cc in let e : ⊥ = omega arith in absurd e
-
--- a minus, then the magnitude as the machine has it
-pub minus_text : (v : ℤ) → Negative v → bytes "-" ++ natural (nat_abs (back (negsuc 0 -ℤ back v)) + 1) ≡ numeral v
-minus_text v b = rw (b.turned, b.read, add-one b.size) (sym (ap numeral b.is))
+  pub above_text : lt_z (back v) (pos 0) ≡ false → natural size ≡ numeral v
+  above_text t = go v (ap (λ z. lt_z z (pos 0)) (sym (to_z-of_z f)) ∙ t) size_is
+    where
+      go : (v : ℤ) → lt_z v (pos 0) ≡ false → size ≡ nat_abs v → natural size ≡ numeral v
+      go (pos n) t q = ap natural q
+      go (negsuc n) t q = let e : ◌≡◌ {A = ℕ} 0 1 = cc in let e : ⊥ = omega arith in absurd e

@@ -1,7 +1,7 @@
 -- Laws of lines: how a loop over items, lines or panels makes its text grow, part by part; which spare triggers a plan's text asks about.
-use mathlib.Core.Path.{◌≡◌, refl, sym, ap, ap₂, ◌∙◌}
+use mathlib.Core.Path.{◌≡◌, refl, sym, ap, ap₂, subst, ◌∙◌}
 use mathlib.Core.List.{List, [], ◌∷◌, ◌++◌, append-nil, append_assoc}
-use mathlib.Core.Bool.{Bool, true, false, cond}
+use mathlib.Core.Bool.{Bool, true, cond}
 use mathlib.Core.Option.{Option}
 use Prim.Native.Nat.{ℕ, zero, suc, ◌+◌, ◌*◌, ◌≤◌, ◌<◌}
 use native.Mathlib.Nat.{mul-suc, mul-le-mul_left, mul-le-mul_right}
@@ -18,26 +18,30 @@ use Rattle.sheet.specs.Text.{bytes}
 use Rattle.writing.specs.Numerals.{natural, numeral, item}
 use Rattle.writing.specs.Texts.{field, joined, component_text, line_text, cap_text, line_texts, plan_text, panel_texts}
 use Rattle.cue.specs.Standing.{of_signed, line_at}
-use Rattle.writing.specs.Writing.{Puts, comma, items, text_at, texts_of}
-use Rattle.writing.proofs.PutLaws.{put_nothing, then, put_as}
+use Rattle.writing.specs.Writing.{Put, comma, items, text_at, texts_of}
+use Rattle.writing.specs.declared.Writer.{Writer}
+use Rattle.writing.proofs.WriterLaws.{put_nothing, then, put_as}
 use Rattle.cue.specs.Written.{line_size, capped_size}
 
 -- ---- k parts are put, of at most `size` bytes each: a loop's invariant
-pub record Grown (T : ℕ → List ℕ) (size : ℕ) (before after : List ℕ) (from end k : ℕ) : Type 0 where
-  pub short : end ≤ from + size * k
-  pub puts : Puts before after from end (T k)
+pub record Grown (T : ℕ → List ℕ) (size : ℕ) (before after : Writer) (k : ℕ) : Type 0 where
+  pub short : after.at ≤ before.at + size * k
+  pub puts : Put before after (T k)
 
 module _ (T : ℕ → List ℕ) (size : ℕ) where
-  pub grown_none : (b : List ℕ) (from : ℕ) → T 0 ≡ [] → from ≤ length b → Grown T size b b from from 0
-  grown_none b from e h = record { short = omega arith; puts = put_as (sym e) (put_nothing b from h) }
+  pub grown_none : (w : Writer) → T 0 ≡ [] → w.at ≤ length w.out.now → Grown T size w w 0
+  grown_none w e h = record { short = omega arith; puts = put_as (sym e) (put_nothing w h) }
 
-  pub grown_more : {a b c : List ℕ} {from end r k : ℕ} {t : List ℕ} → T (suc k) ≡ T k ++ t → Grown T size a b from end k → Puts b c end r t →
-      r ≤ end + size → Grown T size a c from r (k + 1)
+  pub grown_more : {a b c : Writer} {k : ℕ} {t : List ℕ} → T (suc k) ≡ T k ++ t → Grown T size a b k → Put b c t → c.at ≤ b.at + size →
+      Grown T size a c (k + 1)
   grown_more {k = k} e g p h =
       record {
         short = omega (arith, g.short);
         puts = put_as (sym (ap T (add-one k) ∙ e)) (then g.puts p);
       }
+
+  pub grown_as : {a b : Writer} {k j : ℕ} → k ≡ j → Grown T size a b k → Grown T size a b j
+  grown_as {a} {b} e g = subst (λ k. Grown T size a b k) e g
 
 -- ---- items
 abbrev pub first_items : (n : ℕ) → (ℕ → Bool) → Line n → ℕ → List ℕ
@@ -72,9 +76,6 @@ comma_behind (suc j) n = refl
 
 pub spare_component : {b : Bool} (t : List ℕ) → b ≡ true → bytes "s" ≡ cond b (bytes "s") t
 spare_component t e = sym (ap (λ b. cond b (bytes "s") t) e)
-
-pub used_component : {b : Bool} {t u : List ℕ} → b ≡ false → u ≡ t → u ≡ cond b (bytes "s") t
-used_component {t = t} e f = f ∙ sym (ap (λ b. cond b (bytes "s") t) e)
 
 -- the i-th item of a line is its word's
 item_of : (n : ℕ) (ws : List ℤ) (from i : ℕ) → i < n → item (of_signed (get_or ws (from + 1 + i) (pos 0))) ≡ item (at n (line_at n ws from) i)

@@ -6,6 +6,7 @@ use Rattle.cue.specs.Written.{line_size, capped_size}
 use Rattle.cue.specs.Standing.{line_at}
 use Rattle.sheet.specs.Text.{bytes}
 use Rattle.writing.specs.Numerals.{numeral}
+use Rattle.writing.specs.declared.Writer.{Writer}
 use Rattle.writing.specs.Texts.{field, joined, component_text, line_text}
 
 -- The text t is put at `from`, up to r: what stood before it and behind it is kept, and so is the length.
@@ -15,6 +16,11 @@ pub record Puts (before after : List ℕ) (from r : ℕ) (t : List ℕ) : Type 0
   pub end : r ≡ from + length t
   pub text : take r after ≡ take from before ++ t
   pub rest : drop r after ≡ drop r before
+
+-- The text t is put at a writer's place, which is behind it afterwards; the writer holds the same bytes.
+pub record Put (before after : Writer) (t : List ℕ) : Type 0 where
+  pub same : after.out.ghost_name ≡ before.out.ghost_name
+  pub puts : Puts before.out.now after.out.now before.at after.at t
 
 -- The text t is all that stands before r.
 pub record Writes (after : List ℕ) (r : ℕ) (t : List ℕ) : Type 0 where

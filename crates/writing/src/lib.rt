@@ -1,103 +1,143 @@
-// Bytes, numbers and fields put at a place of the lent bytes; what stands before the place is kept.
+// Bytes, numbers and fields put one behind another into lent bytes; what stands before them is kept.
 #![tactic(auto)]
 
-ghost use Rattle.std.specs.Prelude.{[], ◌∷◌, ◌+◌, ◌<◌, ◌≤◌, length};
+ghost use Rattle.std.specs.Prelude.{◌≡◌, List, ℕ, [], ◌∷◌, ◌+◌, ◌<◌, ◌≤◌, length};
 ghost use Rattle.writing.specs.Numerals.{natural, numeral, item};
 ghost use Rattle.writing.specs.Texts.{field};
 ghost use Rattle.cue.specs.Standing.{of_signed};
-ghost use Rattle.writing.specs.Writing.{Puts, comma};
+ghost use Rattle.writing.specs.Writing.{Puts, Put, comma};
 
 // The word of an absent component.
 const ABSENT: i32 = -0x8000_0000;
 
-pub fn put_byte(out: &mut [u8], at: usize, b: u8) -> usize
-    requires { at < length out.old }
-    ensures { Puts out.old out.new at result (b ∷ []) }
-{
-    out[at] = b;
-    at + 1
+// Lent bytes, and the place in them where the next text is put.
+#[derive(Drop)]
+pub struct Writer<'a> {
+    pub out: &'a mut [u8],
+    pub at: usize,
 }
 
-pub fn put_bytes(out: &mut [u8], at: usize, key: &[u8]) -> usize
-    requires { at + length key.now ≤ length out.old }
-    ensures { Puts out.old out.new at result key.now }
-{
-    let mut i: usize = 0;
-    while i < key.len() {
-        out[at + i] = key[i];
-        i += 1;
+impl<'a> Writer<'a> {
+    // At the front.
+    pub fn new(out: &'a mut [u8]) -> Writer<'a>
+        ensures same { result.out.ghost_name ≡ out.entry.ghost_name }
+        ensures kept { result.out.now ≡ out.old }
+        ensures front { result.at ≡ 0 }
+    {
+        Writer { out, at: 0 }
     }
-    at + i
-}
 
-// What stands before the j-th item, counted from 0: a comma, unless it is the first.
-pub fn put_comma(out: &mut [u8], at: usize, j: usize) -> usize
-    requires { at < length out.old }
-    ensures puts { Puts out.old out.new at result (comma j) }
-    ensures short { result ≤ at + 1 }
-{
-    if j == 0 {
-        return at;
+    pub fn put_byte(&mut self, b: u8)
+        requires { self.old.at < length self.old.out.now }
+        ensures { Put self.old self.new (b ∷ []) }
+    {
+        self.out[self.at] = b;
+        self.at += 1;
     }
-    put_byte(out, at, b',')
-}
 
-// The digits of v, at most 20 below 2^64: those of its tenth part, then the last one.
-pub fn put_natural(out: &mut [u8], at: usize, v: u64) -> usize
-    requires { at + 20 ≤ length out.old }
-    ensures { Puts out.old out.new at result (natural v) }
-{
-    if v < 10 {
-        return put_byte(out, at, b'0' + v as u8);
+    pub fn put_bytes(&mut self, key: &[u8])
+        requires { self.old.at + length key.now ≤ length self.old.out.now }
+        ensures { Put self.old self.new key.now }
+    {
+        self.at = put_bytes(self.out, self.at, key);
     }
-    let end = put_natural(out, at, v / 10);
-    put_byte(out, end, b'0' + (v % 10) as u8)
-}
 
-// A number: a minus and at most 19 digits, for which put_natural asks 20.
-pub fn put_number(out: &mut [u8], at: usize, v: i64) -> usize
-    requires { at + 24 ≤ length out.old }
-    ensures puts { Puts out.old out.new at result (numeral v) }
-    ensures short { result ≤ at + 20 }
-{
-    if v < 0 {
-        let minus = put_byte(out, at, b'-');
-        // the magnitude, one more than -1 - v: the least number has no negative of its type
-        return put_natural(out, minus, (-1 - v) as u64 + 1);
+    // What stands before the j-th item, counted from 0: a comma, unless it is the first.
+    pub fn put_comma(&mut self, j: usize)
+        requires { self.old.at < length self.old.out.now }
+        ensures puts { Put self.old self.new (comma j) }
+        ensures short { self.new.at ≤ self.old.at + 1 }
+    {
+        if j != 0 {
+            self.put_byte(b',');
+        }
     }
-    put_natural(out, at, v as u64)
-}
 
-// A component's word, a number or a lone minus for absent: at most 11 bytes.
-pub fn put_item(out: &mut [u8], at: usize, w: i32) -> usize
-    requires { at + 24 ≤ length out.old }
-    ensures puts { Puts out.old out.new at result (item (of_signed w)) }
-    ensures short { result ≤ at + 11 }
-{
-    if w == ABSENT {
-        return put_byte(out, at, b'-');
+    // The digits of v, at most 20 below 2^64: those of its tenth part, then the last one.
+    pub fn put_natural(&mut self, v: u64)
+        requires { self.old.at + 20 ≤ length self.old.out.now }
+        ensures { Put self.old self.new (natural v) }
+    {
+        if v < 10 {
+            self.put_byte(b'0' + v as u8);
+            return;
+        }
+        self.put_natural(v / 10);
+        self.put_byte(b'0' + (v % 10) as u8);
     }
-    put_number(out, at, w as i64)
+
+    // A number: a minus and at most 19 digits, for which put_natural asks 20.
+    pub fn put_number(&mut self, v: i64)
+        requires { self.old.at + 24 ≤ length self.old.out.now }
+        ensures puts { Put self.old self.new (numeral v) }
+        ensures short { self.new.at ≤ self.old.at + 20 }
+    {
+        if v < 0 {
+            self.put_byte(b'-');
+            self.put_natural(v.unsigned_abs());
+            return;
+        }
+        self.put_natural(v.unsigned_abs());
+    }
+
+    // A component's word, a number or a lone minus for absent: at most 11 bytes.
+    pub fn put_item(&mut self, w: i32)
+        requires { self.old.at + 24 ≤ length self.old.out.now }
+        ensures puts { Put self.old self.new (item (of_signed w)) }
+        ensures short { self.new.at ≤ self.old.at + 11 }
+    {
+        if w == ABSENT {
+            self.put_byte(b'-');
+            return;
+        }
+        self.put_number(i64::from(w));
+    }
+
+    // The key, a number, LF: at most 21 bytes behind the key.
+    pub fn put_field<V: Number>(&mut self, key: &[u8], v: V)
+        requires { self.old.at + length key.now + 24 ≤ length self.old.out.now }
+        ensures puts { Put self.old self.new (field key.now (V.text v)) }
+        ensures short { self.new.at ≤ self.old.at + length key.now + 21 }
+    {
+        self.put_bytes(key);
+        v.put(self);
+        self.put_byte(b'\n');
+    }
 }
 
-// The key, a natural number, LF: at most 21 bytes behind the key.
-pub fn natural_field(out: &mut [u8], at: usize, key: &[u8], v: u64) -> usize
-    requires { at + length key.now + 24 ≤ length out.old }
-    ensures puts { Puts out.old out.new at result (field key.now (natural v)) }
-    ensures short { result ≤ at + length key.now + 21 }
-{
-    let behind = put_bytes(out, at, key);
-    let end = put_natural(out, behind, v);
-    put_byte(out, end, b'\n')
+// A number that can be put as text, of at most 20 bytes, for which put asks 24.
+pub trait Number: Copy {
+    ghost text: { Self → List ℕ };
+
+    fn put(self, writer: &mut Writer<'_>)
+        requires { writer.old.at + 24 ≤ length writer.old.out.now }
+        ensures puts { Put writer.old writer.new (text self) }
+        ensures short { writer.new.at ≤ writer.old.at + 20 };
 }
 
-// The key, a number, LF: at most 21 bytes behind the key.
-pub fn number_field(out: &mut [u8], at: usize, key: &[u8], v: i64) -> usize
-    requires { at + length key.now + 24 ≤ length out.old }
-    ensures puts { Puts out.old out.new at result (field key.now (numeral v)) }
-    ensures short { result ≤ at + length key.now + 21 }
+impl Number for u64 {
+    ghost text = { natural };
+
+    fn put(self, writer: &mut Writer<'_>) {
+        writer.put_natural(self);
+    }
+}
+
+impl Number for i64 {
+    ghost text = { numeral };
+
+    fn put(self, writer: &mut Writer<'_>) {
+        writer.put_number(self);
+    }
+}
+
+// A text put at a place by itself; the place behind it. Byte by byte: `copy_from_slice` would have the library need `memmove`.
+pub fn put_bytes(out: &mut [u8], at: usize, text: &[u8]) -> usize
+    requires { at + length text.now ≤ length out.old }
+    ensures { Puts out.old out.new at result text.now }
 {
-    let behind = put_bytes(out, at, key);
-    let end = put_number(out, behind, v);
-    put_byte(out, end, b'\n')
+    for k in 0..text.len() {
+        out[at + k] = text[k];
+    }
+    at + text.len()
 }

@@ -1,16 +1,18 @@
--- `advice::advice_text` meets its contract: the sentences are lines of one text. Assumes nothing.
+-- `advice::advice_text` meets its contract: a refusal's sentence is the one at its place. Assumes nothing.
 use mathlib.Core.Path.{subst}
-use native.Mathlib.Omega.{arith}
+use Rattle.std.proofs.Common.{arith}
 use Rattle.sheet.specs.Text.{bytes}
 use Rattle.advice.specs.Advice.{sentences}
 use Rattle.writing.specs.Writing.{Writes}
-use Rattle.advice.proofs.AdviceLaws.{spoken, spoken_short}
+use Rattle.writing.proofs.PutLaws.{written}
+use Rattle.advice.proofs.AdviceLaws.{now_at, spoken, unspoken}
 use Rattle.advice.proofs.advice_text.Goals as goal
 
-pub put_nth-requires : goal.put_nth-requires
-unfolding sentences bytes
-put_nth-requires c = omega (arith, spoken_short c.args.refusal)
+pub returns-then-place-ge15 : goal.returns-then-place-ge15
+returns-then-place-ge15 c =
+    record { within = omega arith; text = unspoken _ _ c.from-place.ensures c.if-place-ge15.true }
 
 pub returns : goal.returns
 unfolding sentences bytes
-returns c = subst (Writes _ _) (spoken _) c.put_nth.ensures
+returns c =
+    subst (Writes _ _) (rw now_at (spoken _ _ _ c.from-place.ensures c.if-place-ge15.false)) (written c.put_bytes.ensures)

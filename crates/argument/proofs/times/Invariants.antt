@@ -5,8 +5,8 @@ use lib.ListN.{length}
 use Rattle.argument.proofs.TimesLaws.{ReadTo}
 use Rattle.argument.proofs.times.Given as goal
 
-abbrev pub invariant-loop-word : goal.invariant-loop-word
-invariant-loop-word l = ReadTo l.s l.at l.count l.place
+abbrev pub invariant-loop-item : goal.invariant-loop-item
+invariant-loop-item l = ReadTo l.s l.at l.count l.place
 
-abbrev pub decreases-loop-word : goal.decreases-loop-word
-decreases-loop-word l = length l.s - l.place
+abbrev pub decreases-loop-item : goal.decreases-loop-item
+decreases-loop-item l = length l.s - l.place

@@ -1,23 +1,23 @@
 -- `comparing::refused` meets its contract. Assumes nothing.
-use mathlib.Core.Path.{refl}
-use native.Mathlib.Omega.{arith}
-use Rattle.comparing.proofs.SameLaws.{wide_known, refused_enough, refused_short}
-use Rattle.comparing.proofs.refused.Goals.{else-count-gt0-via-then-count-gt0+else-count-words, else-count-gt0-via-else-count-gt0}
+use mathlib.Core.Path.{refl, ap, sym, ◌∙◌}
+use Rattle.comparing.proofs.SameLaws.{refused_by, wide_known, refused_as, room_there, room_short}
 use Rattle.comparing.proofs.refused.Goals as goal
 
 pub nonzero_div-words : goal.nonzero_div-words
-nonzero_div-words c = wide_known _ _ refl _ c.plan-r.ensures.answer c.if-count-gt0.true
+nonzero_div-words c = wide_known _ _ refl c.plan.ensures.answer (rw c.in-Err-NoRoom.field-0-is at c.in-Err-NoRoom.is)
 
-pub returns-then-count-words : goal.returns-then-count-words
-returns-then-count-words c =
-    λ space e.
-    refused_enough _ _ refl _ c.plan-r.ensures.answer _ space e c.extent_of-needed.ensures c.if-count-gt0.true c.if-count-words.true
+pub returns-in-Ok : goal.returns-in-Ok
+returns-in-Ok c = refused_as _ _ refl c.plan.ensures.answer (sym (ap (refused_by c.args.words) c.in-Ok.is))
 
-pub returns : goal.returns
-returns c =
-    λ space e.
-    refused_short _ _ refl _ c.plan-r.ensures.answer _ space e c.extent_of-needed.ensures
-    (λ h. elim c.else-count-gt0.branch [
-      | else-count-gt0-via-then-count-gt0+else-count-words w ↦ w.if-count-words.false
-      | else-count-gt0-via-else-count-gt0 w ↦ let x : ⊥ = omega (arith, w.if-count-gt0.false) in absurd x
-    ])
+pub returns-in-Err-Refused : goal.returns-in-Err-Refused
+returns-in-Err-Refused c = refused_as _ _ refl c.plan.ensures.answer (sym (ap (refused_by c.args.words) (rw c.in-Err-Refused.field-0-is at c.in-Err-Refused.is)))
+
+pub returns-then-needed-words : goal.returns-then-needed-words
+returns-then-needed-words c =
+    refused_as _ _ refl c.plan.ensures.answer
+    (room_there c.args.words _ c.if-needed-words.true ∙ sym (ap (refused_by c.args.words) (rw c.in-Err-NoRoom.field-0-is at c.in-Err-NoRoom.is)))
+
+pub returns-else-needed-words : goal.returns-else-needed-words
+returns-else-needed-words c =
+    refused_as _ _ refl c.plan.ensures.answer
+    (room_short c.args.words _ c.if-needed-words.false ∙ sym (ap (refused_by c.args.words) (rw c.in-Err-NoRoom.field-0-is at c.in-Err-NoRoom.is)))

@@ -5,7 +5,7 @@ use Rattle.comparing.proofs.SameLaws.{said_yes, said_no}
 use Rattle.comparing.proofs.same_lines.Goals as goal
 
 pub loop-k-init : goal.loop-k-init
-loop-k-init c = (omega arith, none_differ _ _ _ _)
+loop-k-init c = none_differ _ _ _ _
 
 pub returns-then-not-same_words : goal.returns-then-not-same_words
 returns-then-not-same_words c =
@@ -17,4 +17,4 @@ pub loop-k-preserved : goal.loop-k-preserved
 loop-k-preserved c =
     let k = c.loop-k in
     let h = said_yes c.if-not-same_words.false c.same_words.ensures in
-    (omega arith, lines_more _ _ _ _ k.k k.invariant.1 h)
+    lines_more _ _ _ _ k.k k.invariant h

@@ -1,11 +1,7 @@
 -- `comparing::same_lines` meets its contract: the lines passed are the same. Assumes nothing.
 use mathlib.Core.Path.{◌≡◌}
-use Prim.Native.Nat.{◌≤◌, ◌-◌}
 use Rattle.cue.specs.Written.{uncapped}
 use Rattle.comparing.proofs.same_lines.Given as goal
 
 abbrev pub invariant-loop-k : goal.invariant-loop-k
-invariant-loop-k l = (l.k ≤ l.count) × (uncapped l.wide l.k l.left ≡ uncapped l.broad l.k l.right)
-
-abbrev pub decreases-loop-k : goal.decreases-loop-k
-decreases-loop-k l = l.count - l.k
+invariant-loop-k l = uncapped l.wide l.k l.left ≡ uncapped l.broad l.k l.right

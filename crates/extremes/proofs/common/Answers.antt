@@ -7,22 +7,20 @@ use Rattle.extremes.proofs.common.Goals as goal
 use Rattle.extremes.proofs.common.Goals.{then-present+else-all-eq0, else-present}
 
 pub loop-k-init : goal.loop-k-init
-loop-k-init c = (omega arith, every_none _ _)
+loop-k-init c = every_none _ _
 
 pub returns-then-all-eq0 : goal.returns-then-all-eq0
 unfolding meant_v
 returns-then-all-eq0 c =
     every_stop _ _ _ _ _ (omega arith)
-    (every_more _ _ _ _ _ c.loop-k.invariant.1 c.closed-all.ensures (flag_present _ _ c.present.ensures c.if-present.true))
+    (every_more _ _ _ _ _ c.loop-k.invariant c.closed-all.ensures (flag_present _ _ c.present.ensures c.if-present.true))
     c.if-all-eq0.true
 
 pub loop-k-preserved : goal.loop-k-preserved
 unfolding meant_v
 loop-k-preserved c =
-    let p = c.present.ensures in (
-      omega arith,
-      elim c.if-present.branch [
-        | then-present+else-all-eq0 w ↦ rw w.all-is (every_more _ _ _ _ _ c.loop-k.invariant.1 w.closed-all.ensures (flag_present _ _ p w.if-present.true))
-        | else-present w ↦ rw w.all-is (every_less _ _ _ _ c.loop-k.invariant.1 (flag_absent _ _ p w.if-present.false))
-      ],
-    )
+    let p = c.present.ensures in
+    elim c.if-present.branch [
+      | then-present+else-all-eq0 w ↦ rw w.all-is (every_more _ _ _ _ _ c.loop-k.invariant w.closed-all.ensures (flag_present _ _ p w.if-present.true))
+      | else-present w ↦ rw w.all-is (every_less _ _ _ _ c.loop-k.invariant (flag_absent _ _ p w.if-present.false))
+    ]

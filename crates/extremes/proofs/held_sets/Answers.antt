@@ -4,4 +4,4 @@ use Rattle.tables.proofs.Loops.{filled_more}
 use Rattle.extremes.proofs.held_sets.Goals as goal
 
 pub loop-k-preserved : goal.loop-k-preserved
-loop-k-preserved c = (omega arith, filled_more _ 0 _ _ _ (omega arith) c.loop-k.invariant.1 c.held_by.ensures)
+loop-k-preserved c = filled_more _ 0 _ _ _ (omega arith) c.loop-k.invariant c.held_by.ensures

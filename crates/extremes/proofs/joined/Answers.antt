@@ -5,10 +5,7 @@ use Rattle.extremes.proofs.joined.Goals as goal
 use Rattle.extremes.proofs.joined.Goals.{then-late-l, else-late-l}
 
 pub loop-l-preserved : goal.loop-l-preserved
-loop-l-preserved c = (
-  omega arith,
-  elim c.if-late-l.branch [
-    | then-late-l w ↦ rw w.set-is (union_more _ _ _ _ c.loop-l.invariant.1 (set_with w.if-late-l.true (set_self (c.requires.1 _ (omega arith)))))
-    | else-late-l w ↦ rw w.set-is (union_less _ _ _ c.loop-l.invariant.1 (λ j u. w.if-late-l.false u.0))
-  ],
-)
+loop-l-preserved c = elim c.if-late-l.branch [
+  | then-late-l w ↦ rw w.set-is (union_more _ _ _ _ c.loop-l.invariant (set_with w.if-late-l.true (set_self (c.requires.1 _ (omega arith)))))
+  | else-late-l w ↦ rw w.set-is (union_less _ _ _ c.loop-l.invariant (λ j u. w.if-late-l.false u.0))
+]

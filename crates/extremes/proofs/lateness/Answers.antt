@@ -8,14 +8,12 @@ use Rattle.extremes.proofs.lateness.Goals as goal
 pub loop-j-preserved : goal.loop-j-preserved
 unfolding meant_v
 loop-j-preserved c =
-    let e = c.minus.ensures in (
-      omega arith,
-      filled_more _ 0 _ _ _ (omega arith) c.loop-j.invariant.1
-          (e, close_minus _ _ _ e (c.requires.1.at _ (omega arith)) (c.requires.2.at _ (omega arith))),
-    )
+    let e = c.minus.ensures in
+    filled_more _ 0 _ _ _ (omega arith) c.loop-j.invariant
+    (e, close_minus _ _ _ e (c.requires.1.at _ (omega arith)) (c.requires.2.at _ (omega arith)))
 
-pub returns-after-loop-j-clause-is : goal.returns-after-loop-j-clause-is
+pub returns-clause-is : goal.returns-clause-is
 unfolding meant_v
-returns-after-loop-j-clause-is c =
-    let r = c.loop-j.invariant.1 in
+returns-clause-is c =
+    let r = c.loop-j.invariant in
     record { at = λ j h. (r.done j (omega arith)).0 }

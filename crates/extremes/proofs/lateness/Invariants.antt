@@ -1,6 +1,5 @@
 -- `extremes::lateness` meets its contract. The places passed are written. Assumes nothing.
 use mathlib.Core.Path.{◌≡◌}
-use Prim.Native.Nat.{◌≤◌, ◌-◌}
 use Rattle.maxplus.specs.Entry.{◌⊗◌, inv}
 use Rattle.words.specs.Words.{entry, Close}
 use Rattle.sheet.specs.Sizes.{late_size}
@@ -10,8 +9,4 @@ use Rattle.extremes.proofs.lateness.Given as goal
 
 abbrev pub invariant-loop-j : goal.invariant-loop-j
 invariant-loop-j l =
-    (l.j ≤ l.n) ×
     Filled (λ j v. (entry v ≡ meant_v l.line.at j ⊗ inv (meant_v l.due j)) × Close late_size v) 0 l.r l.j
-
-abbrev pub decreases-loop-j : goal.decreases-loop-j
-decreases-loop-j l = l.n - l.j

@@ -6,4 +6,4 @@ use Rattle.extremes.proofs.tight_sets.Goals as goal
 
 pub loop-i-preserved : goal.loop-i-preserved
 unfolding meant_v
-loop-i-preserved c = (omega arith, filled_more _ 0 _ _ _ (omega arith) c.loop-i.invariant.1 c.reaching.ensures)
+loop-i-preserved c = filled_more _ 0 _ _ _ (omega arith) c.loop-i.invariant c.reaching.ensures

@@ -1,5 +1,4 @@
 -- `extremes::tight_sets` meets its contract. The sets of the panels passed are written. Assumes nothing.
-use Prim.Native.Nat.{◌≤◌, ◌-◌}
 use Rattle.maxplus.specs.Entry.{◌⊗◌}
 use Rattle.words.specs.Words.{entry}
 use Rattle.tables.specs.Held.{meant, meant_v}
@@ -9,8 +8,4 @@ use Rattle.extremes.proofs.tight_sets.Given as goal
 
 abbrev pub invariant-loop-i : goal.invariant-loop-i
 invariant-loop-i l =
-    (l.i ≤ l.panels) ×
     Filled (λ i m. Reaching l.line.count (λ j. meant l.lag i j ⊗ meant_v l.line.at j) (meant_v l.asks i) (entry l.most) m) 0 l.r l.i
-
-abbrev pub decreases-loop-i : goal.decreases-loop-i
-decreases-loop-i l = l.panels - l.i

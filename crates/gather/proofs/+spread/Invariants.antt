@@ -4,4 +4,4 @@ use Rattle.rays.specs.Rays.{places}
 use Rattle.gather.proofs.+spread.Given as goal
 
 abbrev pub decreases-spread : goal.decreases-spread
-decreases-spread l = (places + 1) * (l.marks.levels - l.level) + (l.many - l.from)
+decreases-spread l = (places + 1) * (l.sources.marks.now.levels - l.level) + (l.set.now.len - l.from)

@@ -1,10 +1,7 @@
 -- `gather::consider_rays` meets its contract: the lines of the first `k` rays have been considered.
-use Prim.Native.Nat.{◌-◌}
 use Rattle.gather.proofs.SpreadLaws.{DrawnTo}
 use Rattle.gather.proofs.consider_rays.Given as goal
 
 abbrev pub invariant-loop-k : goal.invariant-loop-k
-invariant-loop-k l = DrawnTo l.marks l.star l.lag l.last.at l.set l.many l.known l.initial.held l.initial.buf l.k l.held l.buf
-
-abbrev pub decreases-loop-k : goal.decreases-loop-k
-decreases-loop-k l = l.many - l.k
+invariant-loop-k l = DrawnTo l.sources.marks.now l.sources.star.now l.sources.lag.now l.last.at l.set.rows l.set.len l.known l.initial.buffer.len l.initial.buffer.rows l.k
+    l.buffer.len l.buffer.rows

@@ -12,19 +12,19 @@ first_ray-first-requires c =
     let p = c.requires.0.1 in
     (p.few, c.loop-t-test.true, stars_close p, (pulls_close p).at _ c.loop-t-test.true)
 
-pub conclude-len-requires : goal.conclude-len-requires
-conclude-len-requires c =
-    let a = c.args in
+pub conclude-requires : goal.conclude-requires
+conclude-requires c =
+    let s = c.args.sources in
     let l = c.loop-t in
     let (P, p) = c.requires.0 in
     let (z, y, d) = l.invariant in
-    let w = c.carry-carried.ensures.1 in (
+    let w = c.carry-level.ensures.1 in (
       (P, _, p, d.gathered P p),
       c.requires.1,
       (
         l.t,
         c.loop-t-test.true,
-        w.whole _ (whole_first a.marks a.star.now a.needs.now c.loop-t-test.true c.first_ray-first.ensures l.set z),
+        w.whole _ (whole_first s.marks.now s.star.now s.needs.now c.loop-t-test.true c.first_ray-first.ensures l.set.rows z),
       ),
       w.so_far,
       w.few,
@@ -33,14 +33,14 @@ conclude-len-requires c =
 
 pub loop-t-preserved : goal.loop-t-preserved
 loop-t-preserved c =
-    let a = c.args in
+    let s = c.args.sources in
     let l = c.loop-t in
     let (z, y, d) = l.invariant in
-    let (x, w) = c.carry-carried.ensures in (
+    let (x, w) = c.carry-level.ensures in (
       w.size,
       x,
-      turned_more c.loop-t-test.true d (c.conclude-len.ensures l.t c.loop-t-test.true
-          (w.whole _ (whole_first a.marks a.star.now a.needs.now c.loop-t-test.true c.first_ray-first.ensures l.set z))),
+      turned_more c.loop-t-test.true d (c.conclude.ensures l.t c.loop-t-test.true
+          (w.whole _ (whole_first s.marks.now s.star.now s.needs.now c.loop-t-test.true c.first_ray-first.ensures l.set.rows z))),
     )
 
 pub returns : goal.returns

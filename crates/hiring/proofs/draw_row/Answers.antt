@@ -4,7 +4,7 @@ use Rattle.hiring.proofs.DrawLaws.{row_none, row_more}
 use Rattle.hiring.proofs.draw_row.Goals as goal
 
 pub loop-j-init : goal.loop-j-init
-loop-j-init c = (omega arith, row_none _ _ _ _ refl)
+loop-j-init c = row_none _ _ _ _ refl
 
 pub loop-j-preserved : goal.loop-j-preserved
-loop-j-preserved c = (omega arith, row_more _ _ _ c.loop-j.invariant.1 (omega arith) c.draw-now.ensures c.item.ensures)
+loop-j-preserved c = row_more _ _ _ c.loop-j.invariant (omega arith) c.draw-now.ensures c.item.ensures

@@ -4,7 +4,7 @@ use Rattle.hiring.proofs.DrawLaws.{rows_none, rows_more}
 use Rattle.hiring.proofs.draw_rows.Goals as goal
 
 pub loop-i-init : goal.loop-i-init
-loop-i-init c = (omega arith, rows_none _ _ _ _ c.requires.2)
+loop-i-init c = rows_none _ _ _ _ c.requires.2
 
 pub loop-i-preserved : goal.loop-i-preserved
-loop-i-preserved c = (omega arith, rows_more _ _ _ c.loop-i.invariant.1 (omega arith) c.draw_row-drawn.ensures)
+loop-i-preserved c = rows_more _ _ _ c.loop-i.invariant (omega arith) c.draw_row-drawn.ensures

@@ -1,10 +1,11 @@
--- `hiring::number` meets its contract. Assumes nothing.
-use Rattle.std.proofs.Common.{◌∙◌}
-use Rattle.hiring.proofs.DrawLaws.{number_low, number_high}
+-- number: the machine's difference is the difference
+use Rattle.std.proofs.Common.{ap, ◌∙◌, arith}
+use Rattle.std.proofs.lemmas.Int.{ints}
+use Rattle.maxplus.specs.Entry.{num}
+use Rattle.words.specs.Words.{word}
+use Rattle.hiring.specs.Hiring.{drawn_number}
 use Rattle.hiring.proofs.number.Goals as goal
 
-pub returns-then-rest-lt1000 : goal.returns-then-rest-lt1000
-returns-then-rest-lt1000 c = c.negative.ensures ∙ number_low _ c.if-rest-lt1000.true
-
 pub returns : goal.returns
-returns c = c.positive.ensures ∙ number_high _ c.if-rest-lt1000.false
+unfolding drawn_number
+returns c = c.of_number.ensures ∙ ap (λ z. word (num z)) (omega (arith, ints))

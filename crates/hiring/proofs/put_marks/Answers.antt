@@ -7,7 +7,7 @@ use Rattle.hiring.proofs.put_marks.Goals as goal
 pub returns : goal.returns
 unfolding bytes
 returns c =
-    let f = c.put_lines-floor.ensures in
+    let f = c.put_lines-past_floor.ensures in
     let d = c.put_lines.ensures in
-    let (p, o) = marks_put _ _ _ f.text f.state d.text d.state (omega (arith, f.short, d.short)) in
-    record { text = p; short = o.0; state = o.1 }
+    let (p, e) = marks_put _ _ _ f.text f.state d.text d.state in
+    record { text = p; short = omega arith; state = e }

@@ -6,8 +6,8 @@ use Rattle.hiring.proofs.put_sheet.Goals as goal
 pub returns : goal.returns
 unfolding bytes
 returns c =
-    let l = c.put_lines-lag.ensures in
-    let m = c.put_marks-marks.ensures in
+    let l = c.put_lines-past_lag.ensures in
+    let m = c.put_marks-past_marks.ensures in
     let a = c.put_lines.ensures in
-    let (p, e) = sheet_put _ _ _ c.put_sizes-end.ensures.puts l.text l.state m.text m.state a.text a.state in
+    let (p, e) = sheet_put _ _ _ c.put_sizes.ensures.puts l.text l.state m.text m.state a.text a.state in
     record { text = p; state = e }

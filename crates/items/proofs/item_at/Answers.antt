@@ -15,7 +15,7 @@ returns-then-b-eq45 c = item_signed _ _ c.if-s-at.false c.args.most c.if-b-eq45.
 pub returns-then-is_leading : goal.returns-then-is_leading
 returns-then-is_leading c =
     item_numeral _ _ c.if-s-at.false c.if-b-eq48.false c.if-b-eq45.false _
-    (sym c.is_leading.ensures ∙ c.if-is_leading.true) (rw c.wide.ensures at c.numeral_from-m.ensures)
+    (sym c.is_leading.ensures ∙ c.if-is_leading.true) (rw c.from.ensures at c.numeral_from-m.ensures)
     c.positive-then-is_leading.ensures
 
 pub returns : goal.returns

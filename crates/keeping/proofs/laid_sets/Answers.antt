@@ -7,4 +7,4 @@ use Rattle.keeping.proofs.laid_sets.Goals as goal
 pub returns : goal.returns
 returns c =
     λ s n h.
-    six_filled _ _ (let e : c.loop-i.i ≡ 6 = omega arith in rw e at (c.loop-i.invariant.1 s n h))
+    six_filled _ _ (let e : c.loop-i.i ≡ 6 = omega arith in rw e at (c.loop-i.invariant s n h))

@@ -5,4 +5,4 @@ use Rattle.keeping.proofs.KeptLaws.{six_filled}
 use Rattle.keeping.proofs.ones_of.Goals as goal
 
 pub returns : goal.returns
-returns c = six_filled _ _ (let e : c.loop-i.i ≡ 6 = omega arith in rw e at c.loop-i.invariant.1)
+returns c = six_filled _ _ (let e : c.loop-i.i ≡ 6 = omega arith in rw e at c.loop-i.invariant)

@@ -8,14 +8,14 @@ lay_out-requires c = let (t, before, l) = c.requires in (listing_room l, (_, _, 
 pub add_caps-requires : goal.add_caps-requires
 add_caps-requires c =
     let (t, before, l) = c.requires in
-    caps_ready l c.lay_out.ensures l.placed.triggers_are c.if-moments.true
+    caps_ready l c.lay_out.ensures l.placed.triggers_are c.in-Some.is
 
-pub returns-then-moments : goal.returns-then-moments
-returns-then-moments c =
+pub returns-in-Some : goal.returns-in-Some
+returns-in-Some c =
     λ t before l.
-    finished_capped l c.lay_out.ensures l.placed.triggers_are c.if-moments.true c.add_caps.ensures
+    finished_capped l c.lay_out.ensures l.placed.triggers_are c.in-Some.is c.add_caps.ensures
 
-pub returns-else-moments : goal.returns-else-moments
-returns-else-moments c =
+pub returns-in-None : goal.returns-in-None
+returns-in-None c =
     λ t before l.
-    finished_plain l c.lay_out.ensures c.if-moments.false
+    finished_plain l c.lay_out.ensures c.in-None.is

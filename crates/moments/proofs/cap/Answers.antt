@@ -10,27 +10,26 @@ use Rattle.moments.proofs.MomentLaws.{zero_is}
 use Rattle.moments.proofs.cap.Goals as goal
 
 pub loop-j-init : goal.loop-j-init
-loop-j-init c = (omega arith, largest_none _, close_none _)
+loop-j-init c = (largest_none _, close_none _)
 
 pub loop-j-preserved : goal.loop-j-preserved
 unfolding meant_v
 loop-j-preserved c =
     let j = c.loop-j.j in (
-      omega arith,
-      largest_more _ _ _ _ _ c.plus.ensures c.loop-j.invariant.1 c.larger-late.ensures,
+      largest_more _ _ _ _ _ c.plus.ensures c.loop-j.invariant.0 c.larger-late.ensures,
       close_larger _ _ _ c.larger-late.ensures
-          (close_plus _ _ _ c.plus.ensures (c.requires.2.at j (omega arith)) (c.requires.1.at j (omega arith))) c.loop-j.invariant.2,
+          (close_plus _ _ _ c.plus.ensures (c.requires.2.at j (omega arith)) (c.requires.1.at j (omega arith))) c.loop-j.invariant.1,
     )
 
 pub minus-requires : goal.minus-requires
-minus-requires c = (close_more (omega arith) (zero_is c.of_number.ensures).1, close_more (omega arith) c.loop-j.invariant.2)
+minus-requires c = (close_more (omega arith) (zero_is c.of_number.ensures).1, close_more (omega arith) c.loop-j.invariant.1)
 
 pub returns-clause-is : goal.returns-clause-is
 returns-clause-is c =
     let (zero, close) = zero_is c.of_number.ensures in
-    let e : c.loop-j.j ≡ c.args.n = omega arith in c.minus.ensures ∙ ap₂ (λ a b. a ⊗ inv b) zero (rw e at c.loop-j.invariant.1) ∙ ⊗_unit _
+    let e : c.loop-j.j ≡ c.args.n = omega arith in c.minus.ensures ∙ ap₂ (λ a b. a ⊗ inv b) zero (rw e at c.loop-j.invariant.0) ∙ ⊗_unit _
 
 pub returns-clause-near : goal.returns-clause-near
 returns-clause-near c =
     let (zero, close) = zero_is c.of_number.ensures in
-    let e : c.loop-j.j ≡ c.args.n = omega arith in close_more (omega arith) (close_minus _ _ _ c.minus.ensures close c.loop-j.invariant.2)
+    let e : c.loop-j.j ≡ c.args.n = omega arith in close_more (omega arith) (close_minus _ _ _ c.minus.ensures close c.loop-j.invariant.1)

@@ -12,8 +12,4 @@ returns-then-of_number-plus c = λ k. beyond_word c.plus.ensures c.if-of_number-
 
 pub loop-j-preserved : goal.loop-j-preserved
 unfolding meant_v
-loop-j-preserved c = (
-  omega arith,
-  below_more _ _ c.loop-j.invariant.1
-      (rw (zero_is c.of_number.ensures).0 at (within_word c.plus.ensures c.if-of_number-plus.false)),
-)
+loop-j-preserved c = below_more _ _ c.loop-j.invariant (rw (zero_is c.of_number.ensures).0 at (within_word c.plus.ensures c.if-of_number-plus.false))

@@ -9,7 +9,6 @@ pub loop-j-preserved : goal.loop-j-preserved
 unfolding meant_v
 loop-j-preserved c =
     let j = c.loop-j.j in (
-      omega arith,
-      simp length-set c.loop-j.invariant.1,
-      λ X w. written_more _ (omega arith) (c.loop-j.invariant.2 X w) (c.early.ensures.is (X j) (w.words.is.at j (omega arith))) c.early.ensures.close,
+      simp length-set c.loop-j.invariant.0,
+      λ X w. written_more _ (omega arith) (c.loop-j.invariant.1 X w) (c.early.ensures.is (X j) (w.words.is.at j (omega arith))) c.early.ensures.close,
     )

@@ -1,6 +1,6 @@
 -- `moments::lowered` meets its contract. The times passed are written, made early enough. Assumes nothing.
 use mathlib.Core.Path.{◌≡◌}
-use Prim.Native.Nat.{ℕ, ◌≤◌, ◌-◌}
+use Prim.Native.Nat.{ℕ}
 use lib.IntN.{ℤ}
 use lib.ListN.{length}
 use Rattle.cue.specs.Cue.{timing}
@@ -13,8 +13,5 @@ use Rattle.moments.proofs.lowered.Given as goal
 
 abbrev pub invariant-loop-j : goal.invariant-loop-j
 invariant-loop-j l =
-    (l.j ≤ l.n) × (length l.r ≡ 6) ×
+    (length l.r ≡ 6) ×
     ((X : ℕ → ℤ) → TimingWords l.x.count X l.x → WordsOf l.j far_limit (timing (λ j. lower (X j) (meant_v l.overruns j))) l.r)
-
-abbrev pub decreases-loop-j : goal.decreases-loop-j
-decreases-loop-j l = l.n - l.j

@@ -1,10 +1,6 @@
 -- `order::closed` meets its contract: the table holds the ways through the first `k` triggers, and no way round them gains.
-use Prim.Native.Nat.{◌-◌}
 use Rattle.order.proofs.OrderLaws.{WaysHeld}
 use Rattle.order.proofs.closed.Given as goal
 
 abbrev pub invariant-loop-k : goal.invariant-loop-k
 invariant-loop-k l = WaysHeld l.n l.order l.k l.star
-
-abbrev pub decreases-loop-k : goal.decreases-loop-k
-decreases-loop-k l = l.n - l.k

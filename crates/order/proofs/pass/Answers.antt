@@ -7,7 +7,5 @@ use Rattle.order.proofs.pass.Goals as goal
 pub loop-i-preserved : goal.loop-i-preserved
 unfolding meant meant_v
 loop-i-preserved c =
-    let p = c.loop-i.invariant.1 in (
-      omega (arith, c.loop-i-test.true),
-      passing_more (omega (arith, c.requires.0, c.loop-i-test.true)) p (passing_raised p c.raise.ensures),
-    )
+    let p = c.loop-i.invariant in
+    passing_more (omega (arith, c.requires.0, c.loop-i-test.true)) p (passing_raised p c.raise.ensures)

@@ -1,10 +1,6 @@
 -- `order::pass` meets its contract: the first `i` rows have been raised.
-use Prim.Native.Nat.{◌-◌, ◌≤◌}
 use Rattle.order.proofs.OrderLaws.{Passing}
 use Rattle.order.proofs.pass.Given as goal
 
 abbrev pub invariant-loop-i : goal.invariant-loop-i
-invariant-loop-i l = (l.i ≤ l.n) × Passing l.n l.k l.initial.star l.star l.i
-
-abbrev pub decreases-loop-i : goal.decreases-loop-i
-decreases-loop-i l = l.n - l.i
+invariant-loop-i l = Passing l.n l.k l.initial.star l.star l.i

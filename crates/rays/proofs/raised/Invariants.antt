@@ -1,5 +1,4 @@
 -- `rays::raised` meets its contract. The places passed are written.
-use Prim.Native.Nat.{◌≤◌, ◌-◌}
 use Rattle.words.specs.Words.{entry}
 use Rattle.sheet.specs.Sizes.{starred_size}
 use Rattle.tables.specs.Held.{meant, meant_v}
@@ -8,7 +7,4 @@ use Rattle.rays.specs.Rays.{joined_of}
 use Rattle.rays.proofs.raised.Given as goal
 
 abbrev pub invariant-loop-j : goal.invariant-loop-j
-invariant-loop-j l = (l.j ≤ l.n) × WordsOf l.j starred_size (joined_of (meant l.star) (meant_v l.x.at) (entry l.want) l.s) l.r
-
-abbrev pub decreases-loop-j : goal.decreases-loop-j
-decreases-loop-j l = l.n - l.j
+invariant-loop-j l = WordsOf l.j starred_size (joined_of (meant l.star) (meant_v l.x.at) (entry l.want) l.s) l.r

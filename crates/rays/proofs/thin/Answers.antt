@@ -6,15 +6,12 @@ use Rattle.rays.proofs.thin.Goals as goal
 use Rattle.rays.proofs.thin.Goals.{then-not-under, else-not-under}
 
 pub loop-k-preserved : goal.loop-k-preserved
-loop-k-preserved c = (
-  omega arith,
-  elim c.if-not-under.branch [
-    | then-not-under w ↦ rw (w.set-is, w.left-is) (thinning_keep c.loop-k.invariant.1 (omega (arith, c.requires.0))
-        (says_false c.under.result w.if-not-under.true c.under.ensures))
-    | else-not-under w ↦ rw (w.set-is, w.left-is) (thinning_out c.loop-k.invariant.1
-        (says_true c.under.result w.if-not-under.false c.under.ensures))
-  ],
-)
+loop-k-preserved c = elim c.if-not-under.branch [
+  | then-not-under w ↦ rw (w.set-is, w.left-is) (thinning_keep c.loop-k.invariant (omega (arith, c.requires))
+      (says_false c.under.result w.if-not-under.true c.under.ensures))
+  | else-not-under w ↦ rw (w.set-is, w.left-is) (thinning_out c.loop-k.invariant
+      (says_true c.under.result w.if-not-under.false c.under.ensures))
+]
 
 pub returns : goal.returns
-returns c = let l = c.loop-k in thinning_end l.invariant.1 (omega (arith, l.invariant.0))
+returns c = thinning_end c.loop-k.invariant (omega arith)

@@ -1,10 +1,7 @@
 -- `reaching::handed_back` meets its contract: the first `j` triggers have been looked at, and `k` of them are in use.
-use Prim.Native.Nat.{◌≤◌, ◌-◌}
+use Prim.Native.Nat.{◌≤◌}
 use Rattle.reaching.proofs.HandLaws.{Handing}
 use Rattle.reaching.proofs.handed_back.Given as goal
 
 abbrev pub invariant-loop-j : goal.invariant-loop-j
-invariant-loop-j l = (l.j ≤ l.p.triggers) × (l.p.triggers ≤ 6) × Handing l.p l.wished l.made l.at l.k l.j
-
-abbrev pub decreases-loop-j : goal.decreases-loop-j
-decreases-loop-j l = l.p.triggers - l.j
+invariant-loop-j l = (l.p.triggers ≤ 6) × Handing l.p l.wished l.made l.at l.k l.j

@@ -1,21 +1,30 @@
--- `reading::empty_row` meets its contract. The loop's invariant: the rows passed have an entry. Assumes nothing.
-use mathlib.Core.Path.{sym, subst}
-use mathlib.Core.Bool.{Bool}
+-- `reading::empty_row` meets its contract. Assumes nothing.
+use mathlib.Core.Path.{sym}
 use mathlib.Core.List.{[]}
 use native.Mathlib.Omega.{arith}
-use borrow.Author.Count.{below_more}
-use lib.ListN.{get_or}
-use Rattle.reading.specs.Inner.{EmptyWords}
+use lib.ListN.{length-take}
+use Rattle.std.proofs.Common.{below_more}
+use Rattle.rows.proofs.FaultLaws.{taken}
 use Rattle.reading.proofs.EmptyLaws.{empty_found, empty_none}
 use Rattle.reading.proofs.empty_row.Goals as goal
 
 pub returns-then-empty : goal.returns-then-empty
 returns-then-empty c =
-    λ n t few R w.
-    sym (empty_found _ _ n t c.requires few R w c.loop-i.i c.loop-i-test.true ((subst (λ (b : Bool). EmptyWords (get_or c.args.rows.now c.loop-i.i []) b) c.if-empty.true c.empty.ensures)))
+    λ n t few R e.
+    let there = c.loop-row-test.true in
+    let long = length-take c.args.lines c.args.rows.now in
+    sym (empty_found c.args.rows.now c.args.lines n t c.requires few R e c.loop-row.row-index (omega arith)
+    (rw (taken c.args.rows.now c.args.lines c.loop-row.row-index [] there) at c.if-empty.ensures))
 
-pub loop-i-preserved : goal.loop-i-preserved
-loop-i-preserved c = (omega arith, below_more _ _ c.loop-i.invariant.1 ((subst (λ (b : Bool). EmptyWords (get_or c.args.rows.now c.loop-i.i []) b) c.if-empty.false c.empty.ensures)))
+pub loop-row-preserved : goal.loop-row-preserved
+loop-row-preserved c =
+    below_more _ _ c.loop-row.invariant (rw (taken c.args.rows.now c.args.lines c.loop-row.row-index [] c.loop-row-test.true) at c.if-empty.ensures)
 
 pub returns : goal.returns
-returns c = λ n t few R w. sym (empty_none _ _ n t c.requires few R w (λ k h. c.loop-i.invariant.1 k (omega arith)))
+returns c =
+    λ n t few R e.
+    let all = c.loop-row-test.false in
+    let long = length-take c.args.lines c.args.rows.now in
+    let six = c.told-rows in
+    let less = c.requires in
+    sym (empty_none c.args.rows.now c.args.lines n t less few R e (λ k h. c.loop-row.invariant k (omega arith)))

@@ -16,4 +16,4 @@ returns-then-not-empty_column-2 c =
 pub returns : goal.returns
 returns c =
     land_decides c.empty_column.ensures c.if-not-empty_column.false-raw (empty_is _ c.empty.result c.empty.ensures) c.if-not-empty.false-raw
-    c.empty_column-2.ensures c.if-not-empty_column-2.false-raw (empty_is _ c.empty-2.result c.empty-2.ensures)
+    c.empty_column-2.ensures c.if-not-empty_column-2.false-raw (empty_is _ c.lands_empty.result c.lands_empty.ensures)

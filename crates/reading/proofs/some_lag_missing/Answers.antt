@@ -8,4 +8,4 @@ pub returns-then-lag_missing : goal.returns-then-lag_missing
 returns-then-lag_missing c = sym (place_any _ _ c.loop-j.j c.loop-j-test.true (sym c.lag_missing.ensures ∙ c.if-lag_missing.true))
 
 pub returns : goal.returns
-returns c = sym (place_none _ _ (λ k h. c.loop-j.invariant.1 k (omega arith)))
+returns c = sym (place_none _ _ (λ k h. c.loop-j.invariant k (omega arith)))

@@ -1,15 +1,25 @@
 -- `spares::in_use` meets its contract. Assumes nothing.
 use mathlib.Core.Path.{sym, ◌∙◌}
 use Rattle.spares.proofs.TiedLaws.{column_there, row_there, tied_lag, tied_row, tied_column}
+use Rattle.spares.proofs.in_use.Goals.{then-present, else-present}
 use Rattle.spares.proofs.in_use.Goals as goal
 
-pub returns-then-present : goal.returns-then-present
-returns-then-present c = tied_lag _ _ _ _ _ (sym c.if-present.true ∙ (column_there _ _ _ _ _ c.requires.1 c.column-reach.ensures c.largest.ensures c.present.ensures))
-
 pub returns-then-present-2 : goal.returns-then-present-2
-returns-then-present-2 c = tied_row _ _ _ _ _ (sym c.if-present.false ∙ (column_there _ _ _ _ _ c.requires.1 c.column-reach.ensures c.largest.ensures c.present.ensures)) (sym c.if-present-2.true ∙ (row_there _ _ _ _ c.largest-2.ensures c.present-2.ensures))
+returns-then-present-2 c =
+    let lag = column_there _ _ _ _ _ c.requires.1 c.column.ensures c.largest.ensures c.present.ensures in
+    rw c.if-present-2.true (elim c.if-present.branch [
+      | then-present w ↦ tied_lag _ _ _ _ _ (sym w.if-present.true ∙ lag)
+      | else-present w ↦
+          let row = row_there _ _ _ _ w.largest-else-present.ensures w.present-else-present.ensures in
+          tied_row _ _ _ _ _ (sym w.if-present.false ∙ lag) (sym c.if-present-2.true ∙ w.value-is ∙ row)
+    ])
 
-pub returns : goal.returns
-returns c =
-    tied_column _ _ _ _ _ (sym c.if-present.false ∙ (column_there _ _ _ _ _ c.requires.1 c.column-reach.ensures c.largest.ensures c.present.ensures)) (sym c.if-present-2.false ∙ (row_there _ _ _ _ c.largest-2.ensures c.present-2.ensures))
-    (column_there _ _ _ _ _ c.requires.2 c.column-awaited.ensures c.largest-3.ensures c.present-3.ensures)
+pub returns-else-present-2 : goal.returns-else-present-2
+returns-else-present-2 c = elim c.if-present.branch [
+  | then-present w ↦ cc
+  | else-present w ↦
+      let lag = column_there _ _ _ _ _ c.requires.1 c.column.ensures c.largest.ensures c.present.ensures in
+      let row = row_there _ _ _ _ w.largest-else-present.ensures w.present-else-present.ensures in
+      tied_column _ _ _ _ _ (sym w.if-present.false ∙ lag) (sym c.if-present-2.false ∙ w.value-is ∙ row)
+      (column_there _ _ _ _ _ c.requires.2 c.column-else-present-2.ensures c.largest-else-present-2.ensures c.present-else-present-2.ensures)
+]

@@ -1,7 +1,7 @@
 -- `table_text::put_entry` meets its contract. Assumes nothing.
 use mathlib.Core.Path.{sym, ◌∙◌}
 use Rattle.sheet.specs.Text.{bytes}
-use Rattle.writing.proofs.PutLaws.{put_as, put_short}
+use Rattle.writing.proofs.WriterLaws.{put_as, put_short}
 use Rattle.table_text.proofs.EntryLaws.{none_there, number_there, item_short, number_back}
 use Rattle.table_text.proofs.put_entry.Goals as goal
 

@@ -5,4 +5,4 @@ use Rattle.tables.proofs.identity.Goals as goal
 
 pub returns : goal.returns
 unfolding meant
-returns c = record { at = λ i j p q. c.loop-i.invariant.1.done i j (omega arith) q }
+returns c = record { at = λ i j p q. c.loop-i.invariant.done i j (omega arith) q }

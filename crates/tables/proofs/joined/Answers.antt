@@ -6,11 +6,8 @@ use Rattle.tables.proofs.joined.Goals as goal
 
 pub loop-j-preserved : goal.loop-j-preserved
 unfolding meant
-loop-j-preserved c = (
-  omega arith,
-  cells_more _ _ _ _ _ _ (omega arith) (omega arith) c.loop-j.invariant.1 c.larger.ensures,
-)
+loop-j-preserved c = cells_more _ _ _ _ _ _ (omega arith) (omega arith) c.loop-j.invariant c.larger.ensures
 
 pub returns : goal.returns
 unfolding meant
-returns c = let r = c.loop-i.invariant.1 in (r.square, record { at = λ i j p q. r.done i j (omega arith) q })
+returns c = let r = c.loop-i.invariant in (r.square, record { at = λ i j p q. r.done i j (omega arith) q })

@@ -7,8 +7,8 @@ use Rattle.tables.proofs.product.Goals as goal
 
 pub loop-i-preserved : goal.loop-i-preserved
 unfolding mm meant meant_v
-loop-i-preserved c = (omega arith, filled_more _ _ _ _ _ (omega arith) c.loop-i.invariant.1 c.row_product.ensures)
+loop-i-preserved c = filled_more _ _ _ _ _ (omega arith) c.loop-i.invariant c.row_product.ensures
 
 pub returns : goal.returns
 unfolding meant meant_v
-returns c = record { at = λ i j h k. (c.loop-i.invariant.1.done i (omega arith)).at j k }
+returns c = record { at = λ i j h k. (c.loop-i.invariant.done i (omega arith)).at j k }

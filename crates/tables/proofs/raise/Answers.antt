@@ -11,8 +11,5 @@ returns-then-not-present c = raised_none (entry c.args.shift) _ (sym c.present.e
 
 pub loop-j-preserved : goal.loop-j-preserved
 unfolding meant_v
-loop-j-preserved c = (
-  omega arith,
-  raising_more c.plus-sum.result c.larger.result (omega arith) c.loop-j.invariant.1 (unfold meant_v in c.plus-sum.ensures)
-      c.larger.ensures,
-)
+loop-j-preserved c = raising_more c.plus-sum.result c.larger.result (omega arith) c.loop-j.invariant (unfold meant_v in c.plus-sum.ensures)
+    c.larger.ensures

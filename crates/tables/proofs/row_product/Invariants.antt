@@ -1,6 +1,5 @@
 -- `tables::row_product` meets its contract. The largest over the ways passed. Assumes nothing.
 use mathlib.Core.Path.{◌≡◌}
-use Prim.Native.Nat.{◌≤◌, ◌-◌}
 use lib.ListN.{length}
 use Rattle.maxplus.specs.Entry.{◌⊗◌}
 use Rattle.maxplus.specs.Tables.{sup}
@@ -8,7 +7,4 @@ use Rattle.tables.specs.Held.{meant, meant_v, HoldsV}
 use Rattle.tables.proofs.row_product.Given as goal
 
 abbrev pub invariant-loop-l : goal.invariant-loop-l
-invariant-loop-l l = (l.l ≤ l.k) × (length l.r ≡ 6) × HoldsV l.n (λ j. sup l.l (λ a. meant_v l.row a ⊗ meant l.b a j)) l.r
-
-abbrev pub decreases-loop-l : goal.decreases-loop-l
-decreases-loop-l l = l.k - l.l
+invariant-loop-l l = (length l.r ≡ 6) × HoldsV l.n (λ j. sup l.l (λ a. meant_v l.row a ⊗ meant l.b a j)) l.r

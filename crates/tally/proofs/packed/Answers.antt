@@ -1,5 +1,5 @@
 -- `tally::packed` meets its contract: the word speaks of the levels from `k` on.
-use mathlib.Core.Path.{◌≡◌, refl}
+use mathlib.Core.Path.{◌≡◌}
 use Prim.Native.Nat.{◌+◌, ◌-◌}
 use native.Mathlib.Omega.{arith}
 use Rattle.tally.proofs.WordLaws.{speaks_more, speaks_fits}
@@ -11,4 +11,4 @@ overflow_mul-left c = omega (arith, speaks_fits {l = c.loop-k.k} (omega arith) c
 pub loop-k-preserved : goal.loop-k-preserved
 loop-k-preserved c =
     let e : c.loop-k.k - 1 + 1 ≡ c.loop-k.k = omega arith in
-    speaks_more (rw e c.loop-k.invariant) refl (c.requires (c.loop-k.k - 1))
+    speaks_more (rw e c.loop-k.invariant) c.from.ensures (rw c.from.ensures (c.requires (c.loop-k.k - 1)))

@@ -5,6 +5,3 @@ use Rattle.tally.proofs.packed.Given as goal
 
 abbrev pub invariant-loop-k : goal.invariant-loop-k
 invariant-loop-k l = Speaks (λ i. get_or l.kept i 0) l.k l.left
-
-abbrev pub decreases-loop-k : goal.decreases-loop-k
-decreases-loop-k l = l.k

@@ -7,4 +7,4 @@ pub below-requires : goal.below-requires
 below-requires c = (record { few = c.requires.0; remembered = remembered_start c.requires.0 }, omega arith)
 
 pub returns : goal.returns
-returns c = counted_all c.args.kept.now c.requires.0 c.packed-left.ensures c.below.ensures
+returns c = counted_all c.args.kept.now c.requires.0 c.packed.ensures c.below.ensures

@@ -9,4 +9,4 @@ pub loop-i-preserved : goal.loop-i-preserved
 unfolding meant_v
 loop-i-preserved c =
     let l = c.loop-i in
-    (omega arith, simp length-set l.invariant.1, bytes_more _ _ _ _ _ l.invariant.1 (omega arith) l.invariant.2 c.panel_byte.ensures)
+    (simp length-set l.invariant.0, bytes_more _ _ _ _ _ l.invariant.0 (omega arith) l.invariant.1 c.panel_byte.ensures)

@@ -6,12 +6,12 @@ use Rattle.thresholds.proofs.ThresholdLaws.{floor_there, floor_absent}
 use Rattle.thresholds.proofs.panel_byte.Goals as goal
 
 pub reaching-requires : goal.reaching-requires
-reaching-requires c = (c.requires.0, c.requires.1, c.requires.2, close_more (omega arith) (close_minus _ _ _ c.minus-ask.ensures c.requires.3 c.requires.4))
+reaching-requires c = (c.requires.0, c.requires.1, c.requires.2, close_more (omega arith) (close_minus _ _ _ c.minus.ensures c.requires.3 c.requires.4))
 
 pub returns-then-present : goal.returns-then-present
 returns-then-present c =
     let p = c.present.ensures in
-    floor_there _ _ _ _ _ _ _ _ (sym p ∙ c.if-present.true) c.minus-ask.ensures c.reaching.ensures
+    floor_there _ _ _ _ _ _ _ _ (sym p ∙ c.if-present.true) c.minus.ensures c.reaching.ensures
 
-pub returns : goal.returns
-returns c = floor_absent _ _ _ _ _ _ (sym c.present.ensures ∙ c.if-present.false)
+pub returns-else-present : goal.returns-else-present
+returns-else-present c = floor_absent _ _ _ _ _ _ (sym c.present.ensures ∙ c.if-present.false)

@@ -6,12 +6,9 @@ use Rattle.thresholds.proofs.ThresholdLaws.{column_overdue}
 use Rattle.thresholds.proofs.pulls.Goals as goal
 
 pub loop-j-preserved : goal.loop-j-preserved
-loop-j-preserved c = (
-  omega arith,
-  filled_more _ 0 _ _ _ (omega arith) c.loop-j.invariant.1
-      (column_overdue _ _ _ c.requires.0 c.column-column.ensures _ _ c.overdue.ensures),
-)
+loop-j-preserved c =
+    filled_more _ 0 _ _ _ (omega arith) c.loop-j.invariant (column_overdue _ _ _ c.requires.0 c.column.ensures _ _ c.overdue.ensures)
 
 pub returns : goal.returns
 unfolding meant_v
-returns c = record { at = λ j h. c.loop-j.invariant.1.done j (omega arith) }
+returns c = record { at = λ j h. c.loop-j.invariant.done j (omega arith) }

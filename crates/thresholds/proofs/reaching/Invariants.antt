@@ -1,6 +1,5 @@
 -- `thresholds::reaching` meets its contract. The bits of the triggers passed; the next bit is larger. Assumes nothing.
 use mathlib.Core.Path.{◌≡◌}
-use Prim.Native.Nat.{◌^◌, ◌≤◌, ◌<◌, ◌-◌}
 use Rattle.words.specs.Words.{entry}
 use Rattle.tables.specs.Held.{meant, meant_v}
 use Rattle.thresholds.specs.Thresholds.{reaches}
@@ -8,7 +7,4 @@ use Rattle.maxplus.specs.Finite.{byte_of}
 use Rattle.thresholds.proofs.reaching.Given as goal
 
 abbrev pub invariant-loop-j : goal.invariant-loop-j
-invariant-loop-j l = (l.j ≤ l.n) × (l.byte ≡ byte_of l.j (reaches (entry l.ask) (meant l.through) (meant_v l.pulls) l.i)) × (l.bit ≡ 2 ^ l.j) × (l.byte < l.bit)
-
-abbrev pub decreases-loop-j : goal.decreases-loop-j
-decreases-loop-j l = l.n - l.j
+invariant-loop-j l = (l.byte ≡ byte_of l.j (reaches (entry l.ask) (meant l.through) (meant_v l.pulls) l.i))

@@ -2,10 +2,10 @@
 use Rattle.sheet.specs.Text.{bytes}
 use Rattle.tightest.proofs.answer.Goals as goal
 
-pub returns-in-Yes-clause-out_after : goal.returns-in-Yes-clause-out_after
+pub returns-in-Ok-true-clause-out_after : goal.returns-in-Ok-true-clause-out_after
 unfolding bytes
-returns-in-Yes-clause-out_after c = rw c.in-Yes.is c.put_bytes.ensures.text
+returns-in-Ok-true-clause-out_after c = rw (rw c.in-Ok-true.field-0-test at c.in-Ok-true.is) c.put_bytes.ensures.text
 
-pub returns-in-No-clause-out_after : goal.returns-in-No-clause-out_after
+pub returns-in-Ok-false-clause-out_after : goal.returns-in-Ok-false-clause-out_after
 unfolding bytes
-returns-in-No-clause-out_after c = rw c.in-No.is c.put_bytes-in-No.ensures.text
+returns-in-Ok-false-clause-out_after c = rw (rw c.in-Ok-false.field-0-test at c.in-Ok-false.is) c.put_bytes-in-Ok-false.ensures.text

@@ -6,8 +6,8 @@ use lib.ListN.{length}
 use Rattle.walk.proofs.Stepping.{remaining, Walked}
 use Rattle.walk.proofs.count.Given as goal
 
-abbrev pub invariant-loop-place : goal.invariant-loop-place
-invariant-loop-place l = (seen : List (List ℕ)) × (l.n ≡ length seen) × Walked l.kept l.gains l.needs l.f l.triggers l.walk seen
+abbrev pub invariant-loop-n : goal.invariant-loop-n
+invariant-loop-n l = (seen : List (List ℕ)) × (l.n ≡ length seen) × Walked l.levels.kept.now l.levels.gains.now l.levels.needs.now l.levels.count l.triggers l.walk seen
 
-abbrev pub decreases-loop-place : goal.decreases-loop-place
-decreases-loop-place l = length (remaining l.kept l.gains l.f l.walk)
+abbrev pub decreases-loop-n : goal.decreases-loop-n
+decreases-loop-n l = length (remaining l.levels.kept.now l.levels.gains.now l.levels.count l.walk)

@@ -5,8 +5,8 @@ use Rattle.walk_cases.proofs.put_walk.Goals as goal
 
 pub loop-place-init : goal.loop-place-init
 loop-place-init c =
-    let a = c.args in let p = c.requires in
-    ([], rw c.start-w.ensures (walked_start a.kept.now a.gains.now a.needs.now a.panels a.triggers p.0 p.1 p.2))
+    let l = c.args.levels.now in let p = c.requires in
+    ([], rw c.start-w.ensures (walked_start l.kept.now l.gains.now l.needs.now l.count c.args.triggers p.0 p.1 p.2))
 
 pub put_end-requires : goal.put_end-requires
 put_end-requires c = end_ready c.step-s.ensures c.in-End.is c.loop-place.invariant.1.ready

@@ -6,7 +6,7 @@ use Rattle.walk.proofs.Stepping.{remaining, Walked}
 use Rattle.walk_cases.proofs.put_walk.Given as goal
 
 abbrev pub invariant-loop-place : goal.invariant-loop-place
-invariant-loop-place l = (seen : List (List ℕ)) × Walked l.kept l.gains l.needs l.panels l.triggers l.w seen
+invariant-loop-place l = (seen : List (List ℕ)) × Walked l.levels.kept.now l.levels.gains.now l.levels.needs.now l.levels.count l.triggers l.w seen
 
 abbrev pub decreases-loop-place : goal.decreases-loop-place
-decreases-loop-place l = length (remaining l.kept l.gains l.panels l.w)
+decreases-loop-place l = length (remaining l.levels.kept.now l.levels.gains.now l.levels.count l.w)

@@ -2,12 +2,13 @@
 use native.Mathlib.Omega.{arith}
 use Rattle.words.proofs.Laws.{minus_none, minus_none_r, minus_is}
 use Rattle.words.proofs.minus.Goals as goal
+use Rattle.words.proofs.minus.Goals.{then-a-eq0-via-then-a-eq0, then-a-eq0-via-else-a-eq0+then-b-eq0}
 
 pub returns-then-a-eq0 : goal.returns-then-a-eq0
-returns-then-a-eq0 c = minus_none _ _ c.if-a-eq0.true
-
-pub returns-then-b-eq0 : goal.returns-then-b-eq0
-returns-then-b-eq0 c = minus_none_r _ _ c.if-b-eq0.true
+returns-then-a-eq0 c = elim c.then-a-eq0.branch [
+  | then-a-eq0-via-then-a-eq0 w ↦ minus_none _ _ w.if-a-eq0.true
+  | then-a-eq0-via-else-a-eq0+then-b-eq0 w ↦ minus_none_r _ _ w.if-b-eq0.true
+]
 
 pub returns : goal.returns
 returns c =

@@ -2,12 +2,13 @@
 use native.Mathlib.Omega.{arith}
 use Rattle.words.proofs.Laws.{plus_none, plus_none_r, plus_is}
 use Rattle.words.proofs.plus.Goals as goal
+use Rattle.words.proofs.plus.Goals.{then-a-eq0-via-then-a-eq0, then-a-eq0-via-else-a-eq0+then-b-eq0}
 
 pub returns-then-a-eq0 : goal.returns-then-a-eq0
-returns-then-a-eq0 c = plus_none _ _ c.if-a-eq0.true
-
-pub returns-then-b-eq0 : goal.returns-then-b-eq0
-returns-then-b-eq0 c = plus_none_r _ _ c.if-b-eq0.true
+returns-then-a-eq0 c = elim c.then-a-eq0.branch [
+  | then-a-eq0-via-then-a-eq0 w ↦ plus_none _ _ w.if-a-eq0.true
+  | then-a-eq0-via-else-a-eq0+then-b-eq0 w ↦ plus_none_r _ _ w.if-b-eq0.true
+]
 
 pub returns : goal.returns
 returns c =

@@ -1,6 +1,5 @@
 -- `answer_words::answers::put_panels` meets its contract: after i turns the words of i panels are stored. Assumes nothing.
 use mathlib.Core.Path.{refl}
-use native.Mathlib.Omega.{arith}
 use borrow.Author.Rules.{rules}
 use Rattle.maxplus.specs.Finite.{each}
 use Rattle.answer_words.specs.Words.{pairs}
@@ -9,11 +8,9 @@ use Rattle.answer_words.proofs.answers.put_panels.Goals as goal
 
 pub loop-i-init : goal.loop-i-init
 unfolding pairs each
-loop-i-init c = (omega arith, refl)
+loop-i-init c = refl
 
 pub loop-i-preserved : goal.loop-i-preserved
-loop-i-preserved c = (
-  omega arith,
-  panel_more _ c.loop-i.i _ _ c.loop-i.invariant.1 (back (search rules) c.byte_word.ensures) c.put.ensures
-      (back (search rules) c.byte_word-in-loop-i.ensures) c.put-in-loop-i.ensures,
-)
+loop-i-preserved c =
+    panel_more _ c.loop-i.i _ _ c.loop-i.invariant (back (search rules) c.from.ensures) c.put.ensures
+    (back (search rules) c.from-in-loop-i.ensures) c.put-in-loop-i.ensures

@@ -3,10 +3,9 @@ use Rattle.answer_words.proofs.Storing.{back, hired_words, unhired_words}
 use borrow.Author.Rules.{rules}
 use Rattle.answer_words.proofs.hired.write_hired.Goals as goal
 
-pub returns-then-r-eq0 : goal.returns-then-r-eq0
-returns-then-r-eq0 c =
-    hired_words _ _ c.if-r-eq0.true (back (search rules) c.count_word.ensures) c.put.ensures
-    (back (search rules) c.word.ensures) c.put-then-r-eq0.ensures
+pub returns-in-Ok-clause-words : goal.returns-in-Ok-clause-words
+returns-in-Ok-clause-words c =
+    hired_words _ c.in-Ok.is (back (search rules) c.count_word.ensures) c.put.ensures (back (search rules) c.from.ensures) c.put-in-Ok.ensures
 
-pub returns-else-r-eq0 : goal.returns-else-r-eq0
-returns-else-r-eq0 c = unhired_words _ _ c.if-r-eq0.false
+pub returns-in-Err-clause-words : goal.returns-in-Err-clause-words
+returns-in-Err-clause-words c = unhired_words _ c.in-Err.is

@@ -1,6 +1,5 @@
 -- `answer_words::reached::put_times` meets its contract: after j turns j components are stored. Assumes nothing.
 use mathlib.Core.Path.{refl}
-use native.Mathlib.Omega.{arith}
 use borrow.Author.Rules.{rules}
 use Rattle.maxplus.specs.Finite.{each}
 use Rattle.answer_words.proofs.Storing.{time_more}
@@ -8,7 +7,7 @@ use Rattle.answer_words.proofs.reached.put_times.Goals as goal
 
 pub loop-j-init : goal.loop-j-init
 unfolding each
-loop-j-init c = (omega arith, refl)
+loop-j-init c = refl
 
 pub loop-j-preserved : goal.loop-j-preserved
-loop-j-preserved c = (omega arith, time_more c.args.lent.now c.args.at c.loop-j.j c.loop-j.invariant.1 (search rules) c.put.ensures)
+loop-j-preserved c = time_more c.args.lent.now c.args.at c.loop-j.j c.loop-j.invariant (search rules) c.put.ensures

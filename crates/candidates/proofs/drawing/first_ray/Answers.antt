@@ -8,8 +8,6 @@ use Rattle.candidates.proofs.drawing.first_ray.Goals as goal
 pub loop-i-preserved : goal.loop-i-preserved
 unfolding meant
 loop-i-preserved c =
-    let e = c.minus.ensures in (
-      omega arith,
-      written_more _ (omega arith) c.loop-i.invariant.1 e
-          (close_more (omega arith) (close_minus _ _ _ e (c.requires.2.at _ _ (omega arith) c.requires.1) c.requires.3)),
-    )
+    let e = c.minus.ensures in
+    written_more _ (omega arith) c.loop-i.invariant e
+    (close_more (omega arith) (close_minus _ _ _ e (c.requires.2.at _ _ (omega arith) c.requires.1) c.requires.3))

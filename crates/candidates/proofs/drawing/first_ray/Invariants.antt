@@ -1,5 +1,4 @@
 -- `candidates::drawing::first_ray` meets its contract. The places passed are written.
-use Prim.Native.Nat.{◌≤◌, ◌-◌}
 use Rattle.maxplus.specs.Entry.{◌⊗◌, inv}
 use Rattle.words.specs.Words.{entry}
 use Rattle.sheet.specs.Sizes.{starred_size}
@@ -8,7 +7,4 @@ use Rattle.tables.specs.Lines.{WordsOf}
 use Rattle.candidates.proofs.drawing.first_ray.Given as goal
 
 abbrev pub invariant-loop-i : goal.invariant-loop-i
-invariant-loop-i l = (l.i ≤ l.n) × WordsOf l.i starred_size (λ i. meant l.star i l.t ⊗ inv (entry l.pull)) l.r
-
-abbrev pub decreases-loop-i : goal.decreases-loop-i
-decreases-loop-i l = l.n - l.i
+invariant-loop-i l = WordsOf l.i starred_size (λ i. meant l.star i l.t ⊗ inv (entry l.pull)) l.r

@@ -9,4 +9,4 @@ pub loop-j-preserved : goal.loop-j-preserved
 unfolding meant_v
 loop-j-preserved c =
     let e = c.minus.ensures in
-    (omega arith, written_more _ (omega arith) c.loop-j.invariant.1 e (close_minus _ _ _ e (c.requires.1.at _ (omega arith)) c.requires.2))
+    written_more _ (omega arith) c.loop-j.invariant e (close_minus _ _ _ e (c.requires.1.at _ (omega arith)) c.requires.2)

@@ -1,5 +1,4 @@
 -- `candidates::drawing::shifted` meets its contract. The places passed are written. Assumes nothing.
-use Prim.Native.Nat.{◌≤◌, ◌-◌}
 use Rattle.maxplus.specs.Entry.{◌⊗◌, inv}
 use Rattle.words.specs.Words.{entry}
 use Rattle.sheet.specs.Sizes.{shifted_size}
@@ -8,7 +7,4 @@ use Rattle.tables.specs.Lines.{WordsOf}
 use Rattle.candidates.proofs.drawing.shifted.Given as goal
 
 abbrev pub invariant-loop-j : goal.invariant-loop-j
-invariant-loop-j l = (l.j ≤ l.n) × WordsOf l.j shifted_size (λ j. meant_v l.x.at j ⊗ inv (entry l.top)) l.r
-
-abbrev pub decreases-loop-j : goal.decreases-loop-j
-decreases-loop-j l = l.n - l.j
+invariant-loop-j l = WordsOf l.j shifted_size (λ j. meant_v l.x.at j ⊗ inv (entry l.top)) l.r

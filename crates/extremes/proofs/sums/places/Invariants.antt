@@ -1,7 +1,7 @@
--- `extremes::sums::places` meets its contract. The places passed that have the word are marked, and bit is theirs to come.
+-- `extremes::sums::places` meets its contract. The places passed that have the word are marked.
 -- Assumes nothing.
 use mathlib.Core.Path.{◌≡◌}
-use Prim.Native.Nat.{◌≤◌, ◌<◌, ◌-◌, ◌^◌}
+use Prim.Native.Nat.{◌<◌}
 use Rattle.maxplus.specs.Entry.{◌⊗◌}
 use Rattle.words.specs.Words.{entry}
 use Rattle.tables.specs.Held.{meant, meant_v}
@@ -10,8 +10,4 @@ use Rattle.extremes.proofs.sums.places.Given as goal
 
 abbrev pub invariant-loop-j : goal.invariant-loop-j
 invariant-loop-j l =
-    (l.j ≤ l.n) × (l.bit ≡ 2 ^ l.j) ×
     SetOf (λ k. (k < l.j) × (meant l.table l.i k ⊗ meant_v l.line.at k ≡ entry l.word)) l.set
-
-abbrev pub decreases-loop-j : goal.decreases-loop-j
-decreases-loop-j l = l.n - l.j

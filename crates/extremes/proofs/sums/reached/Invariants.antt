@@ -1,7 +1,7 @@
--- `extremes::sums::reached` meets its contract. The places passed that have the word are marked, bit is theirs to come, and none is
+-- `extremes::sums::reached` meets its contract. The places passed that have the word are marked and none is
 -- beyond the word. Assumes nothing.
 use mathlib.Core.Path.{◌≡◌}
-use Prim.Native.Nat.{ℕ, ◌≤◌, ◌<◌, ◌-◌, ◌^◌}
+use Prim.Native.Nat.{ℕ, ◌<◌}
 use Rattle.maxplus.specs.Entry.{◌≼◌, ◌⊗◌}
 use Rattle.words.specs.Words.{entry}
 use Rattle.tables.specs.Held.{meant, meant_v}
@@ -10,9 +10,5 @@ use Rattle.extremes.proofs.sums.reached.Given as goal
 
 abbrev pub invariant-loop-j : goal.invariant-loop-j
 invariant-loop-j l =
-    (l.j ≤ l.n) × (l.bit ≡ 2 ^ l.j) ×
     SetOf (λ k. (k < l.j) × (meant l.table l.i k ⊗ meant_v l.line.at k ≡ entry l.word)) l.set ×
     ((k : ℕ) → k < l.j → meant l.table l.i k ⊗ meant_v l.line.at k ≼ entry l.word)
-
-abbrev pub decreases-loop-j : goal.decreases-loop-j
-decreases-loop-j l = l.n - l.j

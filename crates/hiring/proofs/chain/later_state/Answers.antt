@@ -6,4 +6,4 @@ use Rattle.hiring.proofs.chain.later_state.Goals as goal
 pub returns : goal.returns
 returns c =
     λ k e few-m few-n.
-    c.advanced.ensures ∙ chained_at_once _ _ c.args.state k _ _ (omega (arith, c.ranges.state)) e c.draws_of.ensures.is
+    c.advanced.ensures ∙ chained_at_once _ _ c.args.state k _ _ (omega (arith, c.ranges.state)) (c.from.ensures ∙ e) c.draws_of.ensures.is

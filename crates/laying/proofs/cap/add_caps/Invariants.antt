@@ -4,6 +4,3 @@ use Rattle.laying.proofs.cap.add_caps.Given as goal
 
 abbrev pub invariant-loop-k : goal.invariant-loop-k
 invariant-loop-k l = Capping l.n l.overruns l.count l.initial.space l.space l.k
-
-abbrev pub decreases-loop-k : goal.decreases-loop-k
-decreases-loop-k l = l.k

@@ -11,9 +11,7 @@ use Rattle.laying.proofs.cap.line_at.Goals as goal
 pub loop-j-preserved : goal.loop-j-preserved
 unfolding line_at
 loop-j-preserved c =
-    let l = c.loop-j in (
-      omega arith,
-      written_more _ (omega arith) l.invariant.1
-          (c.of_signed.ensures.is ∙ ap of_signed (read_back (search rules)) ∙ sym (at_line _ _ l.j (omega arith)))
-          c.of_signed.ensures.close,
-    )
+    let l = c.loop-j in
+    written_more _ (omega arith) l.invariant
+    (c.of_signed.ensures.is ∙ ap of_signed (read_back (search rules)) ∙ sym (at_line _ _ l.j (omega arith)))
+    c.of_signed.ensures.close

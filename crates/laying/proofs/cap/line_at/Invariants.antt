@@ -1,5 +1,4 @@
 -- `laying::cap::line_at` meets its contract: the entries of the first `j` components are written. Assumes nothing.
-use Prim.Native.Nat.{◌-◌, ◌≤◌}
 use Rattle.maxplus.specs.Line.{at}
 use Rattle.cue.specs.Standing.{line_at}
 use Rattle.words.specs.Words.{signed_far}
@@ -7,7 +6,4 @@ use Rattle.tables.specs.Lines.{WordsOf}
 use Rattle.laying.proofs.cap.line_at.Given as goal
 
 abbrev pub invariant-loop-j : goal.invariant-loop-j
-invariant-loop-j l = (l.j ≤ l.n) × WordsOf l.j signed_far (at l.n (line_at l.n l.space l.from)) l.r
-
-abbrev pub decreases-loop-j : goal.decreases-loop-j
-decreases-loop-j l = l.n - l.j
+invariant-loop-j l = WordsOf l.j signed_far (at l.n (line_at l.n l.space l.from)) l.r

@@ -1,9 +1,7 @@
--- `laying::lay::components` meets its contract: the six words are read one by one.
-use borrow.Author.Rules.{rules}
-use Rattle.laying.proofs.LayLaws.{six_read, read_back}
+-- `laying::lay::components` meets its contract: the six words are copied.
+use mathlib.Core.Path.{◌∙◌}
+use Rattle.laying.proofs.LayLaws.{six_copied}
 use Rattle.laying.proofs.lay.components.Goals as goal
 
 pub returns : goal.returns
-returns c =
-    six_read c.args.space.now c.args.from (read_back (search rules)) (read_back (search rules)) (read_back (search rules))
-    (read_back (search rules)) (read_back (search rules)) (read_back (search rules))
+returns c = c.copy_from_slice.ensures.after ∙ six_copied c.args.space.now c.args.from c.requires

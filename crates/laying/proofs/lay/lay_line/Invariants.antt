@@ -1,11 +1,6 @@
 -- `laying::lay::lay_line` meets its contract: the first `j` triggers have been looked at, and `k` of them are in use.
-use Prim.Native.Nat.{◌-◌, ◌≤◌}
-use Rattle.cue.specs.Sizes.{size_limit}
 use Rattle.laying.proofs.LayLaws.{Laying}
 use Rattle.laying.proofs.lay.lay_line.Given as goal
 
 abbrev pub invariant-loop-j : goal.invariant-loop-j
-invariant-loop-j l = (l.j ≤ size_limit) × Laying l.p l.packed l.initial.space l.from l.space l.k l.j
-
-abbrev pub decreases-loop-j : goal.decreases-loop-j
-decreases-loop-j l = 6 - l.j
+invariant-loop-j l = Laying l.p l.packed l.initial.space l.from l.space l.k l.j

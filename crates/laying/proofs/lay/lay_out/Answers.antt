@@ -8,10 +8,10 @@ pub returns-then-p-eq0 : goal.returns-then-p-eq0
 returns-then-p-eq0 c = laid_out_before c.if-p-eq0.true
 
 pub loop-i-init : goal.loop-i-init
-loop-i-init c = (omega arith, laid_out_none)
+loop-i-init c = laid_out_none
 
 pub loop-i-preserved : goal.loop-i-preserved
-loop-i-preserved c = (omega arith, laid_out_more refl c.loop-i.invariant.1 c.lay_line.auto.space c.lay_line.ensures)
+loop-i-preserved c = laid_out_more refl c.loop-i.invariant c.lay_line.auto.space c.lay_line.ensures
 
 pub returns : goal.returns
-returns c = laid_out_all c.args.count (omega arith) c.loop-i.invariant.1
+returns c = laid_out_all c.args.count (omega arith) c.loop-i.invariant

@@ -1,10 +1,6 @@
 -- `laying::lay::lay_out` meets its contract: without a spare trigger all lines are laid out as they stand, else the first `i` of them are.
-use Prim.Native.Nat.{◌-◌, ◌≤◌}
 use Rattle.laying.proofs.LayLaws.{LaidOut}
 use Rattle.laying.proofs.lay.lay_out.Given as goal
 
 abbrev pub invariant-loop-i : goal.invariant-loop-i
-invariant-loop-i l = (l.i ≤ l.count) × LaidOut l.p l.initial.space l.space l.i
-
-abbrev pub decreases-loop-i : goal.decreases-loop-i
-decreases-loop-i l = l.count - l.i
+invariant-loop-i l = LaidOut l.p l.initial.space l.space l.i

@@ -4,21 +4,21 @@ use native.Mathlib.Omega.{arith}
 use Rattle.lines.proofs.TurnLaws.{counted_start, counted_few, counted_end, counted_more}
 use Rattle.lines.proofs.count.count_lines.Goals as goal
 
-pub loop-marks-init : goal.loop-marks-init
-loop-marks-init c = (refl, counted_start)
+pub loop-buffer-init : goal.loop-buffer-init
+loop-buffer-init c = (refl, counted_start)
 
 pub overflow_add-count : goal.overflow_add-count
-overflow_add-count c = omega (arith, counted_few c.gather-len.ensures c.loop-marks.invariant.1 c.requires.1)
+overflow_add-count c = omega (arith, counted_few c.gather.ensures c.loop-buffer.invariant.1 c.requires.1)
 
-pub returns-then-len-lt-ROOM : goal.returns-then-len-lt-ROOM
-returns-then-len-lt-ROOM c =
+pub returns-then-buffer-lt-ROOM : goal.returns-then-buffer-lt-ROOM
+returns-then-buffer-lt-ROOM c =
     λ P g.
-    counted_end c.gather-len.ensures c.loop-marks.invariant.1 c.if-len-lt-ROOM.true P g
+    counted_end c.gather.ensures c.loop-buffer.invariant.1 c.if-buffer-lt-ROOM.true P g
 
-pub loop-marks-smaller : goal.loop-marks-smaller
-loop-marks-smaller c = omega (arith, counted_few c.gather-len.ensures c.loop-marks.invariant.1 c.requires.1)
+pub loop-buffer-smaller : goal.loop-buffer-smaller
+loop-buffer-smaller c = omega (arith, counted_few c.gather.ensures c.loop-buffer.invariant.1 c.requires.1)
 
-pub loop-marks-preserved : goal.loop-marks-preserved
-loop-marks-preserved c =
+pub loop-buffer-preserved : goal.loop-buffer-preserved
+loop-buffer-preserved c =
     let (P, g) = c.requires in
-    ((c.gather-len.ensures P g).stored.size, counted_more c.gather-len.ensures c.loop-marks.invariant.1 g c.if-len-lt-ROOM.false)
+    ((c.gather.ensures P g).stored.size, counted_more c.gather.ensures c.loop-buffer.invariant.1 g c.if-buffer-lt-ROOM.false)

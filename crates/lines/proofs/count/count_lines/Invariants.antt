@@ -7,8 +7,8 @@ use Rattle.cue.specs.Sizes.{most_lines}
 use Rattle.lines.proofs.TurnLaws.{Counted}
 use Rattle.lines.proofs.count.count_lines.Given as goal
 
-abbrev pub invariant-loop-marks : goal.invariant-loop-marks
-invariant-loop-marks l = (length l.buf ≡ room) × Counted l.marks l.star l.lag l.needs l.last.at l.count
+abbrev pub invariant-loop-buffer : goal.invariant-loop-buffer
+invariant-loop-buffer l = (length l.buffer.rows ≡ room) × Counted l.sources.marks.now l.sources.star.now l.sources.lag.now l.sources.needs.now l.last.at l.count
 
-abbrev pub decreases-loop-marks : goal.decreases-loop-marks
-decreases-loop-marks l = most_lines - l.count
+abbrev pub decreases-loop-buffer : goal.decreases-loop-buffer
+decreases-loop-buffer l = most_lines - l.count

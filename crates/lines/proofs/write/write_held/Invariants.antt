@@ -1,6 +1,5 @@
 -- `lines::write::write_held` meets its contract: the first `k` lines are laid.
 use mathlib.Core.Path.{◌≡◌}
-use Prim.Native.Nat.{◌-◌, ◌≤◌}
 use lib.ListN.{length}
 use Rattle.cue.specs.Written.{list_words}
 use Rattle.buffer.specs.Buffer.{held}
@@ -9,7 +8,4 @@ use Rattle.lines.proofs.write.write_held.Given as goal
 
 abbrev pub invariant-loop-k : goal.invariant-loop-k
 invariant-loop-k l =
-    (l.k ≤ l.len) × (length l.out ≡ length l.initial.out) × (l.out ≡ laid l.initial.out l.at (list_words l.n (held l.n l.k l.buf)))
-
-abbrev pub decreases-loop-k : goal.decreases-loop-k
-decreases-loop-k l = l.len - l.k
+    (length l.out ≡ length l.initial.out) × (l.out ≡ laid l.initial.out l.at (list_words l.n (held l.n l.k l.buffer.rows)))

@@ -20,9 +20,8 @@ pub loop-j-preserved : goal.loop-j-preserved
 loop-j-preserved c =
     let l = c.loop-j in
     let a = c.args in (
-      omega arith,
-      length-set l.out _ _ ∙ l.invariant.1,
-      rw l.invariant.2
+      length-set l.out _ _ ∙ l.invariant.0,
+      rw l.invariant.1
           (component_more _ a.at a.line.count a.line.at l.j _ (simp length-set c.requires.1) (omega arith) c.requires.2
           (to_z-of_z {w = w32} (record { sfits = c.signed.type_inv }) ∙ c.signed.ensures)),
     )
@@ -32,5 +31,5 @@ returns c =
     let l = c.loop-j in
     let a = c.args in
     let e : l.j ≡ 6 = omega arith in
-    rw e at l.invariant.2 ∙ ap (λ z. paste (set a.out.now a.at z) (a.at + 1) (words_of a.line) 6)
+    rw e at l.invariant.1 ∙ ap (λ z. paste (set a.out.now a.at z) (a.at + 1) (words_of a.line) 6)
     (to_z_pos w32 {n = a.line.count} (omega arith)) ∙ laid_line a.out.now a.at a.line.count (line_of a.line.count a.line.at) (omega arith)

@@ -1,14 +1,13 @@
 -- `lines::write::write_line` meets its contract: the count, then `j` of the components' words are written.
 use mathlib.Core.Path.{◌≡◌}
 use mathlib.Core.List.{List}
-use Prim.Native.Nat.{◌+◌, ◌-◌, ◌≤◌}
+use Prim.Native.Nat.{◌+◌}
 use lib.IntN.{ℤ}
 use lib.ListN.{length}
 use lib.Seq.{paste}
 use Rattle.words.specs.declared.LineWords.{LineWords}
 use Rattle.tables.specs.Lines.{line_of}
 use Rattle.buffer.proofs.SpaceLaws.{component_words}
-use Rattle.cue.specs.Sizes.{size_limit}
 use Rattle.lines.proofs.write.write_line.Given as goal
 
 abbrev words_of : LineWords → List ℤ
@@ -16,7 +15,4 @@ words_of line = component_words line.count (line_of line.count line.at)
 
 abbrev pub invariant-loop-j : goal.invariant-loop-j
 invariant-loop-j l =
-    (l.j ≤ size_limit) × (length l.out ≡ length l.initial.out) × (l.out ≡ paste l.initial.out (l.at + 1) (words_of l.line) l.j)
-
-abbrev pub decreases-loop-j : goal.decreases-loop-j
-decreases-loop-j l = 6 - l.j
+    (length l.out ≡ length l.initial.out) × (l.out ≡ paste l.initial.out (l.at + 1) (words_of l.line) l.j)

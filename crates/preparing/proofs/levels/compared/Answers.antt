@@ -9,9 +9,8 @@ pub loop-l-preserved : goal.loop-l-preserved
 loop-l-preserved c =
     let a = c.args in
     let i = c.loop-l.invariant in (
-      omega arith,
-      filled_more _ _ _ _ _ (omega arith) i.1 (gained_at a.through.now a.floor c.wide-i.ensures c.less.ensures),
-      filled_more _ _ _ _ _ (omega arith) i.2 (needed_at a.through.now a.asks c.wide-i.ensures c.rest.ensures),
+      filled_more _ _ _ _ _ (omega arith) i.0 (gained_at a.through.now a.floor c.from-i.ensures c.less.ensures),
+      filled_more _ _ _ _ _ (omega arith) i.1 (needed_at a.through.now a.asks c.from-i.ensures c.rest.ensures),
     )
 
 pub returns : goal.returns
@@ -19,6 +18,6 @@ unfolding meant meant_v
 returns c =
     let i = c.loop-l.invariant in
     record {
-      gained = record { at = λ l j h k. (i.1.done l (omega arith)).at j k };
-      needed = record { at = λ l j h k. (i.2.done l (omega arith)).at j k };
+      gained = record { at = λ l j h k. (i.0.done l (omega arith)).at j k };
+      needed = record { at = λ l j h k. (i.1.done l (omega arith)).at j k };
     }

@@ -1,6 +1,5 @@
 -- `reaching::weighed::combined` meets its contract: the largest over the lines passed. Assumes nothing.
 use mathlib.Core.Path.{◌≡◌}
-use Prim.Native.Nat.{◌-◌, ◌≤◌}
 use lib.ListN.{length}
 use Rattle.maxplus.specs.Tables.{sup}
 use Rattle.tables.specs.Held.{meant_v, HoldsV}
@@ -8,7 +7,4 @@ use Rattle.reaching.proofs.WeighedLaws.{weighed}
 use Rattle.reaching.proofs.weighed.combined.Given as goal
 
 abbrev pub invariant-loop-k : goal.invariant-loop-k
-invariant-loop-k l = (l.k ≤ l.count) × (length l.most ≡ 6) × HoldsV l.n (λ j. sup l.k (λ k. weighed l.n (meant_v l.within) l.space k j)) l.most
-
-abbrev pub decreases-loop-k : goal.decreases-loop-k
-decreases-loop-k l = l.count - l.k
+invariant-loop-k l = (length l.most ≡ 6) × HoldsV l.n (λ j. sup l.k (λ k. weighed l.n (meant_v l.within) l.space k j)) l.most

@@ -1,13 +1,8 @@
--- `tables::differences::rest` meets its contract. The places passed are written. Assumes nothing.
-use native.Mathlib.Omega.{arith}
+-- `tables::differences::rest` meets its contract. Assumes nothing.
+use Rattle.std.proofs.Common.{rules}
 use Rattle.tables.specs.Held.{meant_v}
-use Rattle.tables.proofs.Loops.{filled_more}
 use Rattle.tables.proofs.differences.rest.Goals as goal
-
-pub loop-j-preserved : goal.loop-j-preserved
-unfolding meant_v
-loop-j-preserved c = (omega arith, filled_more _ 0 _ _ _ (omega arith) c.loop-j.invariant.1 c.minus.ensures)
 
 pub returns : goal.returns
 unfolding meant_v
-returns c = record { at = λ j h. c.loop-j.invariant.1.done j (omega arith) }
+returns c = record { at = λ j h. let e = c.each.ensures j h in search rules }

@@ -1,18 +1,10 @@
--- `tables::largest::dot` meets its contract. Best is the largest sum of the places passed. Assumes nothing.
-use mathlib.Core.Path.{◌≡◌}
-use native.Mathlib.Omega.{arith}
+-- `tables::largest::dot` meets its contract. Assumes nothing.
+use Rattle.std.proofs.Common.{rules}
+use Rattle.maxplus.specs.Entry.{◌⊗◌}
 use Rattle.maxplus.specs.Tables.{mv}
 use Rattle.tables.specs.Held.{meant, meant_v}
-use Rattle.tables.proofs.Loops.{largest_none, largest_more}
 use Rattle.tables.proofs.largest.dot.Goals as goal
 
-pub loop-j-init : goal.loop-j-init
-loop-j-init c = (omega arith, largest_none _)
-
-pub loop-j-preserved : goal.loop-j-preserved
-unfolding meant meant_v
-loop-j-preserved c = (omega arith, largest_more _ _ _ _ _ c.plus.ensures c.loop-j.invariant.1 c.larger-best.ensures)
-
-pub returns-after-loop-j : goal.returns-after-loop-j
-unfolding mv
-returns-after-loop-j c = let e : c.loop-j.j ≡ c.args.n = omega arith in rw e at c.loop-j.invariant.1
+pub returns : goal.returns
+unfolding mv meant meant_v
+returns c = c.largest_of.ensures (λ j. meant c.args.table.now c.args.i j ⊗ meant_v c.args.x j) (λ j h v p. search rules)

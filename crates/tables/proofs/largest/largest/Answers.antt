@@ -1,14 +1,8 @@
--- `tables::largest::largest` meets its contract. Best is the largest of the places passed. Assumes nothing.
-use mathlib.Core.Path.{refl}
-use native.Mathlib.Omega.{arith}
-use Rattle.words.specs.Words.{entry}
+-- `tables::largest::largest` meets its contract. Assumes nothing.
+use Rattle.std.proofs.Common.{rules}
 use Rattle.tables.specs.Held.{meant_v}
-use Rattle.tables.proofs.Loops.{largest_none, largest_more}
 use Rattle.tables.proofs.largest.largest.Goals as goal
 
-pub loop-j-init : goal.loop-j-init
-loop-j-init c = (omega arith, largest_none _)
-
-pub loop-j-preserved : goal.loop-j-preserved
+pub returns : goal.returns
 unfolding meant_v
-loop-j-preserved c = (omega arith, largest_more _ _ _ _ _ (refl {a = entry _}) c.loop-j.invariant.1 c.larger-best.ensures)
+returns c = c.largest_of.ensures (meant_v c.args.x) (λ j h v p. search rules)

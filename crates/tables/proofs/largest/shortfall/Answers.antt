@@ -9,7 +9,7 @@ use Rattle.tables.proofs.LargestLaws.{close_dot}
 use Rattle.tables.proofs.largest.shortfall.Goals as goal
 
 pub loop-i-init : goal.loop-i-init
-loop-i-init c = (omega arith, largest_none _)
+loop-i-init c = largest_none _
 
 pub minus-short-requires : goal.minus-short-requires
 minus-short-requires c = (
@@ -21,8 +21,8 @@ pub loop-i-preserved : goal.loop-i-preserved
 unfolding meant_v
 loop-i-preserved c =
     let e = rw c.dot-lands.ensures at c.minus-short.ensures in
-    (omega arith, largest_more _ _ _ _ _ e c.loop-i.invariant.1 c.larger-best.ensures)
+    largest_more _ _ _ _ _ e c.loop-i.invariant c.larger-best.ensures
 
 pub returns : goal.returns
 unfolding shortfall
-returns c = let e : c.loop-i.i ≡ c.args.m = omega arith in rw e at c.loop-i.invariant.1
+returns c = let e : c.loop-i.i ≡ c.args.m = omega arith in rw e at c.loop-i.invariant

@@ -1,6 +1,6 @@
 -- `text::lines::put_component` meets its contract. Assumes nothing.
 use Rattle.sheet.specs.Text.{bytes}
-use Rattle.writing.proofs.PutLaws.{put_as}
+use Rattle.writing.proofs.WriterLaws.{put_as}
 use Rattle.writing.proofs.TextLaws.{spare_component}
 use Rattle.text.proofs.lines.put_component.Goals as goal
 

@@ -7,21 +7,21 @@ use lib.ListN.{get_or}
 use mir.Syntax.{w32}
 use mir.Val.{SFits}
 use Rattle.trigger_sets.specs.Sets.{bit}
-use Rattle.writing.proofs.PutLaws.{then, put_as}
+use Rattle.writing.proofs.WriterLaws.{then, put_as}
 use Rattle.writing.proofs.SignedLaws.{item_back}
 use Rattle.writing.proofs.TextLaws.{grown_none, grown_more, items_none, items_more, component_of}
 use Rattle.text.proofs.lines.put_items.Goals as goal
 
 pub loop-j-init : goal.loop-j-init
-loop-j-init c = (omega arith, grown_none _ 12 _ _ (items_none _) (omega arith))
+loop-j-init c = grown_none _ 12 _ (items_none _) (omega arith)
 
 pub loop-j-preserved : goal.loop-j-preserved
 loop-j-preserved c =
     let a = c.args in
-    let b = c.put_comma-behind.ensures in
-    let p = c.put_component-end.ensures in
+    let b = c.put_comma.ensures in
+    let p = c.put_component.ensures in
     let l = c.loop-j in
-    let word : ℤ = get_or a.words.now (a.from + 1 + l.j) (pos 0) in
+    let word : ℤ = get_or a.line.now (1 + l.j) (pos 0) in
     let f : SFits w32 word = search rules in
-    let e = component_of a.n (bit a.spares) a.words.now a.from l.j c.loop-j-test.true c.has.ensures (item_back f) in
-    (omega arith, grown_more _ 12 (items_more _ _) l.invariant.1 (then b.puts (put_as e p.puts)) (omega (arith, b.short, p.short)))
+    let e = component_of a.n (bit a.spares) a.line.now 0 l.j c.loop-j-test.true c.has.ensures (item_back f) in
+    grown_more _ 12 (items_more _ _) l.invariant (then b.puts (put_as e p.puts)) (omega (arith, b.short, p.short))

@@ -4,9 +4,9 @@ use Rattle.writing.proofs.TextLaws.{grown_none, grown_more, panels_none, panels_
 use Rattle.text.proofs.lines.put_panels.Goals as goal
 
 pub loop-i-init : goal.loop-i-init
-loop-i-init c = (omega arith, grown_none _ 13 _ _ (panels_none _) (omega arith))
+loop-i-init c = grown_none _ 13 _ (panels_none _) (omega arith)
 
 pub loop-i-preserved : goal.loop-i-preserved
 loop-i-preserved c =
-    let p = c.put_panel-end.ensures in
-    (omega arith, grown_more _ 13 (panels_more _ _) c.loop-i.invariant.1 p.puts p.short)
+    let p = c.put_panel.ensures in
+    grown_more _ 13 (panels_more _ _) c.loop-i.invariant p.puts p.short

@@ -1,6 +1,5 @@
 -- `text::lines::put_times` meets its contract. The loop's invariant: the first `j` times are put. Assumes nothing.
 use mathlib.Core.List.{[], ◌∷◌}
-use Prim.Native.Nat.{◌-◌, ◌≤◌}
 use lib.IntN.{pos}
 use lib.ListN.{get_or}
 use Rattle.maxplus.specs.Finite.{each}
@@ -10,7 +9,4 @@ use Rattle.writing.proofs.TextLaws.{Grown}
 use Rattle.text.proofs.lines.put_times.Given as goal
 
 abbrev pub invariant-loop-j : goal.invariant-loop-j
-invariant-loop-j l = (l.j ≤ l.n) × Grown (λ k. joined (each k (λ i. numeral (get_or l.times i (pos 0)) ∷ []))) 21 l.initial.out l.out l.at l.end l.j
-
-abbrev pub decreases-loop-j : goal.decreases-loop-j
-decreases-loop-j l = l.n - l.j
+invariant-loop-j l = Grown (λ k. joined (each k (λ i. numeral (get_or l.times i (pos 0)) ∷ []))) 21 l.initial.w l.w l.j

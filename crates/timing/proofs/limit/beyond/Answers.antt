@@ -1,20 +1,16 @@
--- `timing::limit::beyond` meets its contract. None of the components passed is beyond the limit. Assumes nothing.
-use mathlib.Core.Path.{ap, sym, ◌∙◌}
-use native.Mathlib.Omega.{arith}
+-- `timing::limit::beyond` meets its contract. Assumes nothing.
+use mathlib.Core.Path.{ap, ◌∙◌}
+use lib.IntN.{pos}
+use Rattle.std.proofs.lemmas.Iterator.{YieldsList-from_slice}
+use Rattle.std.proofs.lemmas.Iterator.Search.{any_from_yields_List}
+use Rattle.std.proofs.Common.{rules, tests, arith, take}
+use Rattle.sheet.specs.Sheet.{any}
 use Rattle.sheet.specs.Times.{beyond}
-use Rattle.timing.specs.Times.{component}
-use Rattle.timing.proofs.LimitLaws.{some_none, some_more, some_at, read_again}
+use Rattle.timing.proofs.LimitLaws.{any_listed, first_places}
 use Rattle.timing.proofs.limit.beyond.Goals as goal
 
-pub loop-j-init : goal.loop-j-init
-loop-j-init c = (omega arith, some_none beyond _)
-
-pub returns-then-far_off : goal.returns-then-far_off
-returns-then-far_off c =
-    let x = component c.args.timing.at c.loop-j.j in
-    sym (some_at beyond _ _ c.loop-j.j (omega arith) (ap beyond (sym (read_again x (omega arith))) ∙ sym c.far_off.ensures ∙ c.if-far_off.true))
-
-pub loop-j-preserved : goal.loop-j-preserved
-loop-j-preserved c =
-    let x = component c.args.timing.at c.loop-j.j in
-    (omega arith, some_more beyond _ _ c.loop-j.invariant.1 (ap beyond (sym (read_again x (omega arith))) ∙ sym c.far_off.ensures ∙ c.if-far_off.false))
+pub returns : goal.returns
+returns c =
+    let at = c.args.timing.at in
+    any_from_yields_List beyond _ _ c.any.result c.any.ensures.ran (YieldsList-from_slice (take c.args.n at) cc) (λ x b q k. search (rules, tests)) ∙
+    any_listed beyond _ ∙ ap (any beyond) (first_places at (pos 0) c.args.n (omega arith))

@@ -15,8 +15,8 @@ returns-then-x-i c =
 
 pub loop-j-preserved : goal.loop-j-preserved
 unfolding meant meant_v
-loop-j-preserved c = (omega arith, below_more _ _ c.loop-j.invariant.1 (within_word c.plus.ensures c.if-x-i.false))
+loop-j-preserved c = below_more _ _ c.loop-j.invariant (within_word c.plus.ensures c.if-x-i.false)
 
 pub returns : goal.returns
 unfolding Keeps
-returns c = λ i j hi hj. c.loop-i.invariant.1 i (omega arith) j hj
+returns c = λ i j hi hj. c.loop-i.invariant i (omega arith) j hj

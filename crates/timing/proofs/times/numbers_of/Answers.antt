@@ -7,7 +7,7 @@ use Rattle.timing.proofs.NumberLaws.{components_none, components_more, there, nu
 use Rattle.timing.proofs.times.numbers_of.Goals as goal
 
 pub loop-j-init : goal.loop-j-init
-loop-j-init c = (omega arith, λ X H. components_none X)
+loop-j-init c = λ X H. components_none X
 
 pub number-requires : goal.number-requires
 number-requires c =
@@ -16,8 +16,6 @@ number-requires c =
 
 pub loop-j-preserved : goal.loop-j-preserved
 loop-j-preserved c =
-    let l = c.loop-j in (
-      omega arith,
-      λ X H. rw (l.invariant.1 X H) (components_more X l.j _ (omega arith)
-          (to_z-of_z {w = w64} (record { sfits = c.number.type_inv }) ∙ number_at l.j _ H (omega arith) c.number.ensures)),
-    )
+    let l = c.loop-j in
+    λ X H. rw (l.invariant X H) (components_more X l.j _ (omega arith)
+    (to_z-of_z {w = w64} (record { sfits = c.number.type_inv }) ∙ number_at l.j _ H (omega arith) c.number.ensures))

@@ -1,7 +1,7 @@
 -- `timing::times::numbers_of` meets its contract. The numbers of the words passed are written, 0 past them. Assumes nothing.
 use mathlib.Core.Path.{◌≡◌}
 use mathlib.Core.Bool.{cond}
-use Prim.Native.Nat.{ℕ, ◌≤◌, ◌-◌}
+use Prim.Native.Nat.{ℕ}
 use lib.Dec.{ltb}
 use lib.IntN.{ℤ, pos}
 use Rattle.cue.specs.Cue.{timing}
@@ -10,7 +10,4 @@ use Rattle.tables.specs.Held.{HoldsV}
 use Rattle.timing.proofs.times.numbers_of.Given as goal
 
 abbrev pub invariant-loop-j : goal.invariant-loop-j
-invariant-loop-j l = (l.j ≤ l.n) × ((X : ℕ → ℤ) → HoldsV l.n (timing X) l.x.at → l.at ≡ six (λ i. cond (ltb i l.j) (X i) (pos 0)))
-
-abbrev pub decreases-loop-j : goal.decreases-loop-j
-decreases-loop-j l = l.n - l.j
+invariant-loop-j l = ((X : ℕ → ℤ) → HoldsV l.n (timing X) l.x.at → l.at ≡ six (λ i. cond (ltb i l.j) (X i) (pos 0)))

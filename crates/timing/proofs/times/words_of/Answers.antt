@@ -24,4 +24,4 @@ loop-j-preserved c =
     let x = component c.args.timing.at l.j in
     let (e, k) = component_word x (none_at beyond _ _ l.j c.requires.1 (omega arith)) _
     (c.of_number.ensures ∙ ap (λ z. word (num z)) (read_again x (omega arith))) in
-    (omega arith, written_more _ (omega arith) l.invariant.1 e k)
+    written_more _ (omega arith) l.invariant e k

@@ -1,5 +1,4 @@
 -- `timing::times::words_of` meets its contract. The words of the components passed are written. Assumes nothing.
-use Prim.Native.Nat.{◌≤◌, ◌-◌}
 use Rattle.cue.specs.Cue.{timing}
 use Rattle.tables.specs.Lines.{WordsOf}
 use Rattle.sheet.specs.Times.{far_limit}
@@ -7,7 +6,4 @@ use Rattle.timing.specs.Times.{component}
 use Rattle.timing.proofs.times.words_of.Given as goal
 
 abbrev pub invariant-loop-j : goal.invariant-loop-j
-invariant-loop-j l = (l.j ≤ l.n) × WordsOf l.j far_limit (timing (component l.at)) l.r
-
-abbrev pub decreases-loop-j : goal.decreases-loop-j
-decreases-loop-j l = l.n - l.j
+invariant-loop-j l = WordsOf l.j far_limit (timing (component l.timing.at)) l.r

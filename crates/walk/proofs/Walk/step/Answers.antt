@@ -9,7 +9,8 @@ resume-requires c = may_give_up c.requires
 pub trying-found-requires : goal.trying-found-requires
 trying-found-requires c = resume_ready c.args.self c.requires c.resume.ensures
 
-pub returns : goal.returns
-returns c =
-    rw c.handed_back.ensures
-    (resume_taken c.args.self c.requires c.resume.ensures (c.trying-found.ensures c.args.self.bounds.count))
+pub returns-then-found : goal.returns-then-found
+returns-then-found c = resume_taken c.args.self c.requires c.resume.ensures (rw c.if-found.true at c.trying-found.ensures)
+
+pub returns-else-found : goal.returns-else-found
+returns-else-found c = resume_taken c.args.self c.requires c.resume.ensures (rw c.if-found.false at c.trying-found.ensures)

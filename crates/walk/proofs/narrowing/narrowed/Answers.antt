@@ -12,7 +12,7 @@ pub loop-i-init : goal.loop-i-init
 loop-i-init c =
     let a = c.args in
     let q = picked a.k a.picks in
-    (omega arith, sym (narrow_start a.gains.now q a.k (picked_length a.k a.picks) a.kept.now), c.requires.2 a.k)
+    (sym (narrow_start a.gains.now q a.k (picked_length a.k a.picks) a.kept.now), c.requires.2 a.k)
 
 pub loop-i-preserved : goal.loop-i-preserved
 loop-i-preserved c =
@@ -20,11 +20,10 @@ loop-i-preserved c =
     let q = picked a.k a.picks in
     let i = c.loop-i.i in
     let j = get_or q i 0 in (
-      omega arith,
       rw (c.cut_by-m.ensures, c.pick-j.ensures.is)
-          (sym (narrow_next a.gains.now q a.k (picked_length a.k a.picks) i c.loop-i.m (omega arith)) ∙ c.loop-i.invariant.1),
+          (sym (narrow_next a.gains.now q a.k (picked_length a.k a.picks) i c.loop-i.m (omega arith)) ∙ c.loop-i.invariant.0),
       rw (c.cut_by-m.ensures, c.pick-j.ensures.is)
-          (cut_small j (serves a.gains.now i j a.k) c.loop-i.m (rw c.pick-j.ensures.is at c.pick-j.ensures.trigger) c.loop-i.invariant.2),
+          (cut_small j (serves a.gains.now i j a.k) c.loop-i.m (rw c.pick-j.ensures.is at c.pick-j.ensures.trigger) c.loop-i.invariant.1),
     )
 
 pub returns : goal.returns
@@ -32,4 +31,4 @@ returns c =
     let a = c.args in
     let l = c.loop-i in
     let e : l.i ≡ a.k = omega arith in
-    (sym (narrow_end a.gains.now (picked a.k a.picks) a.k (picked_length a.k a.picks) l.m) ∙ (rw e at l.invariant.1), l.invariant.2)
+    (sym (narrow_end a.gains.now (picked a.k a.picks) a.k (picked_length a.k a.picks) l.m) ∙ (rw e at l.invariant.0), l.invariant.1)

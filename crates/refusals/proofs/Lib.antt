@@ -1,0 +1,3 @@
+-- Laws of refusals.
+pub mod NumberLaws
+pub mod ResultLaws
