@@ -8,7 +8,7 @@ ghost use Rattle.timing.specs.Times.{component, TimingWords};
 ghost use Rattle.spares.specs.Using.{PlacesOf};
 ghost use Rattle.preparing.specs.Prepared.{PreparedAs};
 
-use preparing::{Prepared, Tables, prepare};
+use preparing::{Prepared, Tables, prepare_sheet};
 use reading::read_sheet;
 use refusals::Refusal;
 use spares::{Places, picked};
@@ -16,7 +16,7 @@ use timing::Timing;
 use timing::limit::beyond;
 use words::LineWords;
 
-// "Reading's, then 10: not n components; 11: one beyond ±1,000,000,000; then 8." Otherwise the lent tables are those that `prepare` makes.
+// "Reading's, then 10: not n components; 11: one beyond ±1,000,000,000; then 8." Otherwise the lent tables are those that `prepare_sheet` makes.
 pub fn admit(bytes: &[u8], timing: Timing, tables: &mut Tables) -> Result<Prepared, Refusal>
     ensures { PreparedAs (admitted bytes.now timing.count (component timing.at)) tables.new result }
 {
@@ -28,7 +28,7 @@ pub fn admit(bytes: &[u8], timing: Timing, tables: &mut Tables) -> Result<Prepar
     if beyond(timing, n) {
         return Err(Refusal::TimeTooFar);
     }
-    prepare(&sheet, tables)
+    prepare_sheet(&sheet, tables)
 }
 
 // The words of a timing's components at the triggers in use: "A tested timing may hold any permitted number" at the others.

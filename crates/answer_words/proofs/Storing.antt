@@ -11,7 +11,7 @@ use lib.Signed.{mag}
 use mir.Syntax.{w64}
 use mir.Val.{hbits, to_z, of_z}
 use mir.Facts.{to_z-of_z}
-use borrow.Author.Tests.{ne_eqb}
+use borrow.Author.Tests.{ne_eqb, eq-eqb}
 use Rattle.maxplus.specs.Finite.{each}
 use Rattle.maxplus.proofs.EachLaws.{length_each}
 use Rattle.cue.specs.Sizes.{six}
@@ -57,20 +57,28 @@ pub panel_more : (lent : List ℤ) {l a z : List ℤ} {v w : ℤ} (m : ℕ) (byt
 panel_more lent m bytes counts el ev ea ew ez = ez ∙ rw (ea, ew, el, ev) (pairs_more lent m bytes counts)
 
 -- ---- the count needed and the words of a line
-module _ (lent : List ℤ) {e : Unplanned} where
-  pub room_stored : {a b : List ℤ} {v u : ℤ} {x : Extent} (at wide_at : ℕ) → e ≡ NoRoom x → v ≡ pos x.count → a ≡ set lent at v →
-      u ≡ pos x.width → b ≡ set a wide_at u → b ≡ room_words at wide_at (unplanned_number e) (needed e).count (needed e).width lent
+module _ (lent : List ℤ) where
+  pub room_stored : {a b : List ℤ} {v u : ℤ} (at wide_at k c w : ℕ) → k ≡ 9 → v ≡ pos c → a ≡ set lent at v → u ≡ pos w →
+      b ≡ set a wide_at u → b ≡ room_words at wide_at k c w lent
   unfolding room_words
-  room_stored at wide_at is ev ea eu eb = rw is (eb ∙ rw (ea, ev, eu) refl)
+  room_stored at wide_at k c w h ev ea eu eb = eb ∙ rw (ea, ev, eu, eq-eqb k 9 h) refl
 
-  pub no_room : (at wide_at : ℕ) → ((x : Extent) → e ≡ NoRoom x → ⊥) →
-      lent ≡ room_words at wide_at (unplanned_number e) (needed e).count (needed e).width lent
+  pub no_room : (at wide_at k c w : ℕ) → ¬ (k ≡ 9) → lent ≡ room_words at wide_at k c w lent
   unfolding room_words
-  no_room at wide_at f = go e f
+  no_room at wide_at k c w f = rw (ne_eqb k 9 f) refl
+
+module _ (lent : List ℤ) {e : Unplanned} (at wide_at : ℕ) where
+  pub needed_stored : {b : List ℤ} {x : Extent} → e ≡ NoRoom x → b ≡ room_words at wide_at 9 x.count x.width lent →
+      b ≡ room_words at wide_at (unplanned_number e) (needed e).count (needed e).width lent
+  needed_stored is h = rw is h
+
+  pub none_needed : ((x : Extent) → e ≡ NoRoom x → ⊥) →
+      lent ≡ room_words at wide_at (unplanned_number e) (needed e).count (needed e).width lent
+  none_needed f = go e f
     where
       go : (e : Unplanned) → ((x : Extent) → e ≡ NoRoom x → ⊥) →
           lent ≡ room_words at wide_at (unplanned_number e) (needed e).count (needed e).width lent
-      go (Refused r) f = rw (ne_eqb (number r) 9 (not_nine r)) refl
+      go (Refused r) f = no_room lent at wide_at (number r) 0 0 (not_nine r)
       go (NoRoom x) f = absurd (f x refl)
 
 -- ---- planning's answer

@@ -28,14 +28,24 @@ pub fn put(lent: &mut [i64], at: usize, v: i64)
     }
 }
 
-// For 9 the count needed and how many words a line takes, each at its place.
-pub fn put_room(lent: &mut [i64], at: usize, behind: usize, unplanned: Unplanned)
+// For 9 the count needed and how many words a line takes, each at its place. It is a number, since the words are promised of every number.
+pub fn put_room(lent: &mut [i64], at: usize, behind: usize, number: u8, count: usize, wide: usize)
+    requires { (count ≤ most_lines) × (wide ≤ most_lines) }
+    ensures { lent.new ≡ room_words at behind number count wide lent.old }
+{
+    if number == 9 {
+        put(lent, at, count_word(count));
+        put(lent, behind, count_word(wide));
+    }
+}
+
+// The same for planning's answer where there is no plan.
+pub fn put_needed(lent: &mut [i64], at: usize, behind: usize, unplanned: Unplanned)
     requires { Few (needed unplanned) }
     ensures { lent.new ≡ room_words at behind (unplanned_number unplanned) (needed unplanned).count (needed unplanned).width lent.old }
 {
     if let Unplanned::NoRoom(room) = unplanned {
-        put(lent, at, count_word(room.count));
-        put(lent, behind, count_word(room.width));
+        put_room(lent, at, behind, 9, room.count, room.width);
     }
 }
 
@@ -56,7 +66,7 @@ pub fn write_plan(lent: &mut [i64], r: Result<CuePlan, Unplanned>) -> u32
             0
         }
         Err(unplanned) => {
-            put_room(lent, 3, 5, unplanned);
+            put_needed(lent, 3, 5, unplanned);
             u32::from(unplanned.number())
         }
     }

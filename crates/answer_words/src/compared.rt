@@ -4,7 +4,7 @@ ghost use Rattle.comparing.specs.Comparing.{compare_answer};
 ghost use Rattle.answer_words.specs.Words.{compare_number, compare_words, written_words};
 ghost use Rattle.answer_words.specs.Inner.{Few, Counted};
 
-use crate::answers::{count_word, put, put_room};
+use crate::answers::{count_word, put, put_needed};
 use comparing::{Compared, Uncompared};
 use planning::Extent;
 
@@ -28,11 +28,11 @@ pub fn answer_compared(lent: &mut [i64], r: Result<Compared, Uncompared>) -> u32
             102
         }
         Err(Uncompared::First(unplanned)) => {
-            put_room(lent, 0, 2, unplanned);
+            put_needed(lent, 0, 2, unplanned);
             u32::from(unplanned.number())
         }
         Err(Uncompared::Second(unplanned)) => {
-            put_room(lent, 1, 3, unplanned);
+            put_needed(lent, 1, 3, unplanned);
             200 + u32::from(unplanned.number())
         }
     }

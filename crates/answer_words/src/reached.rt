@@ -8,7 +8,7 @@ ghost use Rattle.reaching.specs.Reaching.{reach_extent};
 ghost use Rattle.answer_words.specs.Words.{reach_words, number_by};
 ghost use Rattle.answer_words.specs.Inner.{Few};
 
-use crate::answers::{count_word, put, put_room};
+use crate::answers::{count_word, put, put_needed};
 use planning::Unplanned;
 use reaching::Reached;
 
@@ -28,7 +28,7 @@ pub fn write_reached(lent: &mut [i64], r: Result<Reached, Unplanned>) -> u32
             0
         }
         Err(unplanned) => {
-            put_room(lent, 0, 7, unplanned);
+            put_needed(lent, 0, 7, unplanned);
             u32::from(unplanned.number())
         }
     }

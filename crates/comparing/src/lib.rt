@@ -9,7 +9,8 @@ ghost use Rattle.planning.specs.Demands.{Planned};
 ghost use Rattle.comparing.specs.Comparing.{comparing, compared_space, compare_answer};
 ghost use Rattle.comparing.specs.Inner.{unplanned_in};
 
-use planning::{CuePlan, Extent, Unplanned, plan};
+pub use planning::Extent;
+use planning::{CuePlan, Unplanned, plan};
 use words::LINE_SIZE;
 
 // Whether the same timings are tightest on two sheets, or that their numbers of triggers or their spares differ; with either goes how much was

@@ -31,9 +31,9 @@ pub struct KeptTable {
 pub fn kept_table(bytes: &[u8]) -> Result<KeptTable, Refusal>
     ensures { result ≡ kept_answer (keeping bytes.now) }
 {
-    let sheet = read_sheet(bytes)?;
+    let reading = read_sheet(bytes);
     let mut tables = Tables::blank();
-    let prepared = prepare(&sheet, &mut tables)?;
+    let prepared = prepare(reading, &mut tables)?;
     let marked = prepared.marked;
     let masks = marked.marks.kept;
     let levels = Levels {

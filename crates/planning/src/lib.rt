@@ -69,9 +69,8 @@ pub fn plan(bytes: &[u8], space: &mut [i32]) -> Result<CuePlan, Unplanned>
     ensures answer { result ≡ plan_answer (planning bytes.now space.old) }
     ensures written { space.new ≡ space_after (planning bytes.now space.old) space.old }
 {
-    let sheet = read_sheet(bytes)?;
     let mut tables = Tables::blank();
-    let prepared = prepare(&sheet, &mut tables)?;
+    let prepared = prepare(read_sheet(bytes), &mut tables)?;
     let marks = prepared.marked.marks;
     let masks = marks.kept;
     let counts = tally::tally(marks.levels, &masks, &tables.gains);

@@ -1,5 +1,5 @@
 -- What is known on the way from a sheet's words to what the operations are made from. The tables P are those that the words hold.
-use Rattle.std.specs.Prelude.{◌≡◌, Bool, List, ℕ, ◌≤◌, ◌<◌, length, get_or, Result, Ok, Err}
+use Rattle.std.specs.Prelude.{◌≡◌, Bool, List, ℕ, ◌≤◌, ◌<◌, length, get_or, replicate, Result, Ok, Err}
 use Rattle.maxplus.specs.Entry.{num}
 use Rattle.maxplus.specs.Tables.{star, NoGain}
 use Rattle.cue.specs.Cue as theory
@@ -27,6 +27,12 @@ use Rattle.preparing.specs.declared.Marked.{Marked}
 use Rattle.preparing.specs.declared.Prepared.{Prepared}
 use Rattle.preparing.specs.declared.Tables.{Tables}
 use Rattle.cue.specs.Sizes.{size_limit}
+
+-- tables with nothing in them
+abbrev pub blank_tables : Tables
+blank_tables =
+    let none = replicate size_limit (replicate size_limit 0) in
+    record { order = none; lag = none; star = none; gains = none; needs = none }
 
 -- the words of a good sheet s
 pub record Worded (s : spec.Sheet) (t : SheetWords) : Type 0 where

@@ -7,12 +7,13 @@ ghost use Rattle.sheet.specs.Sheet as spec;
 ghost use Rattle.sheet.specs.Sheet.{got, read};
 ghost use Rattle.sheet.specs.Cue.{used, cue_size, order_table, floor_by, cue_of};
 ghost use Rattle.sheet.specs.Ordered.{ordered};
+ghost use Rattle.reading.specs.Reading.{answer};
 ghost use Rattle.cue.specs.Cue as theory;
 ghost use Rattle.cue.specs.Cue.{timing};
 ghost use Rattle.tables.specs.Held.{Holds, HoldsV};
 ghost use Rattle.spares.specs.Using.{PlacesOf};
 ghost use Rattle.moments.specs.Moments.{MomentsOf};
-ghost use Rattle.preparing.specs.Prepared.{Worded, HoldsCue, CueFrom, Tabled, PreparedAs};
+ghost use Rattle.preparing.specs.Prepared.{blank_tables, Worded, HoldsCue, CueFrom, Tabled, PreparedAs};
 
 use candidates::Marks;
 use moments::overruns;
@@ -70,7 +71,9 @@ pub struct Prepared {
 
 impl Tables {
     // Tables to be filled.
-    pub fn blank() -> Tables {
+    pub fn blank() -> Tables
+        ensures { result ≡ blank_tables }
+    {
         let none = [[0u64; 6]; 6];
         Tables {
             order: none,
@@ -173,8 +176,20 @@ pub fn closed_tables(
     true
 }
 
-// All that an operation is made from, for a sheet that was read; or 8.
-pub fn prepare(sheet: &SheetWords, tables: &mut Tables) -> Result<Prepared, Refusal>
+// All that an operation is made from, for what was read; or the refusal.
+pub fn prepare(
+    reading: Result<SheetWords, Refusal>,
+    tables: &mut Tables,
+) -> Result<Prepared, Refusal>
+    requires { (b : List ℕ) × (reading ≡ answer (read b)) }
+    ensures { (b : List ℕ) → reading ≡ answer (read b) → PreparedAs (ordered b) tables.new result }
+{
+    let sheet = reading?;
+    prepare_sheet(&sheet, tables)
+}
+
+// The same for a sheet that was read; or 8.
+pub fn prepare_sheet(sheet: &SheetWords, tables: &mut Tables) -> Result<Prepared, Refusal>
     requires { (s : spec.Sheet) × Worded s sheet.now }
     ensures { (b : List ℕ) (s : spec.Sheet) (x : List ℕ) → read b ≡ got s x → Worded s sheet.now →
         PreparedAs (ordered b) tables.new result }

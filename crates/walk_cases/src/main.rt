@@ -109,8 +109,7 @@ fn put_walk(levels: &Levels, triggers: usize)
 fn prepared(bytes: &[u8], tables: &mut Tables) -> Result<Marks, Refusal>
     ensures { IfOk result (λ M. (0 < M.levels) × (M.levels ≤ size_limit) × Masks M.kept) }
 {
-    let sheet = read_sheet(bytes)?;
-    let prepared = prepare(&sheet, tables)?;
+    let prepared = prepare(read_sheet(bytes), tables)?;
     Ok(prepared.marked.marks)
 }
 

@@ -53,17 +53,12 @@ impl<'a> Writer<'a> {
         }
     }
 
-    // The digits of v, at most 20 below 2^64: those of its tenth part, then the last one.
+    // The digits of v, at most 20 below 2^64.
     pub fn put_natural(&mut self, v: u64)
         requires { self.old.at + 20 ≤ length self.old.out.now }
         ensures { Put self.old self.new (natural v) }
     {
-        if v < 10 {
-            self.put_byte(b'0' + v as u8);
-            return;
-        }
-        self.put_natural(v / 10);
-        self.put_byte(b'0' + (v % 10) as u8);
+        self.at = put_natural(self.out, self.at, v);
     }
 
     // A number: a minus and at most 19 digits, for which put_natural asks 20.
@@ -129,6 +124,28 @@ impl Number for i64 {
     fn put(self, writer: &mut Writer<'_>) {
         writer.put_number(self);
     }
+}
+
+// A byte put at a place by itself; the place behind it.
+pub fn put_byte(out: &mut [u8], at: usize, b: u8) -> usize
+    requires { at < length out.old }
+    ensures { Puts out.old out.new at result (b ∷ []) }
+{
+    out[at] = b;
+    at + 1
+}
+
+// Digits put at a place by themselves: those of v's tenth part, then the last one; the place behind them. The place goes from call to call by
+// value: a writer's, which is stored and read again for each digit, makes a sheet take half as long again.
+pub fn put_natural(out: &mut [u8], at: usize, v: u64) -> usize
+    requires { at + 20 ≤ length out.old }
+    ensures { Puts out.old out.new at result (natural v) }
+{
+    if v < 10 {
+        return put_byte(out, at, b'0' + v as u8);
+    }
+    let end = put_natural(out, at, v / 10);
+    put_byte(out, end, b'0' + (v % 10) as u8)
 }
 
 // A text put at a place by itself; the place behind it. Byte by byte: `copy_from_slice` would have the library need `memmove`.

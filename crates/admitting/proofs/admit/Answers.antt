@@ -34,12 +34,12 @@ returns-then-beyond c =
     let (t, r, e, W) = reading_good _ c.in_ok-sheet.ensures in
     admitted_11 _ _ _ t r e (c.if-timing-n.false ∙ triggers_of W) (near_by _ c.beyond.ensures (triggers_of W) true c.if-beyond.true)
 
-pub prepare-requires : goal.prepare-requires
-prepare-requires c = let (t, r, e, W) = reading_good _ c.in_ok-sheet.ensures in (t, W)
+pub prepare_sheet-requires : goal.prepare_sheet-requires
+prepare_sheet-requires c = let (t, r, e, W) = reading_good _ c.in_ok-sheet.ensures in (t, W)
 
 pub returns : goal.returns
 returns c =
     let (t, r, e, W) = reading_good _ c.in_ok-sheet.ensures in
     rw
     (admitted_on _ _ _ t r e (c.if-timing-n.false ∙ triggers_of W) (near_by _ c.beyond.ensures (triggers_of W) false c.if-beyond.false))
-    (c.prepare.ensures _ t r e W)
+    (c.prepare_sheet.ensures _ t r e W)

@@ -10,9 +10,7 @@ use Rattle.refusals.specs.declared.Refusal.{Refusal}
 use Rattle.refusals.proofs.NumberLaws.{of_number}
 use Rattle.sheet.specs.Sheet.{refused}
 use Rattle.sheet.specs.Ordered.{ordered}
-use Rattle.sheet.proofs.OrderedLaws.{ordered_refused}
 use Rattle.moments.proofs.GivenLaws.{given_moments}
-use Rattle.preparing.proofs.Preparing.{reading_refused, reading_good}
 use Rattle.laying.specs.Laying.{Lists}
 use Rattle.lines.specs.declared.NoRoom as lines
 use Rattle.planning.specs.Planning.{planning}
@@ -40,54 +38,38 @@ module _ (s : List ℕ) (space : List ℤ) where
       Does (planning s space) space space r
   passed e o p q = does_refused s space _ o (p ∙ ap Err (q ∙ ap Refused (sym (of_number e))))
 
-pub returns-in_err-sheet-clause-answer : goal.returns-in_err-sheet-clause-answer
-returns-in_err-sheet-clause-answer c =
-    let p = err_from_is_err_and c.from_residual.result c.from_residual.ensures.1 in
-    (passed _ _ _ (ordered_refused _ _ (reading_refused _ c.in_err-sheet.ensures)) p.1 p.2).answer
-
-pub returns-in_err-sheet-clause-written : goal.returns-in_err-sheet-clause-written
-returns-in_err-sheet-clause-written c =
-    let p = err_from_is_err_and c.from_residual.result c.from_residual.ensures.1 in
-    (passed _ _ _ (ordered_refused _ _ (reading_refused _ c.in_err-sheet.ensures)) p.1 p.2).written
-
 pub prepare-requires : goal.prepare-requires
-prepare-requires c = let (s, x, e, W) = reading_good _ c.in_ok-sheet.ensures in (s, W)
+prepare-requires c = (_, c.read_sheet.ensures)
 
 pub returns-in_err-prepared-clause-answer : goal.returns-in_err-prepared-clause-answer
 returns-in_err-prepared-clause-answer c =
-    let (s, x, e, W) = reading_good _ c.in_ok-sheet.ensures in
-    let p = err_from_is_err_and c.from_residual-in_err-prepared.result c.from_residual-in_err-prepared.ensures.1 in
-    (passed _ _ _ (c.in_err-prepared.ensures _ s x e W) p.1 p.2).answer
+    let p = err_from_is_err_and c.from_residual.result c.from_residual.ensures.1 in
+    (passed _ _ _ (c.in_err-prepared.ensures _ c.read_sheet.ensures) p.1 p.2).answer
 
 pub returns-in_err-prepared-clause-written : goal.returns-in_err-prepared-clause-written
 returns-in_err-prepared-clause-written c =
-    let (s, x, e, W) = reading_good _ c.in_ok-sheet.ensures in
-    let p = err_from_is_err_and c.from_residual-in_err-prepared.result c.from_residual-in_err-prepared.ensures.1 in
-    (passed _ _ _ (c.in_err-prepared.ensures _ s x e W) p.1 p.2).written
+    let p = err_from_is_err_and c.from_residual.result c.from_residual.ensures.1 in
+    (passed _ _ _ (c.in_err-prepared.ensures _ c.read_sheet.ensures) p.1 p.2).written
 
 pub tally-counts-requires : goal.tally-counts-requires
 tally-counts-requires c =
-    let (t, y, e, W) = reading_good _ c.in_ok-sheet.ensures in
-    let (s, x, q, Q) = c.in_ok-prepared.ensures _ t y e W in
+    let (s, x, q, Q) = c.in_ok-prepared.ensures _ c.read_sheet.ensures in
     (Q.marked.few_levels, Q.marked.follows.small, Q.marked.masks_size)
 
 pub number-deviation-requires : goal.number-deviation-requires
 number-deviation-requires c =
-    let (t, y, e, W) = reading_good _ c.in_ok-sheet.ensures in
-    let (s, x, q, Q) = c.in_ok-prepared.ensures _ t y e W in
+    let (s, x, q, Q) = c.in_ok-prepared.ensures _ c.read_sheet.ensures in
     Q.marked.word
 
 pub list_sheet-requires : goal.list_sheet-requires
 list_sheet-requires c =
-    let (t, y, e, W) = reading_good _ c.in_ok-sheet.ensures in
-    let (s, x, q, Q) = c.in_ok-prepared.ensures _ t y e W in
+    let (s, x, q, Q) = c.in_ok-prepared.ensures _ c.read_sheet.ensures in
     let wide = c.width-words.ensures s (c.is_some.ensures ∙ given_moments s _ Q.moments) in
     (s, Q, wide)
 
 pub returns-in_err-count-clause-answer : goal.returns-in_err-count-clause-answer
 returns-in_err-count-clause-answer c =
-    let (t, y, e, W) = reading_good _ c.in_ok-sheet.ensures in
-    let (s, x, q, Q) = c.in_ok-prepared.ensures _ t y e W in
+    let (s, x, q, Q) = c.in_ok-prepared.ensures _ c.read_sheet.ensures in
     let wide = c.width-words.ensures s (c.is_some.ensures ∙ given_moments s _ Q.moments) in
     let (n, listed, named) = err_named (no_room c.width-words.result) _ c.map_err.ensures.cases c.in_err-count.was in
     let p = err_from_is_err_and c.from_residual-in_err-count.result c.from_residual-in_err-count.ensures.1 in
@@ -95,8 +77,7 @@ returns-in_err-count-clause-answer c =
 
 pub returns-in_err-count-clause-written : goal.returns-in_err-count-clause-written
 returns-in_err-count-clause-written c =
-    let (t, y, e, W) = reading_good _ c.in_ok-sheet.ensures in
-    let (s, x, q, Q) = c.in_ok-prepared.ensures _ t y e W in
+    let (s, x, q, Q) = c.in_ok-prepared.ensures _ c.read_sheet.ensures in
     let wide = c.width-words.ensures s (c.is_some.ensures ∙ given_moments s _ Q.moments) in
     let (n, listed, named) = err_named (no_room c.width-words.result) _ c.map_err.ensures.cases c.in_err-count.was in
     let p = err_from_is_err_and c.from_residual-in_err-count.result c.from_residual-in_err-count.ensures.1 in
@@ -104,8 +85,7 @@ returns-in_err-count-clause-written c =
 
 pub returns-clause-answer : goal.returns-clause-answer
 returns-clause-answer c =
-    let (t, y, e, W) = reading_good _ c.in_ok-sheet.ensures in
-    let (s, x, q, Q) = c.in_ok-prepared.ensures _ t y e W in
+    let (s, x, q, Q) = c.in_ok-prepared.ensures _ c.read_sheet.ensures in
     let wide = c.width-words.ensures s (c.is_some.ensures ∙ given_moments s _ Q.moments) in
     let listed = ok_named (no_room c.width-words.result) _ c.map_err.ensures.cases c.in_ok-count.was in
     let z : to_z w64 (of_z w64 c.number-deviation.result) ≡ c.number-deviation.result = to_z-of_z {w = w64} (search rules) in
@@ -115,8 +95,7 @@ returns-clause-answer c =
 
 pub returns-clause-written : goal.returns-clause-written
 returns-clause-written c =
-    let (t, y, e, W) = reading_good _ c.in_ok-sheet.ensures in
-    let (s, x, q, Q) = c.in_ok-prepared.ensures _ t y e W in
+    let (s, x, q, Q) = c.in_ok-prepared.ensures _ c.read_sheet.ensures in
     let wide = c.width-words.ensures s (c.is_some.ensures ∙ given_moments s _ Q.moments) in
     let listed = ok_named (no_room c.width-words.result) _ c.map_err.ensures.cases c.in_ok-count.was in
     let z : to_z w64 (of_z w64 c.number-deviation.result) ≡ c.number-deviation.result = to_z-of_z {w = w64} (search rules) in

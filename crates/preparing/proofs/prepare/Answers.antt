@@ -1,41 +1,24 @@
 -- `preparing::prepare` meets its contract. Assumes nothing.
-use mathlib.Core.Path.{◌≡◌, subst}
-use Prim.Native.Nat.{ℕ}
-use Rattle.sheet.specs.Sheet as spec
-use Rattle.maxplus.specs.Tables.{NoGain}
-use Rattle.sheet.specs.Cue.{cue_of, cue_size, Orderly}
-use Rattle.sheet.proofs.OrderedLaws.{ordered_8, ordered_got}
-use Rattle.tables.proofs.Loops.{says_true, says_false}
-use Rattle.preparing.proofs.Preparing.{readied}
+use mathlib.Core.Path.{sym, ◌∙◌}
+use Rattle.std.proofs.lemmas.Result.{err_from_is_err_and}
+use Rattle.sheet.proofs.OrderedLaws.{ordered_refused}
+use Rattle.preparing.proofs.Preparing.{reading_refused, reading_good}
 use Rattle.preparing.proofs.prepare.Goals as goal
 
--- the order check is made with the cue's own number of triggers
-by_size : (t : spec.Sheet) {n : ℕ} → n ≡ cue_size t → ¬ (NoGain n (cue_of t).order) → ¬ (Orderly t)
-by_size t e = subst (λ n. ¬ (NoGain n (cue_of t).order)) e
+pub returns-in_err-sheet : goal.returns-in_err-sheet
+returns-in_err-sheet c =
+    λ b e.
+    let p = err_from_is_err_and c.from_residual.result c.from_residual.ensures.1 in
+    rw (p.1, p.2) (ordered_refused _ _ (reading_refused b (sym c.in_err-sheet.was ∙ e)))
 
-kept-by-size : (t : spec.Sheet) {n : ℕ} → n ≡ cue_size t → NoGain n (cue_of t).order → Orderly t
-kept-by-size t e = subst (λ n. NoGain n (cue_of t).order) e
-
-pub closed_tables-requires : goal.closed_tables-requires
-closed_tables-requires c = let (t, W) = c.requires in (cue_of t, (c.cue_of-cue.ensures t W).held)
-
-pub returns-then-not-closed_tables : goal.returns-then-not-closed_tables
-returns-then-not-closed_tables c =
-    λ b t x r W.
-    let F = c.cue_of-cue.ensures t W in
-    ordered_8 b t x r (by_size t F.sized (says_false c.closed_tables.result c.if-not-closed_tables.true (c.closed_tables.ensures (cue_of t) F.held).order))
-
-pub marks_of-marked-requires : goal.marks_of-marked-requires
-marks_of-marked-requires c =
-    let (t, W) = c.requires in
-    let T = c.closed_tables.ensures (cue_of t) (c.cue_of-cue.ensures t W).held in
-    (cue_of t, _, _, T.fit (says_true c.closed_tables.result c.if-not-closed_tables.false T.order))
+pub prepare_sheet-requires : goal.prepare_sheet-requires
+prepare_sheet-requires c =
+    let (b, e) = c.requires in
+    let (s, x, q, W) = reading_good b (sym c.in_ok-sheet.was ∙ e) in
+    (s, W)
 
 pub returns : goal.returns
 returns c =
-    λ b t x r W.
-    let F = c.cue_of-cue.ensures t W in
-    let T = c.closed_tables.ensures (cue_of t) F.held in
-    let np = says_true c.closed_tables.result c.if-not-closed_tables.false T.order in
-    readied t x (ordered_got b t x r (kept-by-size t F.sized np)) F np (c.marks_of-marked.ensures (cue_of t) _ _ (T.fit np)) (c.moments_of.ensures t W)
-    W.good
+    λ b e.
+    let (s, x, q, W) = reading_good b (sym c.in_ok-sheet.was ∙ e) in
+    c.prepare_sheet.ensures b s x q W

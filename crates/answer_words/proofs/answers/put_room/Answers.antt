@@ -3,10 +3,12 @@ use Rattle.answer_words.proofs.Storing.{back, room_stored, no_room}
 use borrow.Author.Rules.{rules}
 use Rattle.answer_words.proofs.answers.put_room.Goals as goal
 
-pub returns-in-NoRoom : goal.returns-in-NoRoom
-returns-in-NoRoom c =
-    room_stored c.args.lent.now c.args.at c.args.behind c.in-NoRoom.is (back (search rules) c.count_word.ensures) c.put.ensures
-    (back (search rules) c.count_word-in-NoRoom.ensures) c.put-in-NoRoom.ensures
+pub returns-then-number-eq9 : goal.returns-then-number-eq9
+returns-then-number-eq9 c =
+    let a = c.args in
+    room_stored a.lent.now a.at a.behind a.number a.count a.wide c.if-number-eq9.true
+    (back (search rules) c.count_word.ensures) c.put.ensures
+    (back (search rules) c.count_word-then-number-eq9.ensures) c.put-then-number-eq9.ensures
 
-pub returns-in_default : goal.returns-in_default
-returns-in_default c = no_room c.args.lent.now c.args.at c.args.behind c.in_default.not-NoRoom
+pub returns-else-number-eq9 : goal.returns-else-number-eq9
+returns-else-number-eq9 c = let a = c.args in no_room a.lent.now a.at a.behind a.number a.count a.wide c.if-number-eq9.false

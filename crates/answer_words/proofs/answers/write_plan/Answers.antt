@@ -10,4 +10,4 @@ returns-in-Ok-clause-words c =
     (back (search rules) c.from-in-Ok-2.ensures) c.put-in-Ok-4.ensures (back (search rules) c.count_word-in-Ok.ensures) c.put-in-Ok-5.ensures
 
 pub returns-in-Err-clause-words : goal.returns-in-Err-clause-words
-returns-in-Err-clause-words c = unplanned_words _ c.in-Err.is c.put_room.ensures
+returns-in-Err-clause-words c = unplanned_words _ c.in-Err.is c.put_needed.ensures

@@ -8,4 +8,4 @@ returns-in-Ok-clause-words c =
     reached_words _ c.in-Ok.is (back (search rules) c.count_word.ensures) c.put.ensures c.put_times.ensures (back (search rules) c.count_word-in-Ok.ensures) c.put-in-Ok.ensures
 
 pub returns-in-Err-clause-words : goal.returns-in-Err-clause-words
-returns-in-Err-clause-words c = unreached_words _ c.in-Err.is c.put_room.ensures
+returns-in-Err-clause-words c = unreached_words _ c.in-Err.is c.put_needed.ensures
