@@ -1,5 +1,5 @@
 // What reaching for the latest timing answers, as words.
-ghost use Rattle.std.specs.Prelude.{◌≡◌};
+ghost use Rattle.std.specs.Prelude.{◌≡◌, Ok};
 ghost use Rattle.std.proofs.lemmas.List.Edits.{sets};
 ghost use Rattle.timing.specs.Times.{component};
 ghost use Rattle.cue.specs.Sizes.{six};
@@ -19,19 +19,26 @@ pub fn write_reached(lent: &mut [i64], r: Result<Reached, Unplanned>) -> u32
     ensures words { lent.new ≡ reach_words r lent.old }
 {
     match r {
-        Ok(reached) => {
-            put(lent, 0, count_word(reached.count));
-            let timing = reached.timing;
-            let at = timing.at;
-            put_times(lent, at);
-            put(lent, 7, count_word(reached.width));
-            0
-        }
+        Ok(reached) => write_found(lent, reached),
         Err(unplanned) => {
             put_needed(lent, 0, 7, unplanned);
             u32::from(unplanned.number())
         }
     }
+}
+
+// The same where a timing was found: the number returned is 0.
+pub fn write_found(lent: &mut [i64], reached: Reached) -> u32
+    requires { Few (reach_extent (Ok reached)) }
+    ensures number { result ≡ 0 }
+    ensures words { lent.new ≡ reach_words (Ok reached) lent.old }
+{
+    put(lent, 0, count_word(reached.count));
+    let timing = reached.timing;
+    let at = timing.at;
+    put_times(lent, at);
+    put(lent, 7, count_word(reached.width));
+    0
 }
 
 // Six components, behind the number of lines.

@@ -16,14 +16,19 @@ use Rattle.answer_words.specs.Words.{reach_words, number_by, reach_number}
 use Rattle.planner_c.proofs.Numbered.{reach_numbered}
 use Rattle.planner_c.proofs.TimesLaws.{as_lent}
 
-module _ (s : List ℕ) (space : List ℤ) where
-  -- what was reached for the timing that was made of the times
-  pub found : (lent answer : List ℤ) {at after a : List ℤ} {count : ℕ} {r : Result Reached Unplanned} {k : ℕ} → count ≡ length lent →
-      (length lent ≤ size_limit → at ≡ six (component lent)) → r ≡ reach_answer (reaching s count (component at) space) →
-      after ≡ reached_space (reaching s count (component at) space) space → k ≡ number_by unplanned_number r → a ≡ reach_words r answer →
-      let o = reaching s (length lent) (component lent) space in
-      (k ≡ reach_number o) × ((after ≡ reached_space o space) × (a ≡ reach_words (reach_answer o) answer))
-  found lent answer {at} n e er es ek ea =
-      let o = as_lent s (λ count G. reaching s count G space) refused (λ count G k h. reaching_of s count G space h) lent at n e in
-      let r = er ∙ ap reach_answer o in
-      (ek ∙ ap (number_by unplanned_number) r ∙ reach_numbered s _ _ space, (es ∙ ap (λ o. reached_space o space) o, ea ∙ ap (λ r. reach_words r answer) r))
+module _ (s : List ℕ) (space lent : List ℤ) {at : List ℤ} {count : ℕ} (n : count ≡ length lent)
+    (e : length lent ≤ size_limit → at ≡ six (component lent)) where
+  asked : reaching s count (component at) space ≡ reaching s (length lent) (component lent) space
+  asked = as_lent s (λ count G. reaching s count G space) refused (λ count G k h. reaching_of s count G space h) lent at n e
+
+  pub space_told : {after : List ℤ} → after ≡ reached_space (reaching s count (component at) space) space →
+      after ≡ reached_space (reaching s (length lent) (component lent) space) space
+  space_told es = es ∙ ap (λ o. reached_space o space) asked
+
+  module _ {r : Result Reached Unplanned} (er : r ≡ reach_answer (reaching s count (component at) space)) where
+    pub number_told : {k : ℕ} → k ≡ number_by unplanned_number r → k ≡ reach_number (reaching s (length lent) (component lent) space)
+    number_told ek = ek ∙ ap (number_by unplanned_number) (er ∙ ap reach_answer asked) ∙ reach_numbered s _ _ space
+
+    pub words_told : (answer : List ℤ) {a : List ℤ} → a ≡ reach_words r answer →
+        a ≡ reach_words (reach_answer (reaching s (length lent) (component lent) space)) answer
+    words_told answer ea = ea ∙ ap (λ r. reach_words r answer) (er ∙ ap reach_answer asked)

@@ -16,7 +16,7 @@ ghost use Rattle.answer_words.specs.Words.{plan_number, kept_number, test_number
 use answer_words::answers::{write_kept, write_plan};
 use answer_words::compared::answer_compared;
 use answer_words::hired::write_hired;
-use answer_words::reached::write_reached;
+use answer_words::reached::{write_found, write_reached};
 use answer_words::times::lent_timing;
 
 // 0 or the refusal. The list goes to the front of the space; deviation, steps, selections, count, the spare triggers, bit 0 for trigger 1, and how
@@ -74,7 +74,11 @@ pub extern "C" fn tuzhelar_latest(
 {
     let wish = lent_timing(times);
     let r = reaching::latest_timing(sheet, wish, space);
-    write_reached(answer, r)
+    // What was found is named here, beside the wish: this function shows which of the two is answered.
+    match r {
+        Ok(reached) => write_found(answer, reached),
+        Err(_) => write_reached(answer, r),
+    }
 }
 
 // 100 if the same timings are tightest on both sheets, 101 if they are not, 102 if the numbers of triggers or the spares differ; or the first

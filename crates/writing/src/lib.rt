@@ -136,7 +136,7 @@ pub fn put_byte(out: &mut [u8], at: usize, b: u8) -> usize
 }
 
 // Digits put at a place by themselves: those of v's tenth part, then the last one; the place behind them. The place goes from call to call by
-// value: a writer's, which is stored and read again for each digit, makes a sheet take half as long again.
+// value: with a writer's, which is stored and read again for each digit, a sheet takes 1.4 times as long to make.
 pub fn put_natural(out: &mut [u8], at: usize, v: u64) -> usize
     requires { at + 20 ≤ length out.old }
     ensures { Puts out.old out.new at result (natural v) }
