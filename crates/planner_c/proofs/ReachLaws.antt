@@ -1,4 +1,4 @@
--- Reaching's answer as words is that of the times lent.
+-- Reaching's answer, its number, list and words, is that of the times lent.
 use mathlib.Core.Path.{◌≡◌, ap, ◌∙◌}
 use mathlib.Core.List.{List}
 use Prim.Native.Nat.{ℕ, ◌≤◌}
@@ -16,6 +16,7 @@ use Rattle.answer_words.specs.Words.{reach_words, number_by, reach_number}
 use Rattle.planner_c.proofs.Numbered.{reach_numbered}
 use Rattle.planner_c.proofs.TimesLaws.{as_lent}
 
+-- what was reached for the timing that was made of the times
 module _ (s : List ℕ) (space lent : List ℤ) {at : List ℤ} {count : ℕ} (n : count ≡ length lent)
     (e : length lent ≤ size_limit → at ≡ six (component lent)) where
   asked : reaching s count (component at) space ≡ reaching s (length lent) (component lent) space
